@@ -1,0 +1,332 @@
+-- THE TOP THEOREMS: the answers of decide and judge are what the papers ask for, and the only such.
+-- Assumes nothing.
+use Prim.Native.Nat.{ℕ, zero, suc, _+_, _-_, _^_, _≤_, _<_}
+use mathlib.Core.Path.{_≡_, refl, sym, ap, ap₂, subst, _∙_, fun-ext}
+use mathlib.Core.Logic.{_↔_, _⊎_, inl, inr, ⊎-elim}
+use mathlib.Core.Bool.{Bool, true, false, cond, true≢false}
+use mathlib.Core.List.{List, [], _∷_}
+use native.Mathlib.Omega.{arith}
+use lib.Dec.{T}
+use lib.ListN.{length, getD}
+use Rattle.logic.specs.Meaning.{Branch, Place, Assignment, Formula, root, Holds}
+use Rattle.logic.specs.Tree.{Tree, empty, node, positions, nodeAt, bitAt, Proper, Represents, TreeOf, SameSets}
+use Rattle.logic.specs.Order.{_≺_, _⪯_}
+use Rattle.logic.specs.Rule.{Record, extend, formulaAt, lastOf, Satisfies, goodFrom, Accepted}
+use Rattle.logic.specs.Machine.{Machine, run, Decides}
+use Rattle.logic.specs.Reach.{below, Reached}
+use Rattle.logic.specs.Table.{Table, table, Built, over, built, buildAll}
+use Rattle.logic.specs.Trim.{trim, treeOf, bare, Trimmed}
+use Rattle.logic.specs.Search.{Sought, tree, large, absent, search}
+use Rattle.logic.specs.Claims.{Outcome, refused14, shown, none, larger, Judgement, unbuilt, yes, no, statesAt, FirstOver, Roomy, Model, Earliest, Demand2, Demand3, Answers, Judges, Shallow}
+use Rattle.logic.specs.Decide.{report, conclude, decideOf, say, ruling, judgeOf, lastTable}
+use Rattle.logic.proofs.Places.{T→true, true→T}
+use Rattle.logic.proofs.Numbered.{reached-bound}
+use Rattle.logic.proofs.Reach.{elem-below}
+use Rattle.logic.proofs.Trees.{trim-bits, trim-trimmed, trim-proper}
+use Rattle.logic.proofs.Satisfiable.{setsOf, sets-represented}
+use Rattle.logic.proofs.Orders.{Tri, less, same, more, ℕ-tri, ⪯-antisym, ⪯-positions, empty-⪯, node-⪯}
+use Rattle.logic.proofs.Assignments.{tree-of, tree-of-only, tree-of-trimmed, tree-same, sets-same, own-tree}
+use Rattle.logic.proofs.Tables.{Right}
+use Rattle.logic.proofs.Rules.{record-right, extend-length, tablesOf, tables-at, Says, built-says}
+use Rattle.logic.specs.Alike.{Full}
+use Rattle.logic.proofs.Settle.{Accepts, RightForTrees, search-right}
+use Rattle.logic.proofs.Depth.{earliest-shallow}
+
+-- trimming gives an earlier tree
+trim-⪯ : {k : ℕ} (t : Tree k) → trim t ⪯ t
+unfolding trim
+trim-⪯ empty = inr refl
+trim-⪯ {k} (node l f) = go (bare l (λ b. trim (f b))) (node-⪯ l (λ b. trim (f b)) f (λ b. trim-⪯ (f b)))
+  where
+    go : (v : Bool) → node l (λ b. trim (f b)) ⪯ node l f → cond v empty (node l (λ b. trim (f b))) ⪯ node l f
+    go true h = empty-⪯ (node l f)
+    go false h = h
+
+module _ {k : ℕ} (n : ℕ) (rs : List Record) (M : Machine k ℕ) (D : Decides n M (formulaAt rs (lastOf rs))) where
+  model-accepted : (A : Assignment k) (t : Tree k) → Model n rs A t → Accepts n M t
+  model-accepted A t m = (m .tree .proper, T→true (M .accepting (run M t)) ((D t (m .tree .proper) A (m .tree .bits)) .1 (m .holds)))
+
+  accepted-holds : (t : Tree k) → Accepts n M t → Satisfies rs (setsOf n t)
+  accepted-holds t a = (D t (a .0) (setsOf n t) (sets-represented n t)) .0 (true→T (a .1))
+
+  -- trimming changes no verdict
+  trim-accepted : (t : Tree k) → Accepts n M t → Accepts n M (trim t)
+  unfolding Represents
+  trim-accepted t a = (
+    trim-proper n t (a .0),
+    T→true (M .accepting (run M (trim t)))
+        ((D (trim t) (trim-proper n t (a .0)) (setsOf n t) (λ i h p. trim-bits n t i p ∙ sets-represented n t i h p)) .1 (accepted-holds t a)),
+  )
+
+  -- an earliest accepted tree is trimmed, and the tree of an assignment that satisfies the rule
+  earliest-model : (t : Tree k) → Accepts n M t → ((u : Tree k) → Accepts n M u → t ⪯ u) → Model n rs (setsOf n t) t
+  earliest-model t a e =
+      let p : t ≡ trim t = ⪯-antisym t (trim t) (e (trim t) (trim-accepted t a)) (trim-⪯ t) in
+      record { holds = accepted-holds t a; tree = own-tree n t (subst (λ (u : Tree k). Trimmed u) (sym p) (trim-trimmed n t)) (a .0) }
+
+module _ (k n : ℕ) (rs : List Record) (c P : ℕ) where
+  abbrev states : ℕ
+  states = statesAt k n rs (lastOf rs)
+
+  one-first : (r s : ℕ) → FirstOver k n rs c r → FirstOver k n rs c s → r ≡ s
+  one-first r s p q = elim (ℕ-tri r s) [
+    | less h ↦ absurd (let a = q .2 r h in let b = p .1 in omega arith)
+    | same h ↦ h
+    | more h ↦ absurd (let a = p .2 s h in let b = q .1 in omega arith)
+  ]
+
+  refused-right : (r : ℕ) → FirstOver k n rs c r → Answers {k = k} n rs c P (refused14 r)
+  refused-right r f = record {
+    refused-is = λ s. ((λ e. let z : r ≡ s = cc in subst (FirstOver k n rs c) z f), λ g. ap refused14 (one-first r s f g));
+    demand2 = λ h. absurd (tight h);
+    demand3 = λ h. absurd (tight h);
+  }
+    where
+      tight : Roomy k n rs c → ⊥
+      tight h = let a = h r (f .0) in let b = f .1 in omega arith
+
+  module _ (R : Roomy k n rs c) (M : Machine k ℕ) (D : Decides n M (formulaAt rs (lastOf rs))) (F : Full n states M) where
+    roomy-no : (r : ℕ) → FirstOver k n rs c r → ⊥
+    roomy-no r f = let a = R r (f .0) in let b = f .1 in omega arith
+
+    module _ (t : Tree k) (r : RightForTrees n M P (tree t)) where
+      earliest-tree : Earliest n rs (positions t) t
+      unfolding RightForTrees
+      earliest-tree =
+          let m : Model n rs (setsOf n t) t = earliest-model n rs M D t (r .0) (r .2) in
+          record {
+            sets = setsOf n t;
+            model = m;
+            counted = refl;
+            fewest = λ B u b. ⪯-positions t u (r .2 u (model-accepted n rs M D B u b));
+            later = λ B u b. after B u b m (r .2 u (model-accepted n rs M D B u b));
+          }
+        where
+          after : (B : Assignment k) (u : Tree k) → Model n rs B u → Model n rs (setsOf n t) t → t ⪯ u → SameSets n (setsOf n t) B ⊎ (t ≺ u)
+          after B u b m (inl p) = inr p
+          after B u b m (inr e) = inl (sets-same n (setsOf n t) B t (m .tree) (subst (TreeOf n B) (sym e) (b .tree)))
+
+      shown-shallow : Shallow (shown (positions t) states t)
+      unfolding RightForTrees
+      shown-shallow places q u e p h =
+          let y : states ≡ q = cc in let z : t ≡ u = cc in
+          subst (λ (s : ℕ). suc (length p) < s) y
+          (earliest-shallow n states M F t (r .0 .0) (λ v o d. r .2 v (o, ap (M .accepting) d ∙ r .0 .1)) p (subst (λ (v : Tree k). T (nodeAt v p)) (sym z) h))
+
+      tree-right : Answers n rs c P (shown (positions t) states t)
+      unfolding RightForTrees
+      tree-right = record {
+        refused-is = λ s. ((λ e. absurd (let z : _≡_ {A = ℕ} 0 1 = cc in omega arith)), λ f. absurd (roomy-no s f));
+        demand2 = λ h. record {
+          none-is = ((λ e. absurd (let z : _≡_ {A = ℕ} 0 1 = cc in omega arith)), λ f. absurd (f (v .sets) (v .model .holds)));
+          otherwise = λ A s. inl (t, refl, (v .sets, v .model));
+        };
+        demand3 = λ h. record {
+          shown-is = ((λ w. (v .sets, t, v .model, r .1)), λ w. (t, refl));
+          shown-right = λ m q u e. let x : positions t ≡ m = cc in let y : states ≡ q = cc in let z : t ≡ u = cc in rw (← x, ← y, ← z) (refl, v);
+          larger-is = ((λ e. absurd (let z : _≡_ {A = ℕ} 0 1 = cc in omega arith)), λ f. absurd (let a = f .1 (v .sets) t (v .model) in let b = r .1 in omega arith));
+        };
+      }
+        where
+          v : Earliest n rs (positions t) t
+          v = earliest-tree
+
+    large-right : RightForTrees n M P large → Answers {k = k} n rs c P (larger states)
+    unfolding RightForTrees
+    large-right r = record {
+      refused-is = λ s. ((λ e. absurd (let z : _≡_ {A = ℕ} 0 1 = cc in omega arith)), λ f. absurd (roomy-no s f));
+      demand2 = λ h. record {
+        none-is = ((λ e. absurd (let z : _≡_ {A = ℕ} 0 1 = cc in omega arith)), λ f. absurd (f (setsOf n (r .0 .0)) (accepted-holds n rs M D (r .0 .0) (r .0 .1))));
+        otherwise = λ A s. inr (refl, λ B u m. r .1 u (model-accepted n rs M D B u m));
+      };
+      demand3 = λ h. record {
+        shown-is = ((λ w. absurd (let e = w .1 in let z : _≡_ {A = ℕ} 0 1 = cc in omega arith)), λ w. absurd (let a = r .1 (w .1) (model-accepted n rs M D (w .0) (w .1) (w .2)) in let b = w .3 in omega arith));
+        shown-right = λ m q u e. absurd (let z : _≡_ {A = ℕ} 0 1 = cc in omega arith);
+        larger-is = ((λ e. ((setsOf n (r .0 .0), accepted-holds n rs M D (r .0 .0) (r .0 .1)), λ A t m. r .1 t (model-accepted n rs M D A t m))), λ f. refl);
+      };
+    }
+
+    absent-right : RightForTrees n M P absent → Answers {k = k} n rs c P (none states)
+    unfolding RightForTrees
+    absent-right r = record {
+      refused-is = λ s. ((λ e. absurd (let z : _≡_ {A = ℕ} 0 1 = cc in omega arith)), λ f. absurd (roomy-no s f));
+      demand2 = λ h. record {
+        none-is = ((λ e A s. never A s), λ f. refl);
+        otherwise = λ A s. absurd (never A s);
+      };
+      demand3 = λ h. record {
+        shown-is = ((λ w. absurd (let e = w .1 in let z : _≡_ {A = ℕ} 0 1 = cc in omega arith)), λ w. absurd (never (w .0) (w .2 .holds)));
+        shown-right = λ m q u e. absurd (let z : _≡_ {A = ℕ} 0 1 = cc in omega arith);
+        larger-is = ((λ e. absurd (let z : _≡_ {A = ℕ} 0 1 = cc in omega arith)), λ f. absurd (never (f .0 .0) (f .0 .1)));
+      };
+    }
+      where
+        never : (A : Assignment k) → Satisfies rs A → ⊥
+        never A s = r (treeOf n A) (model-accepted n rs M D A (treeOf n A) (record { holds = s; tree = tree-of n A }))
+
+    pub sought-right : (x : Sought k) → RightForTrees n M P x → Answers n rs c P (report states x)
+    unfolding report
+    sought-right (tree t) r = tree-right t r
+    sought-right large r = large-right r
+    sought-right absent r = absent-right r
+
+    sought-shallow : (x : Sought k) → RightForTrees n M P x → Shallow (report states x)
+    unfolding report
+    sought-shallow (tree t) r = shown-shallow t r
+    sought-shallow large r = λ m q u e. absurd (let z : _≡_ {A = ℕ} 0 1 = cc in omega arith)
+    sought-shallow absent r = λ m q u e. absurd (let z : _≡_ {A = ℕ} 0 1 = cc in omega arith)
+
+    -- there is one such answer only
+    sought-only : (o : Outcome k) → Answers n rs c P o → (x : Sought k) → RightForTrees n M P x → o ≡ report states x
+    unfolding report RightForTrees
+    sought-only o a absent r = (a .demand2 R .none-is) .1 (((absent-right r) .demand2 R .none-is) .0 refl)
+    sought-only o a large r = (a .demand3 R .larger-is) .1 (((large-right r) .demand3 R .larger-is) .0 refl)
+    sought-only o a (tree t) r =
+        let w = (a .demand3 R .shown-is) .1 (((tree-right t r) .demand3 R .shown-is) .0 (t, refl)) in
+        let v : Earliest n rs (positions (w .0)) (w .0) = (a .demand3 R .shown-right (positions (w .0)) states (w .0) (w .1)) .1 in
+        let e : t ≡ w .0 = ⪯-antisym t (w .0) (r .2 (w .0) (model-accepted n rs M D (v .sets) (w .0) (v .model)))
+        (no-later v (earliest-tree t r) (v .later ((earliest-tree t r) .sets) t ((earliest-tree t r) .model))) in
+        rw e (w .1)
+      where
+        no-later : {u : Tree k} (v : Earliest n rs (positions u) u) (x : Earliest n rs (positions t) t) → SameSets n (v .sets) (x .sets) ⊎ (u ≺ t) → u ⪯ t
+        no-later {u} v x (inr p) = inl p
+        no-later {u} v x (inl q) = inr (tree-same n (v .sets) (x .sets) u t q (v .model .tree) (x .model .tree))
+
+  module _ (ok : Accepted k n rs) where
+    abbrev Last : Table k
+    Last = table n (formulaAt rs (lastOf rs))
+
+    last-right : Right n (formulaAt rs (lastOf rs)) Last
+    last-right = record-right n rs (ok .1) (lastOf rs) (let h = ok .0 in omega arith)
+
+    long : length (extend {k = k} [] rs) ≡ length rs
+    long = extend-length rs [] ∙ omega arith
+
+    last-table : lastTable n rs (tablesOf k n c (extend [] rs)) ≡ Last
+    unfolding formulaAt
+    last-table = tables-at k n c (extend [] rs) (lastOf rs)
+
+    says-first : (r : ℕ) → Says k n c (extend [] rs) (over r) → FirstOver k n rs c r
+    unfolding Says formulaAt
+    says-first r w = (let e = long in let h = w .0 in omega arith, w .1, w .2)
+
+    says-roomy : (ts : List (Table k)) → Says k n c (extend [] rs) (built ts) → Roomy k n rs c
+    unfolding Says formulaAt
+    says-roomy ts w r h = w .1 r (let e = long in omega arith)
+
+    says-last : (ts : List (Table k)) → Says k n c (extend [] rs) (built ts) → lastTable n rs ts ≡ Last
+    unfolding Says
+    says-last ts w = ap (λ (us : List (Table k)). lastTable n rs us) (w .0) ∙ last-table
+
+    conclude-right : (b : Built k) → Says k n c (extend [] rs) b → Answers n rs c P (conclude n rs P b)
+    unfolding conclude
+    conclude-right (over r) w = refused-right r (says-first r w)
+    conclude-right (built ts) w =
+        subst (λ (a : Table k). Answers n rs c P (report (a .count) (search (2 ^ n) a P))) (sym (says-last ts w))
+        (sought-right (says-roomy ts w) (Last .machine) (last-right .1) (last-right .0, last-right .2) (search (2 ^ n) Last P)
+        (search-right n Last (last-right .0, last-right .2) P))
+
+    conclude-shallow : (b : Built k) → Says k n c (extend [] rs) b → Shallow (conclude n rs P b)
+    unfolding conclude
+    conclude-shallow (over r) w = λ m q u e. absurd (let z : _≡_ {A = ℕ} 0 1 = cc in omega arith)
+    conclude-shallow (built ts) w =
+        subst (λ (a : Table k). Shallow (report (a .count) (search (2 ^ n) a P))) (sym (says-last ts w))
+        (sought-shallow (says-roomy ts w) (Last .machine) (last-right .1) (last-right .0, last-right .2) (search (2 ^ n) Last P)
+        (search-right n Last (last-right .0, last-right .2) P))
+
+    -- the bound on depth
+    pub decide-shallow : Shallow (decideOf k n rs c P)
+    unfolding decideOf
+    decide-shallow = conclude-shallow (buildAll n c rs []) (built-says k n c rs)
+
+    -- DECIDE: refusal 14, and demands 2 and 3
+    pub decide-answers : Answers n rs c P (decideOf k n rs c P)
+    unfolding decideOf
+    decide-answers = conclude-right (buildAll n c rs []) (built-says k n c rs)
+
+    conclude-only : (o : Outcome k) → Answers n rs c P o → (b : Built k) → Says k n c (extend [] rs) b → o ≡ conclude n rs P b
+    unfolding conclude
+    conclude-only o a (over r) w = (a .refused-is r) .1 (says-first r w)
+    conclude-only o a (built ts) w =
+        subst (λ (x : Table k). o ≡ report (x .count) (search (2 ^ n) x P)) (sym (says-last ts w))
+        (sought-only (says-roomy ts w) (Last .machine) (last-right .1) (last-right .0, last-right .2) o a (search (2 ^ n) Last P)
+        (search-right n Last (last-right .0, last-right .2) P))
+
+    -- and no other answer meets the demands
+    pub decide-only : (o : Outcome k) → Answers n rs c P o → o ≡ decideOf k n rs c P
+    unfolding decideOf
+    decide-only o a = conclude-only o a (buildAll n c rs []) (built-says k n c rs)
+
+    say-yes : (v : Bool) → (say v ≡ yes) ↔ T v
+    unfolding say
+    say-yes true = ((λ e. tt), λ t. refl)
+    say-yes false = ((λ e. absurd (let z : _≡_ {A = ℕ} 0 1 = cc in omega arith)), λ t. absurd t)
+
+    say-no : (v : Bool) → (say v ≡ no) ↔ (¬ T v)
+    unfolding say
+    say-no true = ((λ e. absurd (let z : _≡_ {A = ℕ} 0 1 = cc in omega arith)), λ f. absurd (f tt))
+    say-no false = ((λ e t. t), λ f. refl)
+
+    say-built : (v : Bool) (r : ℕ) → say v ≡ unbuilt r → ⊥
+    unfolding say
+    say-built true r e = let z : _≡_ {A = ℕ} 0 1 = cc in omega arith
+    say-built false r e = let z : _≡_ {A = ℕ} 0 1 = cc in omega arith
+
+    module _ (t : Tree k) where
+      ruling-right : (b : Built k) → Says k n c (extend [] rs) b → Judges n rs c t (ruling n rs t b)
+      unfolding ruling
+      ruling-right (over r) w = record {
+        unbuilt-is = λ s. ((λ e. let z : r ≡ s = cc in subst (FirstOver k n rs c) z (says-first r w)), λ g. ap unbuilt (one-first r s (says-first r w) g));
+        yes-is = λ h. absurd (let a = h r ((says-first r w) .0) in let b = (says-first r w) .1 in omega arith);
+        no-is = λ h. absurd (let a = h r ((says-first r w) .0) in let b = (says-first r w) .1 in omega arith);
+      }
+      ruling-right (built ts) w =
+          subst (λ (a : Table k). Judges n rs c t (say (a .machine .accepting (run (a .machine) t)))) (sym (says-last ts w)) (record {
+            unbuilt-is = λ s. ((λ e. absurd (say-built v s e)), λ f. absurd (let a = says-roomy ts w s (f .0) in let b = f .1 in omega arith));
+            yes-is = λ h A o. let i = say-yes v in let j = D A o in ((λ e. j .0 (i .0 e)), λ s. i .1 (j .1 s));
+            no-is = λ h A o. let i = say-no v in let j = D A o in ((λ e s. i .0 e (j .1 s)), λ f. i .1 (λ u. f (j .0 u)));
+          })
+        where
+          v : Bool
+          v = Last .machine .accepting (run (Last .machine) t)
+
+          D : (A : Assignment k) → TreeOf n A t → T v ↔ Satisfies rs A
+          D A o = last-right .1 t (o .proper) A (o .bits)
+
+      -- JUDGE says yes to a tree exactly if its assignment satisfies the rule
+      pub judge-judges : Judges n rs c t (judgeOf n rs c t)
+      unfolding judgeOf
+      judge-judges = ruling-right (buildAll n c rs []) (built-says k n c rs)
+
+      -- and no other judgement of the tree of an assignment does
+      pub judge-only : (A : Assignment k) → TreeOf n A t → (j : Judgement) → Judges n rs c t j → j ≡ judgeOf n rs c t
+      unfolding judgeOf ruling say
+      judge-only A o j g = go (buildAll n c rs []) (built-says k n c rs)
+        where
+          told : (v : Bool) → Roomy k n rs c → Judges n rs c t (say v) → j ≡ say v
+          told true h i = (g .yes-is h A o) .1 ((i .yes-is h A o) .0 refl)
+          told false h i = (g .no-is h A o) .1 ((i .no-is h A o) .0 refl)
+
+          go : (b : Built k) → Says k n c (extend [] rs) b → j ≡ ruling n rs t b
+          go (over r) w = (g .unbuilt-is r) .1 (says-first r w)
+          go (built ts) w = told ((lastTable n rs ts) .machine .accepting (run ((lastTable n rs ts) .machine) t)) (says-roomy ts w) (ruling-right (built ts) w)
+
+-- the states counted are those that record r's machine comes to on trees with n-bit labels
+pub states-counted : (k n : ℕ) (rs : List Record) → Accepted k n rs → (r : ℕ) → r < length rs
+    → (q : ℕ) → (q < statesAt k n rs r) ↔ Reached ((table {k = k} n (formulaAt rs r)) .machine) (below (2 ^ n)) q
+states-counted k n rs ok r h q =
+    let w = record-right {k = k} n rs (ok .1) r h in
+    (w .2 q, reached-bound n (statesAt k n rs r) ((table n (formulaAt rs r)) .machine) (below (2 ^ n)) (w .0) (λ l t. (elem-below l (2 ^ n)) .0 t) q)
+
+-- EACH RECORD'S MACHINE DECIDES ITS RECORD: it accepts the tree of an assignment exactly if the record holds of the assignment
+pub record-decides : (k n : ℕ) (rs : List Record) → Accepted k n rs → (r : ℕ) → r < length rs → (A : Assignment k) (t : Tree k) → TreeOf n A t
+    → let M = (table {k = k} n (formulaAt rs r)) .machine in T (M .accepting (run M t)) ↔ Holds (formulaAt rs r) A
+record-decides k n rs ok r h A t o = (record-right {k = k} n rs (ok .1) r h) .1 t (o .proper) A (o .bits)
+
+-- every assignment has one tree
+pub one-tree : {k : ℕ} (n : ℕ) (A : Assignment k) → (t : Tree k) × TreeOf n A t × ((u : Tree k) → TreeOf n A u → u ≡ t)
+one-tree n A = (treeOf n A, tree-of n A, tree-of-only n A)
+
+-- and a tree with n-bit labels is that of an assignment exactly if it is trimmed
+pub trimmed-iff : {k : ℕ} (n : ℕ) (t : Tree k) → Proper n t → Trimmed t ↔ ((A : Assignment k) × TreeOf n A t)
+trimmed-iff n t o = ((λ r. (setsOf n t, own-tree n t r o)), λ w. tree-of-trimmed n (w .0) t (w .1))

@@ -1,0 +1,312 @@
+-- For a builder: its machine of each record, with the states in whatever order it found them, has document 01's count and gives the same answers.
+-- Assumes nothing.
+use Prim.Native.Nat.{ℕ, zero, suc, _+_, _*_, _^_, _≤_, _<_}
+use mathlib.Core.Path.{_≡_, refl, sym, ap, ap₂, subst, _∙_, fun-ext}
+use mathlib.Core.Logic.{_↔_, _⊎_, inl, inr, ⊎-elim}
+use mathlib.Core.Bool.{Bool, true, false, not, _&&_, _||_}
+use mathlib.Core.List.{List, [], _∷_}
+use native.Mathlib.Nat.{le-antisymm}
+use native.Mathlib.Omega.{arith}
+use native.Mathlib.Decide.{decLt}
+use lib.Dec.{T}
+use lib.ListN.{length, getD}
+use Rattle.logic.specs.Meaning.{Branch, Assignment, Formula, subset, singleton, successor, root, negation, disjunction, conjunction, exists, Holds}
+use Rattle.logic.specs.Tree.{Tree, empty, node, Proper, Represents, TreeOf}
+use Rattle.logic.specs.Rule.{Record, formulaAt, lastOf, Accepted}
+use Rattle.logic.specs.Machine.{Machine, run, Decides, complement, product}
+use Rattle.logic.specs.Atom.{subsetMachine, singletonMachine, successorMachine, rootMachine}
+use Rattle.logic.specs.Reach.{elem, below, Reached, started, stepped, position, numbered, projection}
+use Rattle.logic.specs.Table.{Table, codedProduct, build, productTable, projectionTable, complementTable, table}
+use Rattle.logic.specs.Search.{search}
+use Rattle.logic.specs.Alike.{Bounded, Full, Distinct, Closed, Lists, Alike, Agrees, MachineOf, Comes}
+use Rattle.logic.specs.Claims.{Outcome, statesAt, FirstOver, Roomy, Answers, Judges}
+use Rattle.logic.specs.Decide.{report, decideOf, say, judgeOf}
+use Rattle.logic.proofs.Reach.{elem-below}
+use Rattle.logic.proofs.Connectives.{or-iff, and-iff, run-complement, run-product, run-simulates, decides-simulated, decides-negation, decides-disjunction, decides-conjunction}
+use Rattle.logic.proofs.Atoms.{decides-subset, decides-singleton, decides-successor, decides-root}
+use Rattle.logic.proofs.Exists.{decides-exists}
+use Rattle.logic.proofs.Numbered.{getD-elem, getD-position, numbered-bounded, numbered-decides}
+use Rattle.logic.proofs.Counts.{position-getD}
+use Rattle.logic.proofs.Projection.{In, projection-bounded, projection-projects}
+use Rattle.logic.proofs.Satisfiable.{reached-tree, tree-reached, setsOf, sets-represented}
+use Rattle.logic.proofs.Pigeon.{pigeon}
+use Rattle.logic.proofs.Tables.{Valid, Right, table-right, subset-bounded, singleton-bounded, successor-bounded, root-bounded, product-bounded, Codes, product-simulates}
+use Rattle.logic.proofs.Rules.{record-right, record-valid}
+use Rattle.logic.proofs.Settle.{run-below, search-right}
+use Rattle.logic.proofs.Answers.{sought-right, decide-only, judge-judges}
+use Rattle.logic.proofs.Alike.{alike-sym, alike-trans, complement-alike, numbered-alike, build-alike, product-kernel, product-alike, projection-kernel, projection-accepts, comes-alike, projection-alike}
+
+module _ {k : ℕ} (n : ℕ) where
+  -- the machines of the atoms
+  of-built : (f : Formula k) (d : ℕ) (M : Machine k ℕ) → Bounded n d M → Decides n M f → table n f ≡ build n d M → MachineOf n f M
+  of-built f d M B D e = record { decides = D; alike = subst (λ (a : Table k). Alike n M (a .machine)) (sym e) (alike-sym n ((build n d M) .machine) M (build-alike n d M B)) }
+
+  pub of-subset : (x y : ℕ) → x < n → y < n → MachineOf {k = k} n (subset x y) (subsetMachine n x y)
+  unfolding table
+  of-subset x y hx hy = of-built (subset x y) 2 (subsetMachine n x y) (subset-bounded n x y) (decides-subset n x y hx hy) refl
+
+  pub of-singleton : (x : ℕ) → x < n → MachineOf {k = k} n (singleton x) (singletonMachine n x)
+  unfolding table
+  of-singleton x hx = of-built (singleton x) 3 (singletonMachine n x) (singleton-bounded n x) (decides-singleton n x hx) refl
+
+  pub of-successor : (b : Branch k) (x y : ℕ) → x < n → y < n → MachineOf n (successor b x y) (successorMachine n b x y)
+  unfolding table
+  of-successor b x y hx hy = of-built (successor b x y) 4 (successorMachine n b x y) (successor-bounded n b x y) (decides-successor n x y b hx hy) refl
+
+  pub of-root : (x : ℕ) → x < n → MachineOf {k = k} n (root x) (rootMachine n x)
+  unfolding table
+  of-root x hx = of-built (root x) 3 (rootMachine n x) (root-bounded n x) (decides-root n x hx) refl
+
+  -- not
+  pub of-negation : (f : Formula k) (M : Machine k ℕ) → MachineOf n f M → MachineOf n (negation f) (complement M)
+  unfolding table complementTable
+  of-negation f M m = record {
+    decides = decides-negation n M f (m .decides);
+    alike = alike-trans n (complement M) M (complement ((table n f) .machine)) (complement-alike n M)
+        (alike-trans n M ((table n f) .machine) (complement ((table n f) .machine)) (m .alike) (alike-sym n (complement ((table n f) .machine)) ((table n f) .machine) (complement-alike n ((table n f) .machine))));
+  }
+
+  -- or, and
+  module _ (f g : Formula k) (vf : Valid n f) (vg : Valid n g) (c d : ℕ) (M N : Machine k ℕ) (BM : Bounded n c M) (BN : Bounded n d N) (m : MachineOf n f M) (m′ : MachineOf n g N) where
+    abbrev F : Table k
+    F = table n f
+
+    abbrev G : Table k
+    G = table n g
+
+    pair-alike : (op : Bool → Bool → Bool) → Alike n (codedProduct op d M N) ((productTable n op F G) .machine)
+    unfolding productTable
+    pair-alike op =
+        let P : Machine k ℕ = codedProduct op (G .count) (F .machine) (G .machine) in
+        let B : Bounded n (F .count * G .count) P = product-bounded n op (F .count) (G .count) (F .machine) (G .machine) ((table-right n f vf) .0) ((table-right n g vg) .0) in
+        alike-trans n (codedProduct op d M N) P ((build n (F .count * G .count) P) .machine)
+        (product-alike n op op c d (F .count) (G .count) M N (F .machine) (G .machine) BM BN ((table-right n f vf) .0) ((table-right n g vg) .0) (m .alike) (m′ .alike))
+        (alike-sym n ((build n (F .count * G .count) P) .machine) P (build-alike n (F .count * G .count) P B))
+
+    pair-decides : (op : Bool → Bool → Bool) (h : Formula k) → Decides n (product op M N) h → Decides n (codedProduct op d M N) h
+    pair-decides op h D = decides-simulated n (codedProduct op d M N) (product op M N) (Codes n op c d M N BM BN) (product-simulates n op c d M N BM BN) h D
+
+    pub of-disjunction : MachineOf n (disjunction f g) (codedProduct _||_ d M N)
+    unfolding table
+    of-disjunction = record { decides = pair-decides _||_ (disjunction f g) (decides-disjunction n M f (m .decides) N g (m′ .decides)); alike = pair-alike _||_ }
+
+    pub of-conjunction : MachineOf n (conjunction f g) (codedProduct _&&_ d M N)
+    unfolding table
+    of-conjunction = record { decides = pair-decides _&&_ (conjunction f g) (decides-conjunction n M f (m .decides) N g (m′ .decides)); alike = pair-alike _&&_ }
+
+  -- exists
+  pub of-exists : (x : ℕ) → x < n → (f : Formula k) → Valid n f → (c : ℕ) (M : Machine k ℕ) → Bounded n c M → MachineOf n f M → MachineOf n (exists x f) (projection n x c M)
+  unfolding table projectionTable
+  of-exists x hx f vf c M B m =
+      let F : Table k = table n f in
+      let BF : Bounded n (F .count) (F .machine) = (table-right n f vf) .0 in
+      let E : Machine k ℕ = projection n x (F .count) (F .machine) in
+      record {
+        decides = decides-exists n x hx M (projection n x c M) (λ w. Unit {0}) (In n x c hx M B) (projection-projects n x c hx M B) f (m .decides);
+        alike = alike-trans n (projection n x c M) E ((build n (2 ^ F .count) E) .machine)
+            (projection-alike n x c (F .count) hx M (F .machine) B BF (m .alike))
+            (alike-sym n ((build n (2 ^ F .count) E) .machine) E (build-alike n (2 ^ F .count) E (projection-bounded n x (F .count) hx (F .machine) BF)));
+      }
+
+  -- The same by what a machine does on trees, for codes of other forms than `pairs` and `sets` have.
+  -- a machine that runs as one of f does
+  pub of-runs : (f : Formula k) (M R : Machine k ℕ) → MachineOf n f M → ((t : Tree k) → Proper n t → (run R t ≡ run M t) × (R .accepting (run R t) ≡ M .accepting (run M t))) → MachineOf n f R
+  of-runs f M R m h = record {
+    decides = λ t o A r. subst (λ (x : Bool). T x ↔ Holds f A) (sym ((h t o) .1)) (m .decides t o A r);
+    alike = λ t u o o′. let i = m .alike t u o o′ in ((λ e. i .0 (sym ((h t o) .0) ∙ e ∙ (h u o′) .0)), λ e. (h t o) .0 ∙ i .1 e ∙ sym ((h u o′) .0));
+  }
+
+  -- a machine that tells apart what one of f does, and accepts alike
+  pub of-alike : (f : Formula k) (M R : Machine k ℕ) → MachineOf n f M → Alike n R M → ((t : Tree k) → Proper n t → R .accepting (run R t) ≡ M .accepting (run M t)) → MachineOf n f R
+  of-alike f M R m a h = record {
+    decides = λ t o A r. subst (λ (x : Bool). T x ↔ Holds f A) (sym (h t o)) (m .decides t o A r);
+    alike = alike-trans n R M ((table n f) .machine) a (m .alike);
+  }
+
+  pub of-negation-alike : (f : Formula k) (M R : Machine k ℕ) → MachineOf n f M → Alike n R M → ((t : Tree k) → Proper n t → R .accepting (run R t) ≡ not (M .accepting (run M t))) → MachineOf n (negation f) R
+  of-negation-alike f M R m a h = of-alike (negation f) (complement M) R (of-negation f M m) (alike-trans n R M (complement M) a (alike-sym n (complement M) M (complement-alike n M)))
+      (λ t o. h t o ∙ ap (λ (q : ℕ). not (M .accepting q)) (sym (run-complement M t)))
+
+  module _ (f g : Formula k) (vf : Valid n f) (vg : Valid n g) (M N : Machine k ℕ) (m : MachineOf n f M) (m′ : MachineOf n g N) (R : Machine k ℕ)
+      (same : (t u : Tree k) → Proper n t → Proper n u → (run R t ≡ run R u) ↔ ((run M t ≡ run M u) × (run N t ≡ run N u))) where
+    pair-runs : (op : Bool → Bool → Bool) → Alike n R ((productTable n op (table n f) (table n g)) .machine)
+    unfolding productTable
+    pair-runs op t u o o′ =
+        let F : Table k = table n f in let G : Table k = table n g in
+        let BF : Bounded n (F .count) (F .machine) = (table-right n f vf) .0 in let BG : Bounded n (G .count) (G .machine) = (table-right n g vg) .0 in
+        let P : Machine k ℕ = codedProduct op (G .count) (F .machine) (G .machine) in
+        let b = build-alike n (F .count * G .count) P (product-bounded n op (F .count) (G .count) (F .machine) (G .machine) BF BG) t u o o′ in
+        let i = product-kernel n op (F .count) (G .count) (F .machine) (G .machine) BF BG t u o o′ in
+        let j = same t u o o′ in let p = m .alike t u o o′ in let q = m′ .alike t u o o′ in
+        ((λ e. b .1 (i .1 (p .0 ((j .0 e) .0), q .0 ((j .0 e) .1)))), λ e. j .1 (p .1 ((i .0 (b .0 e)) .0), q .1 ((i .0 (b .0 e)) .1)))
+
+    pub of-disjunction-runs : ((t : Tree k) → Proper n t → R .accepting (run R t) ≡ (M .accepting (run M t) || N .accepting (run N t))) → MachineOf n (disjunction f g) R
+    unfolding table Holds
+    of-disjunction-runs h = record {
+      decides = λ t o A r. subst (λ (x : Bool). T x ↔ Holds (disjunction f g) A) (sym (h t o)) (or-iff (M .accepting (run M t)) (N .accepting (run N t)) (m .decides t o A r) (m′ .decides t o A r));
+      alike = pair-runs _||_;
+    }
+
+    pub of-conjunction-runs : ((t : Tree k) → Proper n t → R .accepting (run R t) ≡ (M .accepting (run M t) && N .accepting (run N t))) → MachineOf n (conjunction f g) R
+    unfolding table Holds
+    of-conjunction-runs h = record {
+      decides = λ t o A r. subst (λ (x : Bool). T x ↔ Holds (conjunction f g) A) (sym (h t o)) (and-iff (M .accepting (run M t)) (N .accepting (run N t)) (m .decides t o A r) (m′ .decides t o A r));
+      alike = pair-runs _&&_;
+    }
+
+  module _ (x : ℕ) (hx : x < n) (f : Formula k) (vf : Valid n f) (M : Machine k ℕ) (m : MachineOf n f M) (R : Machine k ℕ)
+      (same : (t u : Tree k) → Proper n t → Proper n u → (run R t ≡ run R u) ↔ ((q : ℕ) → Comes n x M t q ↔ Comes n x M u q))
+      (acc : (t : Tree k) → Proper n t → T (R .accepting (run R t)) ↔ ((q : ℕ) × Comes n x M t q × T (M .accepting q))) where
+    abbrev FT : Table k
+    FT = table n f
+
+    abbrev BT : Bounded n (FT .count) (FT .machine)
+    BT = (table-right n f vf) .0
+
+    abbrev ET : Machine k ℕ
+    ET = projection n x (FT .count) (FT .machine)
+
+    -- M and the table accept the same trees
+    both-accept : (v : Tree k) → Proper n v → T (M .accepting (run M v)) ↔ T (FT .machine .accepting (run (FT .machine) v))
+    both-accept v o =
+        let i = m .decides v o (setsOf n v) (sets-represented n v) in
+        let j = (table-right n f vf) .1 v o (setsOf n v) (sets-represented n v) in
+        ((λ t. j .1 (i .0 t)), λ t. i .1 (j .0 t))
+
+    set-decides : Decides n R (exists x f)
+    set-decides t o A r =
+        let i = acc t o in
+        let j = projection-accepts n x (FT .count) hx (FT .machine) BT t o in
+        let d = decides-exists n x hx (FT .machine) ET (λ w. Unit {0}) (In n x (FT .count) hx (FT .machine) BT) (projection-projects n x (FT .count) hx (FT .machine) BT) f ((table-right n f vf) .1) t o A r in (
+          (λ y. let w = i .0 y in let v = w .1 in
+              d .0 (j .1 (run (FT .machine) (v .0), (v .0, v .1, v .2, refl), (both-accept (v .0) (v .2)) .0 (subst (λ (q : ℕ). T (M .accepting q)) (sym (v .3)) (w .2))))),
+          λ h. let w = j .0 (d .1 h) in let v = w .1 in
+              i .1 (run M (v .0), (v .0, v .1, v .2, refl), (both-accept (v .0) (v .2)) .1 (subst (λ (q : ℕ). T (FT .machine .accepting q)) (sym (v .3)) (w .2))),
+        )
+
+    pub of-exists-runs : MachineOf n (exists x f) R
+    unfolding table projectionTable
+    of-exists-runs = record {
+      decides = set-decides;
+      alike = λ t u o o′.
+          let b = build-alike n (2 ^ FT .count) ET (projection-bounded n x (FT .count) hx (FT .machine) BT) t u o o′ in
+          let i = projection-kernel n x (FT .count) hx (FT .machine) BT t u o o′ in
+          let j = same t u o o′ in
+          let N = FT .machine in let a = m .alike in let a′ = alike-sym n M N (m .alike) in (
+            (λ e. b .1 (i .1 (λ q. (comes-alike n x M N a t u (λ r. (j .0 e r) .0) q, comes-alike n x M N a u t (λ r. (j .0 e r) .1) q)))),
+            λ e. j .1 (λ q. (comes-alike n x N M a′ t u (λ r. (i .0 (b .0 e) r) .0) q, comes-alike n x N M a′ u t (λ r. (i .0 (b .0 e) r) .1) q)),
+          );
+    }
+
+  -- the states found, numbered in the order found
+  module _ (M : Machine k ℕ) (L : List ℕ) (v : Lists n M L) where
+    pub of-numbered : (f : Formula k) → MachineOf n f M → MachineOf n f (numbered M L)
+    of-numbered f m = record {
+      decides = numbered-decides n M L (v .begins) (v .closed) f (m .decides);
+      alike = alike-trans n (numbered M L) M ((table n f) .machine) (numbered-alike n M L (v .begins) (v .closed)) (m .alike);
+    }
+
+    listed : (q : ℕ) → Reached M (below (2 ^ n)) q → T (elem q L)
+    listed q started = v .begins
+    listed q (stepped l t s h) = v .closed l t s (λ b. listed (s b) (h b))
+
+    renumbered : (q : ℕ) → Reached M (below (2 ^ n)) q → Reached (numbered M L) (below (2 ^ n)) (position q L)
+    unfolding numbered
+    renumbered q started = started
+    renumbered q (stepped l t s h) =
+        let e : M .step l (λ b. getD L (position (s b) L) 0) ≡ M .step l s = ap (M .step l) (fun-ext (λ b. getD-position (s b) L (listed (s b) (h b)))) in
+        subst (λ (z : ℕ). Reached (numbered M L) (below (2 ^ n)) (position z L)) e (stepped l t (λ b. position (s b) L) (λ b. renumbered (s b) (h b)))
+
+    pub full-numbered : Full n (length L) (numbered M L)
+    full-numbered = (
+      numbered-bounded n M L (v .begins) (v .closed),
+      λ q h. subst (λ (z : ℕ). Reached (numbered M L) (below (2 ^ n)) z) (position-getD L (v .distinct) q h) (renumbered (getD L q 0) (v .only (getD L q 0) (getD-elem L q h))),
+    )
+
+  -- a table that does the same at its own states will do
+  module _ (c : ℕ) (M N : Machine k ℕ) (B : Bounded n c M) (a : Agrees n c M N) where
+    run-agrees : (t : Tree k) → Proper n t → (run M t ≡ run N t) × (run M t < c)
+    unfolding run Proper
+    run-agrees empty o = (a .starts, B .0)
+    run-agrees (node l f) o =
+        let i : (b : Branch k) → (run M (f b) ≡ run N (f b)) × (run M (f b) < c) = λ b. run-agrees (f b) (o .1 b) in (
+          a .steps l (o .0) (λ b. run M (f b)) (λ b. (i b) .1) ∙ ap (N .step l) (fun-ext (λ b. (i b) .0)),
+          B .1 l (o .0) (λ b. run M (f b)) (λ b. (i b) .1),
+        )
+
+    pub of-agrees : (f : Formula k) → MachineOf n f M → MachineOf n f N
+    of-agrees f m = record {
+      decides = λ t o A r. let w = run-agrees t o in
+          subst (λ (x : Bool). T x ↔ Holds f A) (a .accepts (run M t) (w .1) ∙ ap (N .accepting) (w .0)) (m .decides t o A r);
+      alike = λ t u o o′. let w = run-agrees t o in let z = run-agrees u o′ in let i = m .alike t u o o′ in
+          ((λ e. i .0 (w .0 ∙ e ∙ sym (z .0))), λ e. sym (w .0) ∙ i .1 e ∙ z .0);
+    }
+
+    pub full-agrees : ((q : ℕ) → q < c → Reached M (below (2 ^ n)) q) → Full n c N
+    full-agrees r = (
+      (subst (λ (z : ℕ). z < c) (a .starts) (B .0), λ l h s u. subst (λ (z : ℕ). z < c) (a .steps l h s u) (B .1 l h s u)),
+      λ q h. let w = reached-tree n M q (r q h) in
+          subst (λ (z : ℕ). Reached N (below (2 ^ n)) z) (sym ((run-agrees (w .0) (w .1)) .0) ∙ w .2) (tree-reached n N (w .0) (w .1)),
+    )
+
+-- a number for each i below c
+choose : (c : ℕ) (R : ℕ → ℕ → Type 0) → ((i : ℕ) → i < c → (q : ℕ) × R i q) → (f : ℕ → ℕ) × ((i : ℕ) → i < c → R i (f i))
+choose c R h = ((λ i. (at i) .0), λ i p. (at i) .1 p)
+  where
+    at : (i : ℕ) → (q : ℕ) × (i < c → R i q)
+    at i = elim (decLt i c) [ yes p ↦ (let w = h i p in (w .0, λ _. w .1)) | no p ↦ (0, λ l. absurd (p l)) ]
+
+module _ {k : ℕ} (n d : ℕ) (M N : Machine k ℕ) (a : Alike n M N) (F : Full n d N) where
+  -- c different states of M: N has at least c states
+  spread : (c : ℕ) (g : ℕ → ℕ) → ((i : ℕ) → i < c → Reached M (below (2 ^ n)) (g i)) → ((i j : ℕ) → i < j → j < c → g i ≡ g j → ⊥) → c ≤ d
+  spread c g r apart =
+      let w = choose c (λ i q. (u : Tree k) × Proper n u × (run M u ≡ g i) × (run N u ≡ q)) (λ i h. let t = reached-tree n M (g i) (r i h) in (run N (t .0), (t .0, t .1, t .2, refl))) in
+      pigeon d c (w .0)
+      (λ i h. let t = w .1 i h in subst (λ (z : ℕ). z < d) (t .3) (run-below n d N F (t .0) (t .1)))
+      (λ i j h l e. let t = w .1 i (omega arith) in let u = w .1 j l in
+      apart i j h l (sym (t .2) ∙ (a (t .0) (u .0) (t .1) (u .1)) .1 (t .3 ∙ e ∙ sym (u .3)) ∙ u .2))
+
+  pub at-least : (L : List ℕ) → Distinct L → ((q : ℕ) → T (elem q L) → Reached M (below (2 ^ n)) q) → length L ≤ d
+  at-least L D r = spread (length L) (λ i. getD L i 0) (λ i h. r (getD L i 0) (getD-elem L i h))
+      (λ i j h l e. let z : i ≡ j = sym (position-getD L D i (omega arith)) ∙ ap (λ (q : ℕ). position q L) e ∙ position-getD L D j l in omega arith)
+
+pub same-count : {k : ℕ} (n c d : ℕ) (M N : Machine k ℕ) → Alike n M N → Full n c M → Full n d N → c ≡ d
+same-count n c d M N a F G = le-antisymm
+    (spread n d M N a G c (λ i. i) (F .1) (λ i j h l e. omega arith))
+    (spread n c N M (alike-sym n M N a) F d (λ i. i) (G .1) (λ i j h l e. omega arith))
+
+module _ (k n : ℕ) (rs : List Record) (ok : Accepted k n rs) where
+  module _ (r : ℕ) (h : r < length rs) (M : Machine k ℕ) (m : MachineOf n (formulaAt rs r) M) where
+    abbrev right : Right {k = k} n (formulaAt rs r) (table n (formulaAt rs r))
+    right = record-right n rs (ok .1) r h
+
+    -- a machine of record r whose states are all reached has the count of states
+    pub states-any : (c : ℕ) → Full n c M → c ≡ statesAt k n rs r
+    states-any c F = same-count n c (statesAt k n rs r) M ((table n (formulaAt rs r)) .machine) (m .alike) F (right .0, right .2)
+
+    -- more than c different states found: the record has more than c
+    pub over-any : (c : ℕ) (L : List ℕ) → Distinct L → ((q : ℕ) → T (elem q L) → Reached M (below (2 ^ n)) q) → c < length L → c < statesAt k n rs r
+    over-any c L D u l = let a = at-least n (statesAt k n rs r) M ((table n (formulaAt rs r)) .machine) (m .alike) (right .0, right .2) L D u in omega arith
+
+    -- the same by index
+    pub over-index : (c many : ℕ) (g : ℕ → ℕ) → ((i : ℕ) → i < many → Reached M (below (2 ^ n)) (g i)) → ((i j : ℕ) → i < j → j < many → g i ≡ g j → ⊥) → c < many → c < statesAt k n rs r
+    over-index c many g u apart l =
+        let a = spread n (statesAt k n rs r) M ((table n (formulaAt rs r)) .machine) (m .alike) (right .0, right .2) many g u apart in omega arith
+
+  -- and the search over it gives decide's answer
+  pub decide-any : (c P : ℕ) → Roomy k n rs c → (M : Machine k ℕ) → MachineOf n (formulaAt rs (lastOf rs)) M → (q : ℕ) → Full n q M
+      → report q (search (2 ^ n) (record { count = q; machine = M }) P) ≡ decideOf k n rs c P
+  decide-any c P R M m q F =
+      let e : q ≡ statesAt k n rs (lastOf rs) = states-any (lastOf rs) (let h = ok .0 in omega arith) M m q F in
+      decide-only k n rs c P ok (report q (search (2 ^ n) (record { count = q; machine = M }) P))
+      (subst (λ (z : ℕ). Answers n rs c P (report z (search (2 ^ n) (record { count = q; machine = M }) P))) (sym e)
+      (sought-right k n rs c P R M (m .decides) (subst (λ (z : ℕ). Full n z M) e F) (search (2 ^ n) (record { count = q; machine = M }) P) (search-right n (record { count = q; machine = M }) F P)))
+
+  pub judge-any : (c : ℕ) → Roomy k n rs c → (M : Machine k ℕ) → MachineOf n (formulaAt rs (lastOf rs)) M → (t : Tree k) (A : Assignment k) → TreeOf n A t
+      → say (M .accepting (run M t)) ≡ judgeOf n rs c t
+  unfolding say
+  judge-any c R M m t A o = go (M .accepting (run M t)) (m .decides t (o .proper) A (o .bits)) (judge-judges k n rs c 0 ok t)
+    where
+      go : (v : Bool) → T v ↔ Holds (formulaAt rs (lastOf rs)) A → Judges n rs c t (judgeOf n rs c t) → say v ≡ judgeOf n rs c t
+      go true i j = sym ((j .yes-is R A o) .1 (i .0 tt))
+      go false i j = sym ((j .no-is R A o) .1 (i .1))

@@ -1,0 +1,92 @@
+-- The states of a built machine are exactly those that it reaches; and a count of states does not depend on the order in which they are found.
+-- Assumes nothing.
+use Prim.Native.Nat.{ℕ, zero, suc, _+_, _^_, _≤_, _<_}
+use mathlib.Core.Path.{_≡_, refl, ap, sym, subst, _∙_, fun-ext}
+use mathlib.Core.Logic.{_↔_, _≢_, _⊎_, inl, inr, ⊎-elim}
+use mathlib.Core.Bool.{Bool, true, false, cond, not, _||_}
+use mathlib.Core.List.{List, [], _∷_}
+use native.Mathlib.Nat.{not-suc-le-zero, le-of-suc-le-suc, le-antisymm}
+use native.Mathlib.Omega.{arith}
+use lib.Dec.{T, not-T, eqb, eqb→eq, eqb-refl}
+use lib.ListN.{length, getD}
+use Rattle.logic.specs.Meaning.{Branch}
+use Rattle.logic.specs.Machine.{Machine}
+use Rattle.logic.specs.Reach.{elem, below, select, Reached, started, stepped, reach, position, numbered}
+use Rattle.logic.specs.Table.{Table, build}
+use Rattle.logic.proofs.Places.{T→true, true→T, not-T as false-of, neqb}
+use Rattle.logic.proofs.Reach.{elem-cons, elem-below, elem-select}
+use Rattle.logic.proofs.Rounds.{without, select-distinct, reach-only, reach-all, reach-distinct}
+use Rattle.logic.specs.Alike.{Bounded, Distinct, Closed}
+use Rattle.logic.proofs.Numbered.{bound, build-bounded, getD-position, getD-elem, reached-bound}
+
+pub position-getD : (L : List ℕ) → Distinct L → (i : ℕ) → i < length L → position (getD L i 0) L ≡ i
+unfolding Distinct position
+position-getD [] d i h = absurd (not-suc-le-zero h)
+position-getD (r ∷ L) d zero h = rw (T→true (eqb r r) (eqb-refl r)) refl
+position-getD (r ∷ L) d (suc i) h =
+    let e : eqb (getD L i 0) r ≡ false = false-of (eqb (getD L i 0) r) (λ t. d .0 (subst (λ (z : ℕ). T (elem z L)) (eqb→eq (getD L i 0) r t) (getD-elem L i (le-of-suc-le-suc h)))) in
+    rw e (ap suc (position-getD L (d .1) i (le-of-suc-le-suc h)))
+
+module _ {k : ℕ} (n d : ℕ) (M : Machine k ℕ) (B : Bounded n d M) where
+  abbrev L : List ℕ
+  L = reach M (below (2 ^ n)) d
+
+  renumbered : (r : ℕ) → Reached M (below (2 ^ n)) r → Reached (numbered M L) (below (2 ^ n)) (position r L)
+  unfolding numbered
+  renumbered r started = started
+  renumbered r (stepped l t s h) =
+      let e : M .step l (λ b. getD L (position (s b) L) 0) ≡ M .step l s =
+      ap (M .step l) (fun-ext (λ b. getD-position (s b) L (reach-all M (below (2 ^ n)) d (bound n d M B) (s b) (h b)))) in
+      subst (λ (z : ℕ). Reached (numbered M L) (below (2 ^ n)) (position z L)) e (stepped l t (λ b. position (s b) L) (λ b. renumbered (s b) (h b)))
+
+  pub build-states : (q : ℕ) → (q < (build n d M) .count) ↔ Reached ((build n d M) .machine) (below (2 ^ n)) q
+  unfolding build
+  build-states q = (
+    (λ h. subst (λ (z : ℕ). Reached (numbered M L) (below (2 ^ n)) z) (position-getD L (reach-distinct M (below (2 ^ n)) d (bound n d M B)) q h)
+        (renumbered (getD L q 0) (reach-only M (below (2 ^ n)) d (bound n d M B) (getD L q 0) (getD-elem L q h)))),
+    λ r. reached-bound n ((build n d M) .count) ((build n d M) .machine) (below (2 ^ n)) (build-bounded n d M B) (λ l t. (elem-below l (2 ^ n)) .0 t) q r,
+  )
+
+select-length : (g : ℕ → Bool) (N : List ℕ) → length (select g N) ≤ length N
+unfolding select
+select-length g [] = omega arith
+select-length g (q ∷ N) = go (g q) (select-length g N)
+  where
+    go : (v : Bool) → length (select g N) ≤ length N → length (cond v (q ∷ select g N) (select g N)) ≤ suc (length N)
+    go true ih = omega arith
+    go false ih = omega arith
+
+without-shorter : (r : ℕ) (N : List ℕ) → T (elem r N) → length (without r N) < length N
+unfolding select elem
+without-shorter r [] t = absurd t
+without-shorter r (q ∷ N) t = go (eqb q r) refl (without-shorter r N) (select-length (λ z. not (eqb z r)) N)
+  where
+    go : (v : Bool) → eqb q r ≡ v → (T (elem r N) → length (without r N) < length N) → length (without r N) ≤ length N
+        → length (cond (not v) (q ∷ without r N) (without r N)) < suc (length N)
+    go true e ih h = omega arith
+    go false e ih h = let a = ih (⊎-elim (λ p. absurd (neqb q r e (sym p))) (λ u. u) ((elem-cons r q N) .0 t)) in omega arith
+
+-- a list of different members of N is no longer than N
+pub subset-length : (L N : List ℕ) → Distinct L → ((q : ℕ) → T (elem q L) → T (elem q N)) → length L ≤ length N
+unfolding Distinct
+subset-length [] N d h = omega arith
+subset-length (r ∷ L) N d h =
+    let a = without-shorter r N (h r ((elem-cons r r L) .1 (inl refl))) in
+    let b = subset-length L (without r N) (d .1) (λ q t. (elem-select q (λ z. not (eqb z r)) N) .1
+    (h q ((elem-cons q r L) .1 (inr t)), not-T (eqb q r) (λ e. d .0 (subst (λ (z : ℕ). T (elem z L)) (eqb→eq q r e) t)))) in
+    omega arith
+
+pub same-length : (L N : List ℕ) → Distinct L → Distinct N → ((q : ℕ) → T (elem q L) ↔ T (elem q N)) → length L ≡ length N
+same-length L N d e h = le-antisymm (subset-length L N d (λ q. (h q) .0)) (subset-length N L e (λ q. (h q) .1))
+
+-- a list of different states that holds the start, is closed and holds reached states only has the same length as the built machine's
+pub count-unique : {k : ℕ} (n d : ℕ) (M : Machine k ℕ) → Bounded n d M → (N : List ℕ) → Distinct N → T (elem (M .start) N) → Closed M (below (2 ^ n)) N
+    → ((q : ℕ) → T (elem q N) → Reached M (below (2 ^ n)) q) → length N ≡ (build n d M) .count
+unfolding build
+count-unique n d M B N D S C R =
+    same-length N (reach M (below (2 ^ n)) d) D (reach-distinct M (below (2 ^ n)) d (bound n d M B))
+    (λ q. (λ t. reach-all M (below (2 ^ n)) d (bound n d M B) q (R q t), λ t. all q (reach-only M (below (2 ^ n)) d (bound n d M B) q t)))
+  where
+    all : (q : ℕ) → Reached M (below (2 ^ n)) q → T (elem q N)
+    all q started = S
+    all q (stepped l t s h) = C l t s (λ b. all (s b) (h b))

@@ -1,0 +1,14 @@
+pub mod Meaning
+pub mod Rule
+pub mod Tree
+pub mod Order
+pub mod Claims
+pub mod Machine
+pub mod Atom
+pub mod Reach
+pub mod Table
+pub mod Trim
+pub mod Search
+pub mod Decide
+pub mod Alike
+pub mod Two
