@@ -18,7 +18,7 @@ abbrev pub two : Branch 2
 two = record { number = 1; below = lit< tt }
 
 -- a at the first branch, b at the second
-abbrev pub pairOf : ℕ → ℕ → Branch 2 → ℕ
+abbrev pub pairOf : {A : Type 0} → A → A → Branch 2 → A
 pairOf a b c = cond (eqb (c .number) 0) a b
 
 -- the machine of a step function over two states

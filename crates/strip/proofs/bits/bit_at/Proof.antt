@@ -1,0 +1,35 @@
+use borrow.Author.Needs.{needs}
+use mathlib.Core.Path.{_≡_, sym, ap, _∙_}
+use mathlib.Core.List.{List}
+use Prim.Native.Nat.{ℕ, _/_, _%_, _*_, _+_, _-_, _<_}
+use native.Mathlib.Omega.{arith}
+use lib.ListN.{length, getD}
+use Rattle.strip.proofs.Digits.{bit}
+use Rattle.strip.specs.Bits.{bits}
+use Rattle.strip.proofs.Fields.{bits-at}
+use Rattle.strip.proofs.bits.bit_at.Statement.{statement}
+use Rattle.strip.proofs.bits.bit_at.Tie as tie
+
+shared-slice-read-result : tie.Need-shared-slice-read-result
+shared-slice-read-result c = search needs
+
+sub-result : tie.Need-sub-result
+sub-result c = search needs
+
+cast-result : tie.Need-cast-result
+cast-result c = search needs
+
+shr-result : tie.Need-shr-result
+shr-result c = search needs
+
+read : (s : List ℕ) (at : ℕ) → at < 8 * length s → bit (7 - at % 8) (getD s (at / 8) 0) ≡ getD (bits s) at 0
+read s at h =
+    let e : 8 * (at / 8) + at % 8 ≡ at = omega arith in
+    sym (ap (λ (k : ℕ). getD (bits s) k 0) (sym e) ∙ bits-at s (at / 8) (at % 8) (omega arith) (omega arith))
+
+returns : tie.Need-returns
+returns c = (read _ _ (c .before .pre), search needs)
+
+pub bit-at-spec : {M : Type 1} → statement M
+bit-at-spec =
+    tie.close (tie.spec shared-slice-read-result sub-result cast-result shr-result returns)

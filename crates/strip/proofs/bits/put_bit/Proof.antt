@@ -1,0 +1,35 @@
+use mathlib.Core.Path.{_≡_, sym, ap, _∙_}
+use mathlib.Core.List.{List}
+use Prim.Native.Nat.{ℕ, _<_}
+use native.Mathlib.Omega.{arith}
+use lib.ListN.{getD, set}
+use lib.Seq.{set-getD}
+use Rattle.strip.specs.Bits.{bits}
+use borrow.Author.Needs.{needs}
+use Rattle.strip.proofs.bits.put_bit.Statement.{statement}
+use Rattle.strip.proofs.bits.put_bit.Tie as tie
+use Rattle.strip.proofs.bits.put_bit.Reads as reads
+use Rattle.strip.proofs.bits.put_bit.Lts as lts
+use Rattle.strip.proofs.bits.set_bit.Reads as set-bit-reads
+
+-- src/lib.rt:56:9
+set-bit-requires : tie.Need-set-bit-requires
+set-bit-requires c κs = search needs
+
+-- src/lib.rt:49:1
+same-length : tie.Need-same-length
+same-length c = search needs
+
+-- src/lib.rt:49:1
+returns : tie.Need-returns
+returns c = rw (c .before .before .before .before .if1 .taken) (c .before .before .set-bit .ensures)
+
+-- a place that holds x, which is 0
+kept : (l : List ℕ) (at x : ℕ) → getD l at 0 ≡ 0 → x < 2 → (x ≡ 1 → ⊥) → l ≡ set l at x
+kept l at x z h n = let e : x ≡ getD l at 0 = omega arith in rw e (sym (set-getD l at 0))
+
+returns-2 : tie.Need-returns-2
+returns-2 c = kept _ _ _ (c .before .before .pre .1 .0) (c .before .before .pre .1 .1) (c .if1 .left)
+
+pub put-bit-spec : {M : Type 1} → statement M
+put-bit-spec = tie.close (tie.spec set-bit-requires same-length returns returns-2)

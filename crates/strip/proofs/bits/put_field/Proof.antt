@@ -1,0 +1,101 @@
+use mathlib.Core.Path.{_≡_, refl, sym, ap, _∙_}
+use mathlib.Core.List.{List}
+use Prim.Native.Nat.{ℕ, _<_, _≤_, _+_, _-_, _*_, _/_, _%_, _^_}
+use native.Mathlib.Omega.{arith}
+use borrow.Author.Needs.{needs}
+use lib.ListN.{length, getD, set, take}
+use lib.Seq.{sets, take-all}
+use Rattle.strip.proofs.Fields.{length-digits, digits-more, digits-after}
+use Rattle.strip.specs.Bits.{bits, digits}
+use Rattle.strip.proofs.bits.put_field.Statement.{statement}
+use Rattle.strip.proofs.bits.put_field.Tie as tie
+use Rattle.strip.proofs.bits.put_field.Reads as reads
+use Rattle.strip.proofs.bits.put_field.Lts as lts
+use Rattle.strip.proofs.bits.put_bit.Reads as put-bit-reads
+
+abbrev Inv-loop : tie.InvT-loop
+Inv-loop d₀ at b v k₀ d k = (k ≤ b) × (length d ≡ length d₀) × (bits d ≡ sets (bits d₀) at (take k (digits b v)))
+
+abbrev μ-loop : tie.MeasureT-loop
+μ-loop d₀ at b v k₀ d k = b - k
+
+-- src/lib.rt:69:5
+loop-holds : tie.Need-loop-holds Inv-loop μ-loop
+loop-holds c = (omega arith, refl, refl)
+
+-- src/lib.rt:70:20
+add-put-bit : tie.Need-add-put-bit Inv-loop μ-loop
+add-put-bit c = omega arith
+
+-- src/lib.rt:70:35
+sub-put-bit : tie.Need-sub-put-bit Inv-loop μ-loop
+sub-put-bit c = omega arith
+
+-- src/lib.rt:70:35
+sub-put-bit-2 : tie.Need-sub-put-bit-2 Inv-loop μ-loop
+sub-put-bit-2 c = omega arith
+
+-- src/lib.rt:70:29
+shr-put-bit : tie.Need-shr-put-bit Inv-loop μ-loop
+shr-put-bit c = omega arith
+
+-- src/lib.rt:70:9
+put-bit-requires : tie.Need-put-bit-requires Inv-loop μ-loop
+put-bit-requires c κs = (
+  omega arith,
+  (
+    rw (c .before .before .loop .inv .2) (digits-after _ _ _ _ _ (c .before .loop-test .taken))
+        ∙ c .before .before .before .before .pre .1 .1 .1 _ (c .before .loop-test .taken),
+    omega arith,
+  ),
+)
+
+-- src/lib.rt:71:9
+add-k : tie.Need-add-k Inv-loop μ-loop
+add-k c = omega arith
+
+-- src/lib.rt:69:5
+loop-less : tie.Need-loop-less Inv-loop μ-loop
+loop-less c = omega arith
+
+turn : (l₀ l l′ : List ℕ) (at b v k : ℕ) → k < b → l ≡ sets l₀ at (take k (digits b v)) → l′ ≡ set l (at + k) (v / 2 ^ (b - 1 - k) % 2)
+    → l′ ≡ sets l₀ at (take (k + 1) (digits b v))
+turn l₀ l l′ at b v k h e q = rw (digits-more l₀ at b v k h, ← e) q
+
+-- src/lib.rt:69:5
+loop-again : tie.Need-loop-again Inv-loop μ-loop
+loop-again c =
+    let a = c .before .before .before .before .before in (
+      omega arith,
+      omega (arith, c .before .before .put-bit .kept .0),
+      turn _ _ _ _ _ _ _ (c .before .before .before .before .loop-test .taken) (a .loop .inv .2) (c .before .before .put-bit .ensures),
+    )
+
+-- src/lib.rt:61:1
+same-length : tie.Need-same-length Inv-loop μ-loop
+same-length c = omega arith
+
+-- src/lib.rt:61:1
+returns : tie.Need-returns Inv-loop μ-loop
+returns c =
+    let a = c .before .before .before .args in
+    let e = take-all (c .before .loop .k) (digits (a .b) (a .v)) (omega (arith, length-digits (a .b) (a .v))) in
+    c .before .loop .inv .2 ∙ ap (sets _ _) e
+
+pub put-field-spec : {M : Type 1} → statement M
+put-field-spec =
+    tie.close
+    (tie.spec
+    Inv-loop
+    μ-loop
+    loop-holds
+    add-put-bit
+    sub-put-bit
+    sub-put-bit-2
+    shr-put-bit
+    put-bit-requires
+    add-k
+    loop-less
+    loop-again
+    same-length
+    returns)

@@ -1,0 +1,46 @@
+use borrow.Author.Needs.{needs}
+use mathlib.Core.Path.{_≡_, sym, ap, _∙_}
+use mathlib.Core.List.{List}
+use Prim.Native.Nat.{ℕ, _/_, _%_, _*_, _+_, _-_, _<_, _^_}
+use native.Mathlib.Nat.{one-mul}
+use native.Mathlib.Omega.{arith}
+use lib.Dec.{lit<}
+use lib.Pow.{shl-exact}
+use lib.Bits.{bitOr}
+use lib.ListN.{length, getD, set}
+use Rattle.strip.specs.Bits.{bits}
+use Rattle.strip.proofs.Fields.{bits-set}
+use Rattle.strip.proofs.bits.set_bit.Statement.{statement}
+use Rattle.strip.proofs.bits.set_bit.Tie as tie
+
+slice-read-d : tie.Need-slice-read-d
+slice-read-d c = search needs
+
+sub-d : tie.Need-sub-d
+sub-d c = search needs
+
+cast-d : tie.Need-cast-d
+cast-d c = search needs
+
+shl-d : tie.Need-shl-d
+shl-d c = search needs
+
+slice-write-d : tie.Need-slice-write-d
+slice-write-d c = search needs
+
+same-length : tie.Need-same-length
+same-length c = search needs
+
+stored : (d : List ℕ) (at : ℕ) → at < 8 * length d
+    → bits (set d (at / 8) (bitOr (getD d (at / 8) 0) ((1 * 2 ^ (7 - at % 8)) % 256))) ≡ set (bits d) at 1
+stored d at h =
+    let e : 8 * (at / 8) + at % 8 ≡ at = omega arith in
+    let p = shl-exact {a = 1} 1 (7 - at % 8) 8 (lit< tt) (omega arith) ∙ one-mul (2 ^ (7 - at % 8)) in
+    rw p (bits-set d (at / 8) (at % 8) (omega arith) (omega arith) ∙ ap (λ (k : ℕ). set (bits d) k 1) e)
+
+returns : tie.Need-returns
+returns c = stored _ _ (c .before .pre)
+
+pub set-bit-spec : {M : Type 1} → statement M
+set-bit-spec =
+    tie.close (tie.spec slice-read-d sub-d cast-d shl-d slice-write-d same-length returns)
