@@ -1,0 +1,47 @@
+-- `core::marks` meets its contract. Assumes nothing.
+use mathlib.Core.Path.{_≡_, refl, sym, _∙_}
+use mathlib.Core.Logic.{⊎-elim}
+use Prim.Native.Nat.{_-_, _≤_}
+use native.Mathlib.Omega.{arith}
+use borrow.Author.Needs.{needs}
+use Rattle.core.specs.Core.{Marking, marking-first, marking-on, marking-off, marking-done}
+use Rattle.core.proofs.marks.Statement.{statement}
+use Rattle.core.proofs.marks.Tie as tie
+use Rattle.core.proofs.marks.Reads as reads
+use Rattle.core.proofs.marks.Lts as lts
+use Rattle.machine.proofs.has.Reads as has-reads
+
+abbrev Inv-loop : tie.InvT-loop
+Inv-loop w a₀ q₀ a q = Marking a w q
+
+abbrev μ-loop : tie.MeasureT-loop
+μ-loop w a₀ q₀ a q = 64 - q
+
+loop-holds : tie.Need-loop-holds Inv-loop μ-loop
+loop-holds c = marking-first _
+
+has-requires : tie.Need-has-requires Inv-loop μ-loop
+has-requires c κs = search needs
+
+array-write-a : tie.Need-array-write-a Inv-loop μ-loop
+array-write-a c = search needs
+
+add-q : tie.Need-add-q Inv-loop μ-loop
+add-q c = search needs
+
+loop-less : tie.Need-loop-less Inv-loop μ-loop
+loop-less c = search needs
+
+loop-again : tie.Need-loop-again Inv-loop μ-loop
+loop-again c =
+    let loop = c .before .before .before .loop in
+    ⊎-elim
+    (λ w. rw (w .1) (marking-on _ _ _ (search needs) (loop .inv) (sym (w .0 .taken) ∙ c .before .has .ensures)))
+    (λ w. rw (w .1) (marking-off _ _ _ (search needs) (loop .inv) (sym (w .0 .left) ∙ c .before .has .ensures)))
+    (c .if1 .came)
+
+returns : tie.Need-returns Inv-loop μ-loop
+returns c = marking-done _ _ _ (search needs) (c .before .loop .inv)
+
+pub marks-spec : {M : Type 1} → statement M
+marks-spec = tie.close (tie.spec Inv-loop μ-loop loop-holds has-requires array-write-a add-q loop-less loop-again returns)

@@ -1,0 +1,156 @@
+-- What decide's code ensures, from decoded records.
+-- Assumes nothing.
+use Prim.Native.Nat.{ℕ, zero, suc, _+_, _-_, _*_, _^_, _≤_, _<_}
+use mathlib.Core.Path.{_≡_, refl, sym, ap, subst, _∙_}
+use mathlib.Core.List.{List}
+use lib.ListN.{length, getD, set, take, drop, replicate, length-set, length-drop}
+use lib.Seq.{getD-set-same, getD-set-other, getD-drop, take-all}
+use native.Mathlib.Omega.{arith}
+use native.Mathlib.Decide.{ℕ-discrete}
+use native.Mathlib.Numerals.{add-one}
+use borrow.Author.Tests.{eq-eqb, ne-eqb, lt-ltb}
+use lib.Dec.{ltb, eqb}
+use native.Mathlib.Nat.{mul-le-mul, suc-mul}
+use mathlib.Core.Bool.{Bool, true, false, not}
+use Rattle.logic.specs.Rule.{noRecord, Record, Accepted, lastOf}
+use Rattle.logic.specs.Claims.{Outcome, refused14}
+use Rattle.logic.specs.Decide.{report, decideOf}
+use Rattle.machine.specs.Word.{mem}
+use Rattle.machine.specs.Succ.{entry}
+use Rattle.machine.specs.Table.{addr}
+use Rattle.machine.specs.Rule.{Mach, noMach, Outcome as Made-outcome, built, over, At, Made, noDecoded, upto}
+use Rattle.machine.specs.declared.Machines.{Machines}
+use Rattle.machine.specs.declared.Decoded.{Decoded}
+use Rattle.search.specs.Arrays.{acceptsOf, tableIn, answerOf, Whole, Ended}
+use Rattle.logic.specs.Search.{search}
+use Rattle.refinement.proofs.Upto.{decodedOf, decide-over}
+use Rattle.refinement.proofs.Bytes.{decide-bytes}
+use Rattle.core.specs.declared.Verdict.{Verdict}
+
+abbrev pub Marked : List ℕ → ℕ → ℕ → Type 0
+Marked a w m = (q : ℕ) → q < m → acceptsOf a q ≡ mem q w
+
+-- the answer that a verdict stands for
+unfoldable pub outcomeIf : Bool → Verdict → Outcome 2
+outcomeIf true v = refused14 (v .over)
+outcomeIf false v = report (v .states) (answerOf (v .found .kind) (v .found .n) (v .found .label) (v .found .first) (v .found .second))
+
+abbrev pub outcomeOf : Verdict → Outcome 2
+outcomeOf v = outcomeIf (ltb (v .over) 128) v
+
+-- it is decide's answer to every rule that the records are decoded from
+abbrev pub Decided : List Decoded → ℕ → ℕ → ℕ → ℕ → Verdict → Type 0
+Decided records m c labels p v =
+    (n : ℕ) (rs : List Record) → Accepted 2 n rs → length rs ≡ m → labels ≡ 2 ^ n
+    → ((r : ℕ) → r < length rs → getD records r noDecoded ≡ decodedOf n (getD rs r noRecord)) → outcomeOf v ≡ decideOf 2 n rs c p
+
+-- the loop's invariant
+pub record Marking (a : List ℕ) (w q : ℕ) : Type 0 where
+  pub low : q ≤ 64
+  pub long : length a ≡ 64
+  pub done : Marked a w q
+  pub rest : (i : ℕ) → q ≤ i → getD a i 0 ≡ 0
+
+zeros : (m i : ℕ) → getD {A = ℕ} (replicate m 0) i 0 ≡ 0
+zeros zero i = refl
+zeros (suc m) zero = refl
+zeros (suc m) (suc i) = zeros m i
+
+pub marking-first : (w : ℕ) → Marking (replicate 64 0) w 0
+marking-first w = record { low = omega arith; long = refl; done = λ q h. absurd (omega arith); rest = λ i h. zeros 64 i }
+
+pub marking-on : (a : List ℕ) (w q : ℕ) → q < 64 → Marking a w q → true ≡ mem q w → Marking (set a q 1) w (q + 1)
+marking-on a w q h v e = record {
+  low = omega arith;
+  long = length-set a q 1 ∙ v .long;
+  done = λ i l. elim (ℕ-discrete i q) [
+    | yes p ↦ rw (p, getD-set-same a q 1 0 (omega (arith, v .long))) e
+    | no p ↦ rw (getD-set-other a q i 1 0 p) (v .done i (omega arith))
+  ];
+  rest = λ i l. rw (getD-set-other a q i 1 0 (λ p. omega arith)) (v .rest i (omega arith));
+}
+
+pub marking-off : (a : List ℕ) (w q : ℕ) → q < 64 → Marking a w q → false ≡ mem q w → Marking a w (q + 1)
+marking-off a w q h v e = record {
+  low = omega arith;
+  long = v .long;
+  done = λ i l. elim (ℕ-discrete i q) [ yes p ↦ rw (p, v .rest q (omega arith)) e | no p ↦ v .done i (omega arith) ];
+  rest = λ i l. v .rest i (omega arith);
+}
+
+pub marking-done : (a : List ℕ) (w q : ℕ) → 64 ≤ q → Marking a w q → Marked a w 64
+marking-done a w q h v i l = v .done i (omega arith)
+
+-- what the builder's outcome says where no record has too many states
+no-over : (o : Made-outcome) (c labels m : ℕ) (s : Machines) (ws : List ℕ) → Made o c labels m s ws → 128 ≤ s .over → (ms : List Mach) × (o ≡ built ms) × Made (built ms) c labels m s ws
+no-over (over k) c labels m s ws h l = absurd (let a = h .0 in let b = h .1 in omega arith)
+no-over (built ms) c labels m s ws h l = (ms, refl, h)
+
+is-over : (o : Made-outcome) (c labels m : ℕ) (s : Machines) (ws : List ℕ) → Made o c labels m s ws → s .over < 128 → o ≡ over (s .over)
+is-over (over k) c labels m s ws h l = ap over (sym (h .0))
+is-over (built ms) c labels m s ws h l = absurd (let a = h .0 in omega arith)
+
+module _ (o : Made-outcome) (c labels m : ℕ) (s : Machines) (ws : List ℕ) (h : Made o c labels m s ws) (no : 128 ≤ s .over) (some : 0 < m) (top : c ≤ 64) where
+  -- the search may be called on the last record's share
+  pub core-whole : (P : ℕ) → P ≤ 255 → (table : List ℕ) → table ≡ drop ((m - 1) * (labels * c * c)) ws → labels * c * c ≤ length table → Whole labels table c (getD (s .counts) (m - 1) 0) P
+  unfolding entry addr
+  core-whole P hp table et hl =
+      let w = no-over o c labels m s ws h no in
+      let a : At c labels (m - 1) (getD (w .0) (m - 1) noMach) s ws = w .2 .2 (m - 1) (omega arith) in
+      let k = a .count in
+      record {
+        few = top;
+        whole = hl;
+        steps = λ l i j p q r.
+            let b = a .holds l i j p (omega arith) (omega arith) in
+            let d : getD table ((l * c + i) * c + j) 0 ≡ getD ws ((m - 1) * (labels * c * c) + ((l * c + i) * c + j)) 0 =
+            ap (λ (t : List ℕ). getD t ((l * c + i) * c + j) 0) et ∙ getD-drop ((m - 1) * (labels * c * c)) ws ((l * c + i) * c + j) 0 in
+            let b0 = b .0 in let b1 = b .1 in omega arith;
+        some-state = let b = a .some-state in omega arith;
+        within = let b = a .few in omega arith;
+        small = hp;
+      }
+
+pub core-mul : (a b x y : ℕ) → a ≤ x → b ≤ y → a * b ≤ x * y
+core-mul a b x y h k = mul-le-mul h k
+
+pub core-share : (m share : ℕ) → 0 < m → (m - 1) * share + share ≡ m * share
+core-share zero share h = absurd (omega arith)
+core-share (suc m) share h = let e : suc m - 1 ≡ m = omega arith in rw e (sym (suc-mul m share))
+
+module _ (records : List Decoded) (c P : ℕ) (s : Machines) (ws : List ℕ) (pos : 0 < c) (top : c ≤ 64) where
+  -- too many states
+  pub core-refused : (m labels : ℕ) → Made (upto records c labels m) c labels m s ws → s .over < 128 → (v : Verdict) → v .over ≡ s .over → Decided records m c labels P v
+  unfolding outcomeIf
+  core-refused m labels h l v e n rs acc lm lab dec =
+      let o = is-over (upto records c labels m) c labels m s ws h l in
+      let o′ : upto records c (2 ^ n) (length rs) ≡ over (s .over) = rw (lm, ← lab) o in
+      rw (e, lt-ltb (s .over) 128 l) (sym (decide-over n c pos top rs acc records dec P (s .over) o′))
+
+  module _ (no : 128 ≤ s .over) (accept table : List ℕ) (kind k : ℕ) (label first second : List ℕ) where
+    abbrev All : ℕ → List Record → ℕ → ℕ → Type 0
+    All n rs m labels = Made (upto records c labels m) c labels m s ws → table ≡ drop ((m - 1) * (labels * c * c)) ws → Marked accept (getD (s .accepts) (m - 1) 0) 64
+        → Ended (search labels (tableIn table c accept (getD (s .counts) (m - 1) 0)) P) kind k label first second
+        → report (getD (s .counts) (m - 1) 0) (answerOf kind k label first second) ≡ decideOf 2 n rs c P
+
+    core-at : (n : ℕ) (rs : List Record) → Accepted 2 n rs → ((r : ℕ) → r < length rs → getD records r noDecoded ≡ decodedOf n (getD rs r noRecord)) → All n rs (length rs) (2 ^ n)
+    core-at n rs acc dec h et marks e =
+        let w = no-over (upto records c (2 ^ n) (length rs)) c (2 ^ n) (length rs) s ws h no in
+        let a : At c (2 ^ n) (lastOf rs) (getD (w .0) (lastOf rs) noMach) s ws = w .2 .2 (lastOf rs) (let z = acc .0 in omega arith) in
+        let d = decide-bytes n c pos top rs acc records dec s ws (w .0) (w .1) (w .2) accept (λ q l. marks q (let x = a .count in let y = a .few in omega arith)) P in
+        ap (report (getD (s .counts) (lastOf rs) 0)) (e .answer ∙ ap (λ (t : List ℕ). search (2 ^ n) (tableIn t c accept (getD (s .counts) (lastOf rs) 0)) P) et) ∙ d
+
+    -- an answer
+    pub core-decided : (m labels : ℕ) → Made (upto records c labels m) c labels m s ws → table ≡ drop ((m - 1) * (labels * c * c)) ws → Marked accept (getD (s .accepts) (m - 1) 0) 64
+        → Ended (search labels (tableIn table c accept (getD (s .counts) (m - 1) 0)) P) kind k label first second
+        → Decided records m c labels P (record { over = 128; states = getD (s .counts) (m - 1) 0; found = record { kind = kind; n = k; label = label; first = first; second = second } })
+    unfolding outcomeIf
+    core-decided m labels h et marks e n rs acc lm lab dec =
+        subst (λ (z : ℕ). All n rs z labels) lm (subst (λ (z : ℕ). All n rs (length rs) z) (sym lab) (core-at n rs acc dec)) h et marks e
+
+-- a part that goes to the end
+pub part-all : (n : ℕ) (ws : List ℕ) → take (length ws - n) (drop n ws) ≡ drop n ws
+part-all n ws = take-all (length ws - n) (drop n ws) (let e = length-drop n ws in omega arith)
+
+pub part-long : (n share : ℕ) (ws : List ℕ) → n + share ≤ length ws → share ≤ length (take (length ws - n) (drop n ws))
+part-long n share ws h = rw (part-all n ws) (let e = length-drop n ws in omega arith)

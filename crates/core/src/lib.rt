@@ -1,0 +1,75 @@
+// Decide, from decoded records: the builder, then the search.
+ghost use mathlib.Core.Path.{_≡_};
+ghost use Prim.Native.Nat.{ℕ, _+_, _*_, _^_, _<_, _≤_};
+ghost use lib.ListN.{length, getD};
+ghost use Rattle.machine.specs.Word.{mem};
+ghost use Rattle.machine.specs.Rule.{Fits, Sound, noDecoded};
+ghost use Rattle.search.specs.Arrays.{acceptsOf};
+ghost use Rattle.core.specs.Core.{Marked, Decided};
+use machine::Decoded;
+use search::Found;
+
+// One byte for each state: 1 where it is a member of w.
+fn marks(w: u64) -> [u8; 64]
+    ensures { λ r. ⌜ Marked r w 64 ⌝ }
+{
+    let mut a = [0u8; 64];
+    let mut q: usize = 0;
+    while q < 64 {
+        if machine::has(w, q) {
+            a[q] = 1;
+        }
+        q += 1;
+    }
+    a
+}
+
+// over: the record with too many states, 128 where there is none; the states of the last record; and what the search found.
+pub struct Verdict {
+    pub over: usize,
+    pub states: usize,
+    pub found: Found,
+}
+
+pub fn decide(
+    ws: &mut [u8],
+    records: [Decoded; 128],
+    m: usize,
+    c: usize,
+    labels: usize,
+    p: u64,
+) -> Verdict
+    requires { ⌜ (0 < m) × (m ≤ 128) × (0 < c) × (c ≤ 64) × (p ≤ 255) × (labels ≤ 256) × (m * (labels * c * c) ≤ length (now ws)) ⌝ }
+    requires { ⌜ ((r : ℕ) → r < m → Fits (getD records r noDecoded) r c labels (length (now ws)) × Sound (getD records r noDecoded) r labels) ⌝ }
+    ensures { λ r. ⌜ Decided records m c labels p r ⌝ }
+{
+    let t = machine::build_all(ws, records, m, c, labels);
+    let over = t.over;
+    let counts = t.counts;
+    let accepts = t.accepts;
+    let last = m - 1;
+    let count = counts[last];
+    if over < 128 {
+        let zero = [0usize; 64];
+        let none = Found {
+            kind: 0,
+            n: 1,
+            label: zero,
+            first: zero,
+            second: zero,
+        };
+        return Verdict {
+            over: over,
+            states: 0,
+            found: none,
+        };
+    }
+    let a = marks(accepts[last]);
+    let base = last * (labels * c * c);
+    let f = search::find(labels, &ws[base..], c, count, &a, p);
+    Verdict {
+        over: 128,
+        states: count,
+        found: f,
+    }
+}

@@ -1,0 +1,158 @@
+-- The table's entries: their places are apart, and a step of the exploration writes one and keeps the others. Assumes nothing.
+use Prim.Native.Nat.{ℕ, zero, suc, _+_, _*_, _/_, _%_, _≤_, _<_}
+use mathlib.Core.Bool.{Bool, true, false}
+use mathlib.Core.Logic.{⊎-elim, _⊎_, inl, inr}
+use mathlib.Core.Logic.{_≢_}
+use mathlib.Core.Path.{_≡_, refl, sym, ap, _∙_, subst}
+use mathlib.Core.List.{List, [], _∷_, _++_}
+use mathlib.Core.Option.{Option, none, some}
+use native.Mathlib.Nat.{mul-le-mul-left}
+use native.Mathlib.Decide.{ℕ-discrete}
+use native.Mathlib.Omega.{arith}
+use borrow.Author.Tests.{ltb-true, ltb-false, le-leb, lt-leb}
+use lib.Arith.{digits-lt, digits-div, digits-mod}
+use lib.Dec.{ltb, leb}
+use lib.ListN.{length, getD, take, drop, set, length-append, List·getD-append}
+use Rattle.machine.specs.declared.Builder.{Builder}
+use lib.Seq.{getD-take, getD-set-same, getD-set-other, take-set-le, drop-set-lt, length-take-le}
+use Rattle.machine.specs.Explore.{Has, pick, place, insert, visit}
+use Rattle.machine.proofs.Place.{place-le, place-append, place-last}
+use Rattle.machine.proofs.Grow.{Grows, insert-grows, has-grows, visit-has}
+use Rattle.machine.specs.Table.{listed, addr, Room, Cell, Filled, Built}
+use Rattle.machine.specs.Succ.{successorOf}
+use Rattle.machine.specs.declared.Plan.{Plan}
+use Rattle.machine.proofs.Steps.{cell-small}
+
+pub addr-small : (c l i j : ℕ) → c ≤ 64 → l < 512 → i < 64 → j < 64 → addr c l i j < 4194304
+unfolding addr
+addr-small c l i j hc hl hi hj = omega (arith, cell-small c l i hc hl hi)
+
+pub addr-lt : (n c l i j : ℕ) → l < n → i < c → j < c → addr c l i j < n * c * c
+unfolding addr
+addr-lt n c l i j hl hi hj = digits-lt (digits-lt hl hi) hj
+
+-- two entries at one place are one
+pub addr-one : (c l i j l′ i′ j′ : ℕ) → i < c → j < c → i′ < c → j′ < c → addr c l i j ≡ addr c l′ i′ j′ → (l ≡ l′) × (i ≡ i′) × (j ≡ j′)
+unfolding addr
+addr-one c l i j l′ i′ j′ hi hj hi′ hj′ e =
+    let q : l * c + i ≡ l′ * c + i′ = sym (digits-div (l * c + i) hj) ∙ ap (λ (n : ℕ). n / c) e ∙ digits-div (l′ * c + i′) hj′ in (
+      sym (digits-div l hi) ∙ ap (λ (n : ℕ). n / c) q ∙ digits-div l′ hi′,
+      sym (digits-mod l hi) ∙ ap (λ (n : ℕ). n % c) q ∙ digits-mod l′ hi′,
+      sym (digits-mod (l * c + i) hj) ∙ ap (λ (n : ℕ). n % c) e ∙ digits-mod (l′ * c + i′) hj′,
+    )
+
+-- a code that is put in stands where it was looked for
+insert-place : (c x : ℕ) (cs ds : List ℕ) → insert c x cs ≡ some ds → place x ds ≡ place x cs
+unfolding insert
+insert-place c x cs ds e = go (ltb (place x cs) (length cs)) (ltb (length cs) c) refl e
+  where
+    go : (a b : Bool) → ltb (place x cs) (length cs) ≡ a → pick a (some cs) (pick b (some (cs ++ (x ∷ []))) none) ≡ some ds → place x ds ≡ place x cs
+    go true b t e = let q : cs ≡ ds = cc in ap (place x) (sym q)
+    go false true t e =
+        let q : cs ++ (x ∷ []) ≡ ds = cc in
+        let f = place-last x cs (ltb-false _ _ t) in
+        let g = place-le x cs in
+        let h : length cs ≤ place x cs = ltb-false _ _ t in
+        ap (place x) (sym q) ∙ f ∙ omega arith
+    go false false t e = let z : _≡_ {A = ℕ} 0 1 = cc in omega arith
+
+module _ (succ : ℕ → ℕ → ℕ → ℕ) (c base n : ℕ) (ws cs : List ℕ) (l i j : ℕ) (hl : l < n) (hi : i < length cs) (hj : j < length cs) (hc : length cs ≤ c) (room : base + n * c * c ≤ length ws) where
+  -- the code that is put in, where it is looked for, the table after, and the list after
+  abbrev pub here : ℕ
+  here = succ l (getD cs i 0) (getD cs j 0)
+
+  abbrev pub after : List ℕ
+  after = set ws (base + addr c l i j) (place here cs)
+
+  within : base + addr c l i j < length ws
+  within = omega (arith, addr-lt n c l i j hl (omega arith) (omega arith))
+
+  pub visit-cell : (o : Option (List ℕ)) → insert c here cs ≡ o → Cell succ c base o after l i j
+  unfolding visit
+  visit-cell none e = tt
+  visit-cell (some ds) e =
+      let g : Grows (some cs) (some ds) = subst (Grows (some cs)) e (insert-grows c here cs) in
+      let a : getD ds i 0 ≡ getD cs i 0 = ap (λ (t : List ℕ). getD t i 0) (g .1) ∙ List·getD-append cs (g .0) 0 i hi in
+      let b : getD ds j 0 ≡ getD cs j 0 = ap (λ (t : List ℕ). getD t j 0) (g .1) ∙ List·getD-append cs (g .0) 0 j hj in (
+        omega arith,
+        omega arith,
+        subst (Has succ l i j) e (visit-has succ c l i j (some cs) hi hj),
+        getD-set-same ws (base + addr c l i j) (place here cs) 0 within ∙ (rw (a, b) (sym (insert-place c here cs ds e))),
+      )
+
+  pub visit-keeps : (o : Option (List ℕ)) → insert c here cs ≡ o → (l′ i′ j′ : ℕ) → l′ < n → Cell succ c base (some cs) ws l′ i′ j′ → Cell succ c base o after l′ i′ j′
+  visit-keeps none e l′ i′ j′ hl′ k = tt
+  visit-keeps (some ds) e l′ i′ j′ hl′ k = go (ℕ-discrete l′ l) (ℕ-discrete i′ i) (ℕ-discrete j′ j)
+    where
+      g : Grows (some cs) (some ds)
+      g = subst (Grows (some cs)) e (insert-grows c here cs)
+
+      h : Has succ l′ i′ j′ (some cs)
+      h = k .2
+
+      moved : base + addr c l′ i′ j′ ≢ base + addr c l i j → Cell succ c base (some ds) after l′ i′ j′
+      moved far =
+          let a : getD ds i′ 0 ≡ getD cs i′ 0 = ap (λ (t : List ℕ). getD t i′ 0) (g .1) ∙ List·getD-append cs (g .0) 0 i′ (h .0) in
+          let b : getD ds j′ 0 ≡ getD cs j′ 0 = ap (λ (t : List ℕ). getD t j′ 0) (g .1) ∙ List·getD-append cs (g .0) 0 j′ (h .1) in
+          let x : ℕ = succ l′ (getD cs i′ 0) (getD cs j′ 0) in
+          let p : place x ds ≡ place x cs = ap (place x) (g .1) ∙ place-append x cs (g .0) (h .2) in (
+            k .0,
+            k .1,
+            has-grows succ l′ i′ j′ (some cs) (some ds) g h,
+            getD-set-other ws (base + addr c l i j) (base + addr c l′ i′ j′) (place here cs) 0 far ∙ k .3 ∙ (rw (a, b) (sym p)),
+          )
+
+      apart : ((l′ ≡ l) × (i′ ≡ i) × (j′ ≡ j) → ⊥) → base + addr c l′ i′ j′ ≢ base + addr c l i j
+      apart far e = far (addr-one c l′ i′ j′ l i j (k .0) (k .1) (omega arith) (omega arith) (omega arith))
+
+      go : Dec (l′ ≡ l) → Dec (i′ ≡ i) → Dec (j′ ≡ j) → Cell succ c base (some ds) after l′ i′ j′
+      go (yes p) (yes q) (yes r) = rw (p, q, r) (visit-cell (some ds) e)
+      go (no p) q r = moved (apart (λ t. p (t .0)))
+      go (yes p) (no q) r = moved (apart (λ t. q (t .1)))
+      go (yes p) (yes q) (no r) = moved (apart (λ t. r (t .2)))
+
+pub filled-refl : (succ : ℕ → ℕ → ℕ → ℕ) (p : Plan) (o : Option (List ℕ)) (ws : List ℕ) → Filled succ p o o ws ws
+filled-refl succ p o ws = record { low = refl; high = refl; keeps = λ l i j h k. k }
+
+pub filled-trans : (succ : ℕ → ℕ → ℕ → ℕ) (p : Plan) (o₀ o₁ o₂ : Option (List ℕ)) (ws₀ ws₁ ws₂ : List ℕ) → Filled succ p o₀ o₁ ws₀ ws₁ → Filled succ p o₁ o₂ ws₁ ws₂ → Filled succ p o₀ o₂ ws₀ ws₂
+filled-trans succ p o₀ o₁ o₂ ws₀ ws₁ ws₂ f g =
+    record { low = g .low ∙ f .low; high = g .high ∙ f .high; keeps = λ l i j h k. g .keeps l i j h (f .keeps l i j h k) }
+
+-- nothing is done where there were too many
+pub passed : (succ : ℕ → ℕ → ℕ → ℕ) (p : Plan) (b : Builder) (ws : List ℕ) (l i j : ℕ) → p .c < b .count
+    → b .count ≤ p .c + 1
+    → Built succ p b b ws ws (visit succ (p .c) l i j (listed (p .c) b)) × Cell succ (p .c) (p .base) (listed (p .c) b) ws l i j
+unfolding visit
+passed succ p b ws l i j h m =
+    rw (lt-leb (b .count) (p .c) h)
+    (record { more = omega arith; most = m; list = rw (lt-leb (b .count) (p .c) h); fill = filled-refl succ p (listed (p .c) b) ws }, tt)
+
+-- a step: the code x is looked for, put in, and its place written
+module _ (succ : ℕ → ℕ → ℕ → ℕ) (p : Plan) (b r : Builder) (ws : List ℕ) (l i j x at k : ℕ) (room : Room p (length ws))
+    (hl : l < p .labels) (hi : i < b .count) (hj : j < b .count) (hc : b .count ≤ p .c) (full : length (b .codes) ≡ 64)
+    (ex : x ≡ succ l (getD (b .codes) i 0) (getD (b .codes) j 0)) (ea : at ≡ place x (take (b .count) (b .codes)))
+    (er : listed (p .c) r ≡ insert (p .c) x (take (b .count) (b .codes))) (ek : k ≡ addr (p .c) l i j) where
+  stepped : (listed (p .c) r ≡ visit succ (p .c) l i j (listed (p .c) b))
+      × (Filled succ p (listed (p .c) b) (listed (p .c) r) ws (set ws (p .base + k) at) × Cell succ (p .c) (p .base) (listed (p .c) r) (set ws (p .base + k) at) l i j)
+  unfolding visit
+  stepped =
+      let cs = take (b .count) (b .codes) in
+      let n : length cs ≡ b .count = length-take-le (b .count) (b .codes) (omega (arith, room .ceiling)) in
+      let q : x ≡ succ l (getD cs i 0) (getD cs j 0) = ex ∙ sym (rw (getD-take (b .count) (b .codes) i 0 hi, getD-take (b .count) (b .codes) j 0 hj)) in
+      let eo : insert (p .c) (succ l (getD cs i 0) (getD cs j 0)) cs ≡ listed (p .c) r = sym (er ∙ ap (λ (y : ℕ). insert (p .c) y cs) q) in
+      let near = addr-lt (p .labels) (p .c) l i j hl (omega arith) (omega arith) in
+      rw (le-leb (b .count) (p .c) hc, ek, ea, q) (
+        sym eo,
+        (
+          record {
+            low = take-set-le (p .base) ws (p .base + addr (p .c) l i j) _ (omega arith);
+            high = drop-set-lt (p .base + p .labels * p .c * p .c) ws (p .base + addr (p .c) l i j) _ (omega arith);
+            keeps = visit-keeps succ (p .c) (p .base) (p .labels) ws cs l i j hl (omega arith) (omega arith) (omega arith) (room .share) (listed (p .c) r) eo;
+          },
+          visit-cell succ (p .c) (p .base) (p .labels) ws cs l i j hl (omega arith) (omega arith) (omega arith) (room .share) (listed (p .c) r) eo,
+        ),
+      )
+
+  pub visited : b .count ≤ r .count → r .count ≤ p .c + 1
+      → Built succ p b r ws (set ws (p .base + k) at) (visit succ (p .c) l i j (listed (p .c) b)) × Cell succ (p .c) (p .base) (listed (p .c) r) (set ws (p .base + k) at) l i j
+  visited m n = (record { more = m; most = n; list = stepped .0; fill = stepped .1 .0 }, stepped .1 .1)

@@ -1,0 +1,112 @@
+-- The machines of a rule's records, one after the other. Assumes nothing.
+use Prim.Native.Nat.{ℕ, zero, suc, _+_, _*_, _≤_, _<_}
+use mathlib.Core.Path.{_≡_}
+use mathlib.Core.List.{List, [], _∷_, _++_}
+use mathlib.Core.Option.{Option, none, some}
+use lib.ListN.{length, getD}
+use Rattle.machine.specs.Succ.{Step, kindCode}
+use Rattle.machine.specs.Machine.{codesOf, stepOf, acceptOf, Holds, Bit}
+use Rattle.machine.specs.declared.Kind.{Kind}
+use Rattle.machine.specs.declared.Kind.the-variants.{Subset, Single, Child1, Child2, Root, Not, Or, And, Exists, Close}
+use Rattle.machine.specs.declared.Plan.{Plan}
+use Rattle.machine.specs.declared.Decoded.{Decoded}
+use Rattle.machine.specs.declared.Machines.{Machines}
+
+-- a machine: the codes of its states, its step and the set of its accepting states
+pub record Mach : Type 0 where
+  pub codes : List ℕ
+  pub step : Step
+  pub accept : ℕ
+
+abbrev pub noMach : Mach
+noMach = record { codes = []; step = λ l i j. 0; accept = 0 }
+
+-- the machines so far, or the number of the first record with too many states
+pub data Outcome : Type 0 where
+  built : List Mach → Outcome
+  over : ℕ → Outcome
+
+-- the machine of a record with these codes
+abbrev pub machFrom : Decoded → Mach → Mach → List ℕ → Mach
+machFrom x f g cs = record {
+  codes = cs;
+  step = stepOf (kindCode (x .kind) (f .step) (g .step) (x .wx) (x .wy)) cs;
+  accept = acceptOf (x .kind) (f .accept) (g .accept) cs;
+}
+
+-- the machines with one more, or the record's number
+abbrev pub more : ℕ → List Mach → (List ℕ → Mach) → Option (List ℕ) → Outcome
+more r ms make none = over r
+more r ms make (some cs) = built (ms ++ (make cs ∷ []))
+
+-- after record r
+unfoldable pub after : ℕ → ℕ → ℕ → Decoded → Outcome → Outcome
+after c labels r x (over k) = over k
+after c labels r x (built ms) =
+    more r ms (machFrom x (getD ms (x .first) noMach) (getD ms (x .second) noMach))
+    (codesOf (x .kind) (getD ms (x .first) noMach .step) (getD ms (x .second) noMach .step) (x .wx) (x .wy) c labels)
+
+-- the plan of record r: record a's table starts at a times the share
+abbrev pub planOf : Decoded → ℕ → ℕ → ℕ → Plan
+planOf x r c labels = record {
+  kind = x .kind;
+  first = x .first * (labels * c * c);
+  second = x .second * (labels * c * c);
+  wx = x .wx;
+  wy = x .wy;
+  c = c;
+  labels = labels;
+  base = r * (labels * c * c);
+}
+
+-- the numbers are in range, and record r's share is within n bytes
+pub record Fits (x : Decoded) (r c labels n : ℕ) : Type 0 where
+  pub first-in : x .first < 128
+  pub second-in : x .second < 128
+  pub here-in : r < 128
+  pub ceiling : c ≤ 64
+  pub some-state : 0 < c
+  pub some-labels : 2 ≤ labels
+  pub few : labels ≤ 256
+  pub wx-pos : 0 < x .wx
+  pub wx-small : x .wx ≤ 128
+  pub wy-pos : 0 < x .wy
+  pub wy-small : x .wy ≤ 128
+  pub share : r * (labels * c * c) + labels * c * c ≤ n
+
+-- the parts that a record of this kind has come before it
+abbrev pub Before : Kind → ℕ → ℕ → ℕ → Type 0
+Before Subset a b r = Unit {0}
+Before Single a b r = Unit {0}
+Before Child1 a b r = Unit {0}
+Before Child2 a b r = Unit {0}
+Before Root a b r = Unit {0}
+Before Not a b r = a < r
+Before Or a b r = (a < r) × (b < r)
+Before And a b r = (a < r) × (b < r)
+Before Exists a b r = a < r
+Before Close a b r = ⊥
+
+pub record Sound (x : Decoded) (r labels : ℕ) : Type 0 where
+  pub before : Before (x .kind) (x .first) (x .second) r
+  pub bit : Bit (x .wx) labels
+
+-- record a's machine is kept: its number of states, its accepting states, and its table in its share
+pub record At (c labels a : ℕ) (m : Mach) (s : Machines) (ws : List ℕ) : Type 0 where
+  pub count : getD (s .counts) a 0 ≡ length (m .codes)
+  pub accept : getD (s .accepts) a 0 ≡ m .accept
+  pub holds : Holds ws c labels (a * (labels * c * c)) (length (m .codes)) (m .step)
+  pub some-state : 0 < length (m .codes)
+  pub few : length (m .codes) ≤ c
+
+abbrev pub Made : Outcome → ℕ → ℕ → ℕ → Machines → List ℕ → Type 0
+Made (over k) c labels r s ws = (s .over ≡ k) × (k < 128)
+Made (built ms) c labels r s ws = (s .over ≡ 128) × (length ms ≡ r) × ((a : ℕ) → a < r → At c labels a (getD ms a noMach) s ws)
+
+abbrev pub noDecoded : Decoded
+noDecoded = record { kind = Subset; first = 0; second = 0; wx = 0; wy = 0 }
+
+-- the machines of the first r records
+unfoldable pub upto : List Decoded → ℕ → ℕ → ℕ → Outcome
+upto xs c labels zero = built []
+upto xs c labels (suc r) = after c labels r (getD xs r noDecoded) (upto xs c labels r)

@@ -1,0 +1,95 @@
+-- How a builder stands for a list of codes, and where a table's entries are. Assumes nothing.
+use Prim.Native.Nat.{ℕ, zero, suc, _+_, _*_, _/_, _%_, _≤_, _<_}
+use mathlib.Core.Bool.{Bool, true, false}
+use mathlib.Core.Path.{_≡_}
+use mathlib.Core.List.{List, [], _∷_, _++_}
+use mathlib.Core.Option.{Option, none, some}
+use lib.ListN.{length, getD, take, drop}
+use lib.Dec.{leb}
+use Rattle.machine.specs.Explore.{Has, pick, place, visit, row, ring, next, grow, explore}
+use Rattle.machine.specs.declared.Builder.{Builder}
+use Rattle.machine.specs.declared.Plan.{Plan}
+
+-- the codes of a builder; none where there are more than c
+abbrev pub listed : ℕ → Builder → Option (List ℕ)
+listed c b = pick (leb (b .count) c) (some (take (b .count) (b .codes))) none
+
+-- where the entry for a label and two states stands in a table of c states
+unfoldable pub addr : ℕ → ℕ → ℕ → ℕ → ℕ
+addr c l i j = (l * c + i) * c + j
+
+-- the plan's numbers are in range, and its share is within a workspace of n bytes
+pub record Room (p : Plan) (n : ℕ) : Type 0 where
+  pub ceiling : p .c ≤ 64
+  pub some-state : 0 < p .c
+  pub few : p .labels ≤ 256
+  pub first-small : p .first < 4294967296
+  pub second-small : p .second < 4294967296
+  pub wx-pos : 0 < p .wx
+  pub wx-small : p .wx ≤ 128
+  pub wy-pos : 0 < p .wy
+  pub wy-small : p .wy ≤ 128
+  pub share : p .base + p .labels * p .c * p .c ≤ n
+
+-- the table has the entry for label l and states i and j, or there were too many
+abbrev pub Cell : (ℕ → ℕ → ℕ → ℕ) → ℕ → ℕ → Option (List ℕ) → List ℕ → ℕ → ℕ → ℕ → Type 0
+Cell succ c base none ws l i j = Unit {0}
+Cell succ c base (some cs) ws l i j =
+    (i < c) × (j < c) × Has succ l i j (some cs) × (getD ws (base + addr c l i j) 0 ≡ place (succ l (getD cs i 0) (getD cs j 0)) cs)
+
+-- only the share is written, and no entry is lost
+pub record Filled (succ : ℕ → ℕ → ℕ → ℕ) (p : Plan) (o o′ : Option (List ℕ)) (ws ws′ : List ℕ) : Type 0 where
+  pub low : take (p .base) ws′ ≡ take (p .base) ws
+  pub high : drop (p .base + p .labels * p .c * p .c) ws′ ≡ drop (p .base + p .labels * p .c * p .c) ws
+  pub keeps : (l i j : ℕ) → l < p .labels → Cell succ (p .c) (p .base) o ws l i j → Cell succ (p .c) (p .base) o′ ws′ l i j
+
+-- the entries for state k and each state below m, both ways, under label l
+abbrev pub Ring : (ℕ → ℕ → ℕ → ℕ) → Plan → Option (List ℕ) → List ℕ → ℕ → ℕ → ℕ → Type 0
+Ring succ p o ws l m k = (i : ℕ) → i < m → Cell succ (p .c) (p .base) o ws l i k × Cell succ (p .c) (p .base) o ws l k i
+
+-- the step from builder b to builder r, which stands for the list o, and from table ws to ws′
+pub record Built (succ : ℕ → ℕ → ℕ → ℕ) (p : Plan) (b r : Builder) (ws ws′ : List ℕ) (o : Option (List ℕ)) : Type 0 where
+  pub more : b .count ≤ r .count
+  pub most : r .count ≤ p .c + 1
+  pub list : listed (p .c) r ≡ o
+  pub fill : Filled succ p (listed (p .c) b) (listed (p .c) r) ws ws′
+
+-- what a visit, a row and a ring of visits ensure
+abbrev pub Visited : (ℕ → ℕ → ℕ → ℕ) → Plan → Builder → Builder → List ℕ → List ℕ → ℕ → ℕ → ℕ → Type 0
+Visited succ p b r ws ws′ l i j = Built succ p b r ws ws′ (visit succ (p .c) l i j (listed (p .c) b)) × Cell succ (p .c) (p .base) (listed (p .c) r) ws′ l i j
+
+abbrev pub Rowed : (ℕ → ℕ → ℕ → ℕ) → Plan → Builder → Builder → List ℕ → List ℕ → ℕ → ℕ → ℕ → Type 0
+Rowed succ p b r ws ws′ l k i = Built succ p b r ws ws′ (row succ (p .c) l k i (listed (p .c) b)) × Ring succ p (listed (p .c) r) ws′ l i k
+
+abbrev pub Ringed : (ℕ → ℕ → ℕ → ℕ) → Plan → Builder → Builder → List ℕ → List ℕ → ℕ → ℕ → Type 0
+Ringed succ p b r ws ws′ k m =
+    Built succ p b r ws ws′ (ring succ (p .c) k m (listed (p .c) b)) × ((l : ℕ) → l < m → Ring succ p (listed (p .c) r) ws′ l (k + 1) k)
+
+-- what the turn for state k ensures: the entries of state k with those up to it, if there is a state k
+pub record Nexted (succ : ℕ → ℕ → ℕ → ℕ) (p : Plan) (b r : Builder) (ws ws′ : List ℕ) (k : ℕ) : Type 0 where
+  pub step : Built succ p b r ws ws′ (next succ (p .c) (p .labels) k (listed (p .c) b))
+  pub idle : b .count ≤ k → r .count ≡ b .count
+  pub cells : (l : ℕ) → l < p .labels → k < r .count → Ring succ p (listed (p .c) r) ws′ l (k + 1) k
+
+-- the entries of the states below k with each other
+abbrev pub Square : (ℕ → ℕ → ℕ → ℕ) → Plan → Builder → List ℕ → ℕ → Type 0
+Square succ p r ws k =
+    (l i j : ℕ) → l < p .labels → i < k → j < k → i < r .count → j < r .count → Cell succ (p .c) (p .base) (listed (p .c) r) ws l i j
+
+-- the turns for the states below k, from builder b
+pub record Grown (succ : ℕ → ℕ → ℕ → ℕ) (p : Plan) (b r : Builder) (ws ws′ : List ℕ) (k : ℕ) : Type 0 where
+  pub step : Built succ p b r ws ws′ (grow succ (p .c) (p .labels) k (listed (p .c) b))
+  pub cells : Square succ p r ws′ k
+
+-- a machine is built: the builder r stands for the codes, the share holds their table, and nothing else is changed
+pub record Explored (succ : ℕ → ℕ → ℕ → ℕ) (p : Plan) (start : ℕ) (r : Builder) (ws ws′ : List ℕ) : Type 0 where
+  pub most : r .count ≤ p .c + 1
+  pub list : listed (p .c) r ≡ explore succ (p .c) (p .labels) start
+  pub cells : Square succ p r ws′ (p .c)
+  pub low : take (p .base) ws′ ≡ take (p .base) ws
+  pub high : drop (p .base + p .labels * p .c * p .c) ws′ ≡ drop (p .base + p .labels * p .c * p .c) ws
+
+-- nothing outside the share is changed
+pub record Kept (p : Plan) (ws ws′ : List ℕ) : Type 0 where
+  pub low : take (p .base) ws′ ≡ take (p .base) ws
+  pub high : drop (p .base + p .labels * p .c * p .c) ws′ ≡ drop (p .base + p .labels * p .c * p .c) ws

@@ -1,0 +1,1 @@
+// Proofs only: the builder's machines are the logic's, and build and search together are the definition of decide.

@@ -1,0 +1,141 @@
+-- `search::row` meets its contract. Assumes nothing.
+use mathlib.Core.Path.{_≡_, refl}
+use Prim.Native.Nat.{ℕ, suc, _+_, _*_, _-_, _≤_, _<_}
+use native.Mathlib.Omega.{arith}
+use borrow.Author.Needs.{needs}
+use Rattle.logic.specs.Search.{loop}
+use lib.ListN.{length, getD}
+use Rattle.search.specs.Loops.{scanSecond}
+use Rattle.search.specs.Code.{Ready, Held, codeView, bestOf, row-next, row-done, ready-steps}
+use Rattle.search.proofs.row.Statement.{statement}
+use Rattle.search.proofs.row.Tie as tie
+use Rattle.search.proofs.row.Reads as reads
+use Rattle.search.proofs.row.Lts as lts
+use Rattle.search.proofs.cell.Reads as cell-reads
+use Rattle.search.proofs.consider.Reads as consider-reads
+use Rattle.search.proofs.wide.Reads as wide-reads
+
+abbrev Inv-loop : tie.InvT-loop
+Inv-loop labels table c done state size n l i b₀ j₀ b j =
+    (j ≤ n) × Held (codeView table c done state size) (scanSecond (codeView table c done state size) l i j (bestOf (b₀ .size) (b₀ .label) (b₀ .first) (b₀ .second))) b
+
+abbrev μ-loop : tie.MeasureT-loop
+μ-loop labels table c done state size n l i b₀ j₀ b j = n - j
+
+-- src/lib.rt:69:5
+loop-holds : tie.Need-loop-holds Inv-loop μ-loop
+unfolding scanSecond loop
+loop-holds c = search needs
+
+-- src/lib.rt:70:48
+element-copy-out-wide : tie.Need-element-copy-out-wide Inv-loop μ-loop
+element-copy-out-wide c = search needs
+
+-- src/lib.rt:70:43
+wide-requires : tie.Need-wide-requires Inv-loop μ-loop
+wide-requires c κs = search needs
+
+-- src/lib.rt:70:64
+element-copy-out-wide-2 : tie.Need-element-copy-out-wide-2 Inv-loop μ-loop
+element-copy-out-wide-2 c = search needs
+
+-- src/lib.rt:70:59
+wide-requires-2 : tie.Need-wide-requires-2 Inv-loop μ-loop
+wide-requires-2 c κs = search needs
+
+-- src/lib.rt:70:13
+cell-requires : tie.Need-cell-requires Inv-loop μ-loop
+cell-requires c κs =
+    let loop = c .before .before .before .before .before .loop in
+    let start = c .before .before .before .before .before .before .before in
+    let ready = start .pre .0 in
+    (ready .whole, (start .pre .1 .0 .0, omega (arith, ready .states (start .args .i) (start .pre .1 .0 .1)), omega (arith, ready .states (loop .j) (omega arith))))
+
+-- src/lib.rt:71:25
+element-copy-out-consider : tie.Need-element-copy-out-consider Inv-loop μ-loop
+element-copy-out-consider c =
+    let loop = c .before .before .before .before .before .before .loop in
+    let start = c .before .before .before .before .before .before .before .before in
+    let ready = start .pre .0 in
+    rw (c .cell .ensures) (ready-steps ready _ _ _ (start .pre .1 .0 .0) (omega (arith, ready .states (start .args .i) (start .pre .1 .0 .1))) (omega (arith, ready .states (loop .j) (omega arith))))
+
+-- src/lib.rt:71:34
+mul-consider : tie.Need-mul-consider Inv-loop μ-loop
+mul-consider c = search needs
+
+-- src/lib.rt:71:34
+element-copy-out-consider-2 : tie.Need-element-copy-out-consider-2 Inv-loop μ-loop
+element-copy-out-consider-2 c = search needs
+
+-- src/lib.rt:71:44
+mul-consider-2 : tie.Need-mul-consider-2 Inv-loop μ-loop
+mul-consider-2 c = search needs
+
+-- src/lib.rt:71:44
+element-copy-out-consider-3 : tie.Need-element-copy-out-consider-3 Inv-loop μ-loop
+element-copy-out-consider-3 c = search needs
+
+-- src/lib.rt:71:34
+add-consider : tie.Need-add-consider Inv-loop μ-loop
+add-consider c =
+    let loop = c .before .before .before .before .before .before .before .before .before .loop in
+    let start = c .before .before .before .before .before .before .before .before .before .before .before in
+    omega (arith, start .pre .0 .sizes (start .args .i) (start .pre .1 .0 .1), start .pre .0 .sizes (loop .j) (omega arith))
+
+-- src/lib.rt:71:34
+add-consider-2 : tie.Need-add-consider-2 Inv-loop μ-loop
+add-consider-2 c =
+    let loop = c .before .before .before .before .before .before .before .before .before .loop in
+    let start = c .before .before .before .before .before .before .before .before .before .before .before in
+    omega (arith, start .pre .0 .sizes (start .args .i) (start .pre .1 .0 .1), start .pre .0 .sizes (loop .j) (omega arith))
+
+-- src/lib.rt:71:9
+consider-requires : tie.Need-consider-requires Inv-loop μ-loop
+consider-requires c κs = search needs
+
+-- src/lib.rt:72:9
+add-j : tie.Need-add-j Inv-loop μ-loop
+add-j c = search needs
+
+-- src/lib.rt:69:5
+loop-less : tie.Need-loop-less Inv-loop μ-loop
+loop-less c = search needs
+
+-- src/lib.rt:69:5
+loop-again : tie.Need-loop-again Inv-loop μ-loop
+loop-again c =
+    let loop = c .before .before .before .before .before .before .before .before .before .before .loop in (
+      search needs,
+      row-next _ _ _ _ _ _ _ (loop .j) _ (loop .b) (c .consider .result) _ _ _ (loop .inv .1)
+          (c .before .before .before .before .before .before .before .wide .ensures) (c .before .before .before .before .before .wide2 .ensures)
+          (c .before .before .before .before .cell .ensures) (c .consider .ensures),
+    )
+
+-- src/lib.rt:49:1
+returns : tie.Need-returns Inv-loop μ-loop
+returns c = row-done _ _ _ _ _ _ _ (c .before .loop .inv .0) (search needs) (c .before .loop .inv .1)
+
+pub row-spec : {M : Type 1} → statement M
+row-spec =
+    tie.close
+    (tie.spec
+    Inv-loop
+    μ-loop
+    loop-holds
+    element-copy-out-wide
+    wide-requires
+    element-copy-out-wide-2
+    wide-requires-2
+    cell-requires
+    element-copy-out-consider
+    mul-consider
+    element-copy-out-consider-2
+    mul-consider-2
+    element-copy-out-consider-3
+    add-consider
+    add-consider-2
+    consider-requires
+    add-j
+    loop-less
+    loop-again
+    returns)

@@ -1,0 +1,149 @@
+-- What the code's arrays stand for.
+use mathlib.Core.Path.{_≡_, refl, sym, ap, ap₂, subst, _∙_}
+use mathlib.Core.Logic.{_⊎_, inl, inr}
+use mathlib.Core.Bool.{Bool, true, false, not, _||_, cond, true≢false}
+use mathlib.Core.List.{List, [], _∷_}
+use Prim.Native.Nat.{ℕ, zero, suc, _+_, _*_, _≤_, _<_}
+use native.Mathlib.Omega.{arith}
+use native.Mathlib.Nat.{mul-le-mul-right}
+use native.Mathlib.Numerals.{add-one}
+use lib.Dec.{ltb, eqb}
+use borrow.Author.Tests.{eq-eqb, ne-eqb, lt-ltb, le-ltb, ltb-true, ltb-false, eqb-true, eqb-false}
+use lib.ListN.{length, getD}
+use Rattle.search.specs.declared.Pick.{Pick}
+use Rattle.logic.specs.Two.{one, two}
+use Rattle.logic.specs.Search.{Best, nothing, found, View, weight, lighter, choose, consider, loop}
+use Rattle.search.specs.Loops.{scanSecond, scanFirst, scanLabel, weight-two}
+
+unfoldable pub kept : Pick → ℕ → ℕ → ℕ → ℕ → ℕ → Pick
+kept p old w l i j = cond (eqb old 0) (cond (eqb (p .size) 0 || ltb w (p .size)) (record { size = w; label = l; first = i; second = j }) p) p
+
+module _ (p : Pick) (old w l i j : ℕ) where
+  pub kept-old : (old ≡ 0 → ⊥) → p ≡ kept p old w l i j
+  unfolding kept
+  kept-old h = rw (ne-eqb old 0 h)
+
+  pub kept-first : old ≡ 0 → p .size ≡ 0 → _≡_ {A = Pick} (record { size = w; label = l; first = i; second = j }) (kept p old w l i j)
+  unfolding kept
+  kept-first h e = rw (eq-eqb old 0 h, eq-eqb (p .size) 0 e)
+
+  pub kept-less : old ≡ 0 → (p .size ≡ 0 → ⊥) → w < p .size → _≡_ {A = Pick} (record { size = w; label = l; first = i; second = j }) (kept p old w l i j)
+  unfolding kept
+  kept-less h e k = rw (eq-eqb old 0 h, ne-eqb (p .size) 0 e, lt-ltb w (p .size) k)
+
+  pub kept-more : old ≡ 0 → (p .size ≡ 0 → ⊥) → p .size ≤ w → p ≡ kept p old w l i j
+  unfolding kept
+  kept-more h e k = rw (eq-eqb old 0 h, ne-eqb (p .size) 0 e, le-ltb w (p .size) k)
+
+-- the arrays, as a round reads them: c states to a row of the table
+unfoldable pub codeView : List ℕ → ℕ → List ℕ → List ℕ → List ℕ → View 2
+codeView table c done state size = record {
+  step = λ l s. getD table ((l * c + s one) * c + s two) 0;
+  old = λ q. not (eqb (getD done q 0) 0);
+  state = λ i. getD state i 0;
+  size = λ i. getD size i 0;
+}
+
+unfoldable pub bestOf : ℕ → ℕ → ℕ → ℕ → Best
+bestOf zero l i j = nothing
+bestOf (suc w) l i j = found l (i ∷ j ∷ [])
+
+unfoldable pub sizeOf : View 2 → Best → ℕ
+sizeOf v nothing = 0
+sizeOf v (found l is) = suc (weight v is)
+
+-- p stands for b
+pub record Held (v : View 2) (b : Best) (p : Pick) : Type 0 where
+  pub best : bestOf (p .size) (p .label) (p .first) (p .second) ≡ b
+  pub fair : p .size ≡ sizeOf v b
+
+module _ (v : View 2) (o l i j : ℕ) where
+  abbrev new : Pick
+  new = record { size = suc (v .size i + v .size j); label = l; first = i; second = j }
+
+  held-new : Held v (found l (i ∷ j ∷ [])) new
+  unfolding bestOf sizeOf
+  held-new = record { best = refl; fair = ap suc (sym (weight-two v i j)) }
+
+  held-choose : (b : Best) (p : Pick) → Held v b p → (x : Bool) → eqb o 0 ≡ x → (y : Bool) → lighter v (i ∷ j ∷ []) b ≡ y → Held v (choose (not x) y l (i ∷ j ∷ []) b) (kept p o (suc (v .size i + v .size j)) l i j)
+  unfolding choose lighter sizeOf
+  held-choose b p h false e y f = subst (Held v b) (kept-old p o (suc (v .size i + v .size j)) l i j (eqb-false o 0 e)) h
+  held-choose nothing p h true e true f = subst (Held v (found l (i ∷ j ∷ []))) (kept-first p o (suc (v .size i + v .size j)) l i j (eqb-true o 0 e) (h .fair)) held-new
+  held-choose nothing p h true e false f = absurd (true≢false f)
+  held-choose (found l′ is′) p h true e true f =
+      subst (Held v (found l (i ∷ j ∷ []))) (kept-less p o (suc (v .size i + v .size j)) l i j (eqb-true o 0 e) (λ z. omega (arith, h .fair)) (omega (arith, h .fair, weight-two v i j, ltb-true (weight v (i ∷ j ∷ [])) (weight v is′) f))) held-new
+  held-choose (found l′ is′) p h true e false f =
+      subst (Held v (found l′ is′)) (kept-more p o (suc (v .size i + v .size j)) l i j (eqb-true o 0 e) (λ z. omega (arith, h .fair)) (omega (arith, h .fair, weight-two v i j, ltb-false (weight v (i ∷ j ∷ [])) (weight v is′) f))) h
+
+-- one turn of the inner loop
+pub held-consider : (table : List ℕ) (c : ℕ) (done state size : List ℕ) (l i j : ℕ) (b : Best) (p : Pick) → Held (codeView table c done state size) b p
+    → Held (codeView table c done state size) (consider (codeView table c done state size) l (i ∷ j ∷ []) b)
+    (kept p (getD done (getD table ((l * c + getD state i 0) * c + getD state j 0) 0) 0) (suc (getD size i 0 + getD size j 0)) l i j)
+unfolding consider codeView
+held-consider table c done state size l i j b p h =
+    let v : View 2 = codeView table c done state size in
+    let o : ℕ = getD done (getD table ((l * c + getD state i 0) * c + getD state j 0) 0) 0 in
+    held-choose v o l i j b p h (eqb o 0) refl (lighter v (i ∷ j ∷ []) b) refl
+
+-- the arrays are as they should be: n settled trees, of states below a bound under which the steps stay, each of at most 255 positions
+pub record Ready (labels : ℕ) (table : List ℕ) (c : ℕ) (state size : List ℕ) (n : ℕ) : Type 0 where
+  pub few : c ≤ 64
+  pub whole : labels * c * c ≤ length table
+  pub bound : ℕ
+  pub within : bound ≤ c
+  pub steps : (l a b : ℕ) → l < labels → a < bound → b < bound → getD table ((l * c + a) * c + b) 0 < bound
+  pub settled-few : n ≤ 64
+  pub states : (i : ℕ) → i < n → getD state i 0 < bound
+  pub sizes : (i : ℕ) → i < n → getD size i 0 ≤ 255
+
+-- the place of a step in the table
+pair-lt : (x n y c : ℕ) → x < n → y < c → x * c + y < n * c
+pair-lt x n y c h k = omega (arith, mul-le-mul-right c h)
+
+pub cell-lt : (labels c l a b : ℕ) → l < labels → a < c → b < c → (l * c + a) * c + b < labels * c * c
+cell-lt labels c l a b h k m = pair-lt (l * c + a) (labels * c) b c (pair-lt l labels a c h k) m
+
+pub line-le : (x c b : ℕ) → b < c → x ≤ x * c + b
+line-le x zero b h = omega arith
+line-le x (suc c) b h = omega arith
+
+-- One turn of the inner loop, as the code takes it.
+pub row-next : (table : List ℕ) (c : ℕ) (done state size : List ℕ) (l i j : ℕ) (b : Best) (p r : Pick) (x y q : ℕ)
+    → Held (codeView table c done state size) (scanSecond (codeView table c done state size) l i j b) p
+    → x ≡ getD state i 0 → y ≡ getD state j 0 → q ≡ getD table ((l * c + x) * c + y) 0
+    → r ≡ kept p (getD done q 0) (getD size i 0 + getD size j 0 + 1) l i j
+    → Held (codeView table c done state size) (scanSecond (codeView table c done state size) l i (j + 1) b) r
+unfolding scanSecond loop
+row-next table c done state size l i j b p r x y q h ex ey eq er =
+    rw (er, eq, ex, ey, add-one j, add-one (getD size i 0 + getD size j 0)) (held-consider table c done state size l i j (scanSecond (codeView table c done state size) l i j b) p h)
+
+pub row-done : (v : View 2) (l i j n : ℕ) (b : Best) (r : Pick) → j ≤ n → n ≤ j → Held v (scanSecond v l i j b) r → Held v (scanSecond v l i n b) r
+row-done v l i j n b r p q h = subst (λ (k : ℕ). Held v (scanSecond v l i k b) r) (omega arith) h
+
+-- what is held is fair by itself
+pub held-self : {v : View 2} {b : Best} {p : Pick} → Held v b p → Held v (bestOf (p .size) (p .label) (p .first) (p .second)) p
+held-self {v} {b} {p} h = rw (h .best) h
+
+pub rows-next : (v : View 2) (n l i : ℕ) (b : Best) (p r : Pick) → Held v (scanFirst v n l i b) p
+    → Held v (scanSecond v l i n (bestOf (p .size) (p .label) (p .first) (p .second))) r → Held v (scanFirst v n l (i + 1) b) r
+unfolding scanFirst loop
+rows-next v n l i b p r h k = rw (add-one i) (rw (h .best) at k)
+
+pub rows-done : (v : View 2) (n l i : ℕ) (b : Best) (r : Pick) → i ≤ n → n ≤ i → Held v (scanFirst v n l i b) r → Held v (scanFirst v n l n b) r
+rows-done v n l i b r p q h = subst (λ (k : ℕ). Held v (scanFirst v n l k b) r) (omega arith) h
+
+pub pick-first : (v : View 2) (n : ℕ) → Held v (scanLabel v n 0 nothing) (record { size = 0; label = 0; first = 0; second = 0 })
+unfolding scanLabel loop bestOf sizeOf
+pick-first v n = record { best = refl; fair = refl }
+
+pub pick-next : (v : View 2) (n l : ℕ) (b : Best) (p r : Pick) → Held v (scanLabel v n l b) p
+    → Held v (scanFirst v n l n (bestOf (p .size) (p .label) (p .first) (p .second))) r → Held v (scanLabel v n (l + 1) b) r
+unfolding scanLabel loop
+pick-next v n l b p r h k = rw (add-one l) (rw (h .best) at k)
+
+pub pick-done : (v : View 2) (n l labels : ℕ) (b : Best) (r : Pick) → l ≤ labels → labels ≤ l → Held v (scanLabel v n l b) r → Held v (scanLabel v n labels b) r
+pick-done v n l labels b r p q h = subst (λ (k : ℕ). Held v (scanLabel v n k b) r) (omega arith) h
+
+pub ready-steps : {labels : ℕ} {table : List ℕ} {c : ℕ} {state size : List ℕ} {n : ℕ} (v : Ready labels table c state size n) (l a b : ℕ) → l < labels → a < v .bound → b < v .bound
+    → getD table ((l * c + a) * c + b) 0 < 64
+ready-steps v l a b hl ha hb = omega (arith, v .steps l a b hl ha hb, v .within, v .few)

@@ -1,0 +1,272 @@
+ghost use Rattle.search.specs.Arrays.{Whole, acceptsOf, machineIn, settling, Ended, tableIn};
+// The scan of one round, over byte arrays.
+ghost use mathlib.Core.Path.{_≡_};
+ghost use Prim.Native.Nat.{ℕ, _+_, _*_, _<_, _≤_};
+ghost use lib.ListN.{length, getD};
+ghost use Rattle.search.specs.Code.{kept, Ready, Held, codeView, bestOf};
+ghost use Rattle.logic.specs.Search.{nothing, anyBelow, search};
+ghost use Rattle.search.specs.Loops.{scanSecond, scanFirst, scanLabel};
+
+// The best candidate so far: its positions, or 0 for none; its label and the ranks of its branches.
+pub struct Pick {
+    pub size: u64,
+    pub label: usize,
+    pub first: usize,
+    pub second: usize,
+}
+
+// A candidate of w positions, for a state that is settled already unless `old` is 0.
+pub fn consider(best: Pick, old: u8, w: u64, l: usize, i: usize, j: usize) -> Pick
+    ensures { λ r. ⌜ r ≡ kept best old w l i j ⌝ }
+{
+    if old != 0 {
+        return best;
+    }
+    let size = best.size;
+    if size == 0 {
+        return Pick {
+            size: w,
+            label: l,
+            first: i,
+            second: j,
+        };
+    }
+    if w < size {
+        return Pick {
+            size: w,
+            label: l,
+            first: i,
+            second: j,
+        };
+    }
+    best
+}
+
+fn wide(x: u8) -> usize
+    ensures { λ r. ⌜ r ≡ x ⌝ }
+{
+    x as usize
+}
+
+// The step: of c × c states to a label.
+fn cell(labels: usize, table: &[u8], c: usize, l: usize, a: usize, b: usize) -> usize
+    requires { do ⌜ labels * c * c ≤ (← ⟦table.len()⟧) ⌝ }
+    requires { ⌜ (l < labels) × (a < c) × (b < c) ⌝ }
+    ensures { λ r. ⌜ r ≡ getD (now (table .entry)) ((l * c + a) * c + b) 0 ⌝ }
+{
+    wide(table[(l * c + a) * c + b])
+}
+
+// The inner loop: the label l, the first branch of rank i, second branches of all ranks.
+pub fn row(
+    labels: usize,
+    table: &[u8],
+    c: usize,
+    done: &[u8; 64],
+    state: &[u8; 64],
+    size: &[u64; 64],
+    n: usize,
+    l: usize,
+    i: usize,
+    best: Pick,
+) -> Pick
+    requires { ⌜ Ready labels (now table) c (now state) (now size) n ⌝ }
+    requires { ⌜ (l < labels) × (i < n) ⌝ }
+    requires { ⌜ Held (codeView (now table) c (now done) (now state) (now size)) (bestOf (best .size) (best .label) (best .first) (best .second)) best ⌝ }
+    ensures { λ r. ⌜ Held (codeView (now (table .entry)) c (now (done .entry)) (now (state .entry)) (now (size .entry)))
+        (scanSecond (codeView (now (table .entry)) c (now (done .entry)) (now (state .entry)) (now (size .entry))) l i n (bestOf (best .size) (best .label) (best .first) (best .second))) r ⌝ }
+{
+    let mut b = best;
+    let mut j: usize = 0;
+    while j < n {
+        let q = cell(labels, table, c, l, wide(state[i]), wide(state[j]));
+        b = consider(b, done[q], size[i] + size[j] + 1, l, i, j);
+        j += 1;
+    }
+    b
+}
+
+// The middle loop: the label l, first branches of all ranks.
+pub fn rows(
+    labels: usize,
+    table: &[u8],
+    c: usize,
+    done: &[u8; 64],
+    state: &[u8; 64],
+    size: &[u64; 64],
+    n: usize,
+    l: usize,
+    best: Pick,
+) -> Pick
+    requires { ⌜ Ready labels (now table) c (now state) (now size) n ⌝ }
+    requires { ⌜ l < labels ⌝ }
+    requires { ⌜ Held (codeView (now table) c (now done) (now state) (now size)) (bestOf (best .size) (best .label) (best .first) (best .second)) best ⌝ }
+    ensures { λ r. ⌜ Held (codeView (now (table .entry)) c (now (done .entry)) (now (state .entry)) (now (size .entry)))
+        (scanFirst (codeView (now (table .entry)) c (now (done .entry)) (now (state .entry)) (now (size .entry))) n l n (bestOf (best .size) (best .label) (best .first) (best .second))) r ⌝ }
+{
+    let mut b = best;
+    let mut i: usize = 0;
+    while i < n {
+        b = row(labels, table, c, done, state, size, n, l, i, b);
+        i += 1;
+    }
+    b
+}
+
+// The outer loop: all labels.
+pub fn scan(
+    labels: usize,
+    table: &[u8],
+    c: usize,
+    done: &[u8; 64],
+    state: &[u8; 64],
+    size: &[u64; 64],
+    n: usize,
+) -> Pick
+    requires { ⌜ Ready labels (now table) c (now state) (now size) n ⌝ }
+    ensures { λ r. ⌜ Held (codeView (now (table .entry)) c (now (done .entry)) (now (state .entry)) (now (size .entry)))
+        (scanLabel (codeView (now (table .entry)) c (now (done .entry)) (now (state .entry)) (now (size .entry))) n labels nothing) r ⌝ }
+{
+    let mut b = Pick {
+        size: 0,
+        label: 0,
+        first: 0,
+        second: 0,
+    };
+    let mut l: usize = 0;
+    while l < labels {
+        b = rows(labels, table, c, done, state, size, n, l, b);
+        l += 1;
+    }
+    b
+}
+
+fn narrow(x: usize) -> u8
+    requires { ⌜ x < 256 ⌝ }
+    ensures { λ r. ⌜ r ≡ x ⌝ }
+{
+    x as u8
+}
+
+// How the rounds ended: kind 0 none, 1 larger, 2 shown, the tree of rank n - 1, with each rank's label and branches.
+pub struct Found {
+    pub kind: u8,
+    pub n: usize,
+    pub label: [usize; 64],
+    pub first: [usize; 64],
+    pub second: [usize; 64],
+}
+
+// The rounds, for a machine that accepts something.
+pub fn settle(
+    labels: usize,
+    table: &[u8],
+    c: usize,
+    count: usize,
+    accept: &[u8; 64],
+    p: u64,
+) -> Found
+    requires { ⌜ Whole labels (now table) c count p ⌝ }
+    ensures { λ r. ⌜ Ended (settling labels (machineIn (now (table .entry)) c (now (accept .entry))) count p) (r .kind) (r .n) (r .label) (r .first) (r .second) ⌝ }
+{
+    let mut done = [0u8; 64];
+    let mut state = [0u8; 64];
+    let mut size = [0u64; 64];
+    let mut label = [0usize; 64];
+    let mut first = [0usize; 64];
+    let mut second = [0usize; 64];
+    done[0] = 1;
+    let mut n: usize = 1;
+    if accept[0] != 0 {
+        return Found {
+            kind: 2,
+            n: n,
+            label: label,
+            first: first,
+            second: second,
+        };
+    }
+    while n < count {
+        let b = scan(labels, table, c, &done, &state, &size, n);
+        let w = b.size;
+        if w == 0 {
+            return Found {
+                kind: 0,
+                n: n,
+                label: label,
+                first: first,
+                second: second,
+            };
+        }
+        if p < w {
+            return Found {
+                kind: 1,
+                n: n,
+                label: label,
+                first: first,
+                second: second,
+            };
+        }
+        let l = b.label;
+        let i = b.first;
+        let j = b.second;
+        let q = cell(labels, table, c, l, wide(state[i]), wide(state[j]));
+        label[n] = l;
+        first[n] = i;
+        second[n] = j;
+        state[n] = narrow(q);
+        size[n] = w;
+        done[q] = 1;
+        n += 1;
+        if accept[q] != 0 {
+            return Found {
+                kind: 2,
+                n: n,
+                label: label,
+                first: first,
+                second: second,
+            };
+        }
+    }
+    Found {
+        kind: 0,
+        n: n,
+        label: label,
+        first: first,
+        second: second,
+    }
+}
+
+// Does a state below count accept?
+fn any(accept: &[u8; 64], count: usize) -> bool
+    requires { ⌜ count ≤ 64 ⌝ }
+    ensures { λ r. ⌜ r ≡ anyBelow (acceptsOf (now (accept .entry))) count ⌝ }
+{
+    let mut r = false;
+    let mut q: usize = 0;
+    while q < count {
+        if accept[q] != 0 {
+            r = true;
+        }
+        q += 1;
+    }
+    r
+}
+
+// The whole search: the contract is an equation with the definition.
+pub fn find(labels: usize, table: &[u8], c: usize, count: usize, accept: &[u8; 64], p: u64) -> Found
+    requires { ⌜ Whole labels (now table) c count p ⌝ }
+    ensures { λ r. ⌜ Ended (search labels (tableIn (now (table .entry)) c (now (accept .entry)) count) p) (r .kind) (r .n) (r .label) (r .first) (r .second) ⌝ }
+{
+    if any(accept, count) {
+        return settle(labels, table, c, count, accept, p);
+    }
+    let zero = [0usize; 64];
+    Found {
+        kind: 0,
+        n: 1,
+        label: zero,
+        first: zero,
+        second: zero,
+    }
+}
