@@ -1,5 +1,6 @@
 // Fields of bits in a byte slice, most significant first.
 ghost use mathlib.Core.Path.{_≡_};
+ghost use mathlib.Core.List.{_++_};
 ghost use Prim.Native.Nat.{ℕ, _+_, _*_, _<_, _≤_, _^_};
 ghost use lib.ListN.{length, getD, set, take, drop, replicate};
 ghost use lib.Seq.{sets};
@@ -69,4 +70,16 @@ pub fn field_at(s: &[u8], at: usize, b: usize) -> u64
         lo = wide(s[i + 1]);
     }
     ((hi * 256 + lo) >> (16 - at % 8 - b)) % (1 << b)
+}
+
+// The first n bytes are made 0.
+pub fn clear(d: &mut [u8], n: usize)
+    requires { ⌜ n ≤ length (now d) ⌝ }
+    ensures { λ _. ⌜ now (d .exit) ≡ replicate n 0 ++ drop n (now (d .entry)) ⌝ }
+{
+    let mut i = 0;
+    while i < n {
+        d[i] = 0;
+        i += 1;
+    }
 }

@@ -1,0 +1,77 @@
+-- The bits of the tree of a rank, by those of its branches; and a run of stores at a place that holds zeros. Assumes nothing.
+use mathlib.Core.Path.{_≡_, refl, sym, ap, ap₂, _∙_}
+use mathlib.Core.Logic.{_⊎_, inl, inr, ⊎-elim}
+use mathlib.Core.List.{List, [], _∷_, _++_}
+use Prim.Native.Nat.{ℕ, zero, suc, _+_, _-_, _*_, _≤_, _<_}
+use native.Mathlib.Nat.{not-suc-le-zero, eq-or-lt-of-le, le-of-suc-le-suc}
+use native.Mathlib.Omega.{arith}
+use lib.ListN.{length, getD, set, length-append, List·getD-append}
+use lib.Seq.{sets, set-getD, getD-append-seam}
+use Rattle.logic.specs.Tree.{Tree, empty, node}
+use Rattle.logic.specs.Search.{at, candidate}
+use Rattle.strip.specs.Bits.{digits}
+use Rattle.strip.specs.TreeStrip.{treeBits}
+use Rattle.strip.proofs.Fields.{sets-after, length-digits}
+use Rattle.search.specs.Arrays.{treeAt, decode, decode-length, Backs}
+use Rattle.search.specs.Ranks.{treeOfRank, Clear}
+
+pub sets-append : (l : List ℕ) (at : ℕ) (xs ys : List ℕ) → sets l at (xs ++ ys) ≡ sets (sets l at xs) (at + length xs) ys
+sets-append l at [] ys = let e : at + 0 ≡ at = omega arith in rw e refl
+sets-append l at (x ∷ xs) ys = let e : at + suc (length xs) ≡ suc at + length xs = omega arith in rw e (sets-append (set l at x) (suc at) xs ys)
+
+pub clear-after : (l l′ : List ℕ) (at m : ℕ) (vs : List ℕ) → l′ ≡ sets l at vs → Clear l at → m ≡ at + length vs → Clear l′ m
+clear-after l l′ at m vs e z q k h = rw e (sets-after l at vs k (omega arith) ∙ z k (omega arith))
+
+-- an empty tree is a 0 that stands there already
+pub empty-stands : (l : List ℕ) (at : ℕ) (vs : List ℕ) → vs ≡ 0 ∷ [] → Clear l at → (at + 1 ≡ at + length vs) × (l ≡ sets l at vs)
+empty-stands l at vs e z = rw e (refl, sym (ap (set l at) (sym (z at (omega arith))) ∙ set-getD l at 0))
+
+-- the head of a node, and its two branches after it
+pub three : (l₀ l₁ l₂ l₃ : List ℕ) (at m a : ℕ) (xs ys zs : List ℕ)
+    → l₁ ≡ sets l₀ at xs → l₂ ≡ sets l₁ m ys → l₃ ≡ sets l₂ a zs → m ≡ at + length xs → a ≡ m + length ys → l₃ ≡ sets l₀ at (xs ++ (ys ++ zs))
+three l₀ l₁ l₂ l₃ at m a xs ys zs p q r e f =
+    r ∙ rw (f, q, e, p) (sym (sets-append l₀ at xs (ys ++ zs) ∙ sets-append (sets l₀ at xs) (at + length xs) ys zs))
+
+module _ (label first second : List ℕ) where
+  -- a rank's tree does not change as further trees are settled
+  more : (i n : ℕ) → i < n → at (decode label first second (suc n)) i ≡ at (decode label first second n) i
+  unfolding decode
+  more i n h = List·getD-append (decode label first second n) _ empty i (let e = decode-length label first second n in omega arith)
+
+  keep : (m i n : ℕ) → i < n → at (decode label first second (n + m)) i ≡ at (decode label first second n) i
+  keep zero i n h = let e : n + 0 ≡ n = omega arith in rw e refl
+  keep (suc m) i n h = let e : n + suc m ≡ suc (n + m) = omega arith in rw e (more i (n + m) (omega arith) ∙ keep m i n h)
+
+  kept : (i n count : ℕ) → i < n → n ≤ count → treeOfRank label first second count i ≡ treeOfRank label first second n i
+  kept i n count h k = let e : count ≡ n + (count - n) = omega arith in ap (λ (m : ℕ). treeOfRank label first second m i) e ∙ keep (count - n) i n h
+
+  own : (i : ℕ) → treeOfRank label first second (suc i) i ≡ treeAt label first second (decode label first second i) i
+  unfolding decode
+  own i =
+      ap (λ (j : ℕ). at (decode label first second i ++ (treeAt label first second (decode label first second i) i ∷ [])) j) (sym (decode-length label first second i))
+      ∙ getD-append-seam (decode label first second i) (treeAt label first second (decode label first second i) i) [] empty
+
+  pub rank-zero : (v count r : ℕ) → r ≡ 0 → 0 < count → treeBits v (treeOfRank label first second count r) ≡ 0 ∷ []
+  unfolding treeBits treeAt
+  rank-zero v count r e h = rw e (ap (treeBits v) (kept 0 1 count (omega arith) h ∙ own 0))
+
+  pub rank-node : (v count r : ℕ) → (r ≡ 0 → ⊥) → r < count → Backs count first second
+      → treeBits v (treeOfRank label first second count r)
+      ≡ (1 ∷ digits v (getD label r 0)) ++ (treeBits v (treeOfRank label first second count (getD first r 0)) ++ treeBits v (treeOfRank label first second count (getD second r 0)))
+  unfolding treeBits treeAt
+  rank-node v count zero z h b = absurd (z refl)
+  rank-node v count (suc r) z h b =
+      let w = b (suc r) (omega arith) h in
+      ap (treeBits v) (kept (suc r) (suc (suc r)) count (omega arith) h ∙ own (suc r))
+      ∙ ap₂ (λ (t u : Tree 2). 1 ∷ (digits v (getD label (suc r) 0) ++ (treeBits v t ++ treeBits v u)))
+          (sym (kept (getD first (suc r) 0) (suc r) count (w .0) (omega arith))) (sym (kept (getD second (suc r) 0) (suc r) count (w .1) (omega arith)))
+
+  pub rank-length : (v count r : ℕ) → (r ≡ 0 → ⊥) → r < count → Backs count first second
+      → length (treeBits v (treeOfRank label first second count r))
+      ≡ 1 + v + length (treeBits v (treeOfRank label first second count (getD first r 0))) + length (treeBits v (treeOfRank label first second count (getD second r 0)))
+  rank-length v count r z h b =
+      let xs : List ℕ = digits v (getD label r 0) in
+      let ys : List ℕ = treeBits v (treeOfRank label first second count (getD first r 0)) in
+      let zs : List ℕ = treeBits v (treeOfRank label first second count (getD second r 0)) in
+      let p = length-append xs (ys ++ zs) in let q = length-append ys zs in let d = length-digits v (getD label r 0) in
+      ap length (rank-node v count r z h b) ∙ omega arith

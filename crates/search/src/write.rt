@@ -1,0 +1,48 @@
+// The tree strip of a settled tree, written by following the ranks of its branches down.
+ghost use mathlib.Core.Path.{_≡_};
+ghost use mathlib.Core.List.{_∷_};
+ghost use Prim.Native.Nat.{ℕ, _+_, _*_, _<_, _≤_};
+ghost use lib.ListN.{length, getD};
+ghost use lib.Seq.{sets};
+ghost use Rattle.logic.specs.Tree.{positions};
+ghost use Rattle.strip.specs.Bits.{bits, digits};
+ghost use Rattle.strip.specs.TreeStrip.{treeBits, treeStrip, treeBytes};
+ghost use Rattle.search.specs.Arrays.{Backs};
+ghost use Rattle.search.specs.Ranks.{treeOfRank, Clear};
+
+// A node bit and a label of n bits, at a place that holds zeros.
+fn put_node(d: &mut [u8], at: usize, n: usize, label: usize)
+    requires { ⌜ (n ≤ 8) × (length (now d) ≤ 4096) × (at + 1 + n ≤ 8 * length (now d)) ⌝ }
+    requires { ⌜ Clear (bits (now d)) at ⌝ }
+    ensures { λ _. ⌜ bits (now (d .exit)) ≡ sets (bits (now (d .entry))) at (1 ∷ digits n label) ⌝ }
+{
+    strip::bits::set_bit(d, at);
+    strip::bits::put_field(d, at + 1, n, label as u64);
+}
+
+// The bits of the tree of rank r, at a place that holds zeros; the place after them.
+pub fn write_tree(
+    d: &mut [u8],
+    at: usize,
+    n: usize,
+    label: &[usize; 64],
+    first: &[usize; 64],
+    second: &[usize; 64],
+    count: usize,
+    r: usize,
+) -> usize
+    requires { ⌜ (n ≤ 8) × (r < count) × (count ≤ 64) × (length (now d) ≤ 4096) ⌝ }
+    requires { ⌜ Backs count (now first) (now second) ⌝ }
+    requires { ⌜ at + length (treeBits n (treeOfRank (now label) (now first) (now second) count r)) ≤ 8 * length (now d) ⌝ }
+    requires { ⌜ Clear (bits (now d)) at ⌝ }
+    ensures { λ e. ⌜ e ≡ at + length (treeBits n (treeOfRank (now (label .entry)) (now (first .entry)) (now (second .entry)) count r)) ⌝ }
+    ensures { λ e. ⌜ bits (now (d .exit))
+        ≡ sets (bits (now (d .entry))) at (treeBits n (treeOfRank (now (label .entry)) (now (first .entry)) (now (second .entry)) count r)) ⌝ }
+{
+    if r == 0 {
+        return at + 1;
+    }
+    put_node(d, at, n, label[r]);
+    let next = write_tree(d, at + 1 + n, n, label, first, second, count, first[r]);
+    write_tree(d, next, n, label, first, second, count, second[r])
+}
