@@ -64,7 +64,7 @@ module _ (label first second : List ℕ) where
       let w = b (suc r) (omega arith) h in
       ap (treeBits v) (kept (suc r) (suc (suc r)) count (omega arith) h ∙ own (suc r))
       ∙ ap₂ (λ (t u : Tree 2). 1 ∷ (digits v (getD label (suc r) 0) ++ (treeBits v t ++ treeBits v u)))
-          (sym (kept (getD first (suc r) 0) (suc r) count (w .0) (omega arith))) (sym (kept (getD second (suc r) 0) (suc r) count (w .1) (omega arith)))
+      (sym (kept (getD first (suc r) 0) (suc r) count (w .0) (omega arith))) (sym (kept (getD second (suc r) 0) (suc r) count (w .1) (omega arith)))
 
   pub rank-length : (v count r : ℕ) → (r ≡ 0 → ⊥) → r < count → Backs count first second
       → length (treeBits v (treeOfRank label first second count r))

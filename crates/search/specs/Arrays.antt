@@ -223,9 +223,10 @@ answerOf (suc (suc k)) n label first second = tree (at (decode label first secon
 abbrev pub Backs : ℕ → List ℕ → List ℕ → Type 0
 Backs n first second = (i : ℕ) → 0 < i → i < n → (getD first i 0 < i) × (getD second i 0 < i)
 
--- How the rounds end: with the answer x, and with ranks that a writer can follow down.
-pub record Ended (x : Sought 2) (kind n : ℕ) (label first second : List ℕ) : Type 0 where
+-- How the rounds end: with the answer x and the positions of the tree shown, and with ranks that a writer can follow down.
+pub record Ended (x : Sought 2) (kind n size : ℕ) (label first second : List ℕ) : Type 0 where
   pub answer : answerOf kind n label first second ≡ x
+  pub counted : (t : Tree 2) → x ≡ tree t → size ≡ positions t
   pub back : Backs n first second
   pub low : 0 < n
   pub high : n ≤ 64
@@ -245,6 +246,13 @@ pub record Round (labels : ℕ) (table : List ℕ) (c count : ℕ) (accept : Lis
   pub light : (i : ℕ) → getD size i 0 ≤ P
   pub back : Backs n first second
   pub ahead : rounds labels (machineIn table c accept) P (count - n) (decode label first second n) ≡ settling labels (machineIn table c accept) count P
+
+-- an answer of kind 0 or 1 shows no tree
+unseen : (n : ℕ) (label first second : List ℕ) (kind : ℕ) → kind < 2 → (t : Tree 2) → answerOf kind n label first second ≡ tree t → ⊥
+unfolding answerOf
+unseen n label first second zero h t e = let z : _≡_ {A = ℕ} 0 1 = cc in omega arith
+unseen n label first second (suc zero) h t e = let z : _≡_ {A = ℕ} 0 1 = cc in omega arith
+unseen n label first second (suc (suc kind)) h t e = absurd (omega arith)
 
 module _ (labels : ℕ) (table : List ℕ) (c count : ℕ) (accept : List ℕ) (P : ℕ) (wh : Whole labels table c count P) where
   abbrev goal : Sought 2
@@ -268,9 +276,9 @@ module _ (labels : ℕ) (table : List ℕ) (c count : ℕ) (accept : List ℕ) (
     ahead = rw (eq-eqb (getD accept 0 0) 0 e);
   }
 
-  pub shown-first : (getD accept 0 0 ≡ 0 → ⊥) → Ended goal 2 1 (replicate 64 0) (replicate 64 0) (replicate 64 0)
-  unfolding decode treeAt settling begin answerOf
-  shown-first h = record { answer = rw (ne-eqb (getD accept 0 0) 0 h); back = λ i h k. absurd (omega arith); low = omega arith; high = omega arith }
+  pub shown-first : (getD accept 0 0 ≡ 0 → ⊥) → Ended goal 2 1 0 (replicate 64 0) (replicate 64 0) (replicate 64 0)
+  unfolding decode treeAt settling begin answerOf positions
+  shown-first h = record { answer = rw (ne-eqb (getD accept 0 0) 0 h); counted = λ t e. let z : tree empty ≡ tree t = rw (ne-eqb (getD accept 0 0) 0 h) at e in let y : empty ≡ t = cc in ap positions y; back = λ i h k. absurd (omega arith); low = omega arith; high = omega arith }
 
   module _ (done state size label first second : List ℕ) (n : ℕ) (v : Round labels table c count accept P done state size label first second n) where
     abbrev s : List (Tree 2)
@@ -292,12 +300,12 @@ module _ (labels : ℕ) (table : List ℕ) (c count : ℕ) (accept : List ℕ) (
     }
 
     -- an end that adds no rank
-    ended : (kind : ℕ) → answerOf kind n label first second ≡ goal → Ended goal kind n label first second
-    ended kind e = record { answer = e; back = v .back; low = v .low; high = omega (arith, v .high, wh .within, wh .few) }
+    ended : (kind : ℕ) → kind < 2 → answerOf kind n label first second ≡ goal → Ended goal kind n 0 label first second
+    ended kind h e = record { answer = e; counted = λ t f. absurd (unseen n label first second kind h t (e ∙ f)); back = v .back; low = v .low; high = omega (arith, v .high, wh .within, wh .few) }
 
-    pub round-end : count ≤ n → Ended goal 0 n label first second
+    pub round-end : count ≤ n → Ended goal 0 n 0 label first second
     unfolding answerOf rounds
-    round-end h = ended 0 (let e : count - n ≡ 0 = omega arith in subst (λ (m : ℕ). rounds labels M P m s ≡ goal) e (v .ahead))
+    round-end h = ended 0 (omega arith) (let e : count - n ≡ 0 = omega arith in subst (λ (m : ℕ). rounds labels M P m s ≡ goal) e (v .ahead))
 
     go : List (Tree 2) → Sought 2
     go = rounds labels M P (count - suc n)
@@ -312,9 +320,9 @@ module _ (labels : ℕ) (table : List ℕ) (c count : ℕ) (accept : List ℕ) (
           let e : count - n ≡ suc (count - suc n) = omega arith in
           rw (held .best) (subst (λ (m : ℕ). rounds labels M P m s ≡ goal) e (v .ahead))
 
-      pub round-none : r .size ≡ 0 → Ended goal 0 n label first second
+      pub round-none : r .size ≡ 0 → Ended goal 0 n 0 label first second
       unfolding answerOf bestOf next
-      round-none e = ended 0 (rw e at round-next)
+      round-none e = ended 0 (omega arith) (rw e at round-next)
 
       round-found : (r .size ≡ 0 → ⊥) → bestOf (r .size) (r .label) (r .first) (r .second) ≡ found (r .label) (r .first ∷ r .second ∷ [])
       unfolding bestOf
@@ -346,9 +354,9 @@ module _ (labels : ℕ) (table : List ℕ) (c count : ℕ) (accept : List ℕ) (
         unfolding next
         verdict-is = rw (round-found z) at round-next
 
-        pub round-larger : P < r .size → Ended goal 1 n label first second
+        pub round-larger : P < r .size → Ended goal 1 n 0 label first second
         unfolding verdict answerOf
-        round-larger p = ended 1 (rw (lt-ltb P (positions t) (rw (← size-is) p)) at verdict-is)
+        round-larger p = ended 1 (omega arith) (rw (lt-ltb P (positions t) (rw (← size-is) p)) at verdict-is)
 
         abbrev q : ℕ
         q = run M t
@@ -386,9 +394,10 @@ module _ (labels : ℕ) (table : List ℕ) (c count : ℕ) (accept : List ℕ) (
         ]
 
         pub round-shown′ : (q′ : ℕ) → q′ ≡ q → r .size ≤ P → (getD accept q′ 0 ≡ 0 → ⊥)
-            → Ended goal 2 (n + 1) (set label n (r .label)) (set first n (r .first)) (set second n (r .second))
+            → Ended goal 2 (n + 1) (r .size) (set label n (r .label)) (set first n (r .first)) (set second n (r .second))
         unfolding answerOf
         round-shown′ q′ e p a = record {
+          counted = λ u f. let y : tree t ≡ tree u = round-shown p (λ z. a (rw e z)) ∙ f in let z : t ≡ u = cc in size-is ∙ ap positions z;
           back = rw (add-one n) grown-back;
           low = omega arith;
           high = omega (arith, wh .within, wh .few);
@@ -434,14 +443,14 @@ pub some-off : (accept : List ℕ) (q : ℕ) (r : Bool) → r ≡ anyBelow (acce
 unfolding anyBelow
 some-off accept q r e h = rw (add-one q) (rw (eq-eqb (getD accept q 0) 0 h) e)
 
-pub find-some : (labels : ℕ) (M : Machine 2 ℕ) (count P : ℕ) (kind n : ℕ) (label first second : List ℕ) → true ≡ anyBelow (M .accepting) count
-    → Ended (settling labels M count P) kind n label first second → Ended (search labels (record { count = count; machine = M }) P) kind n label first second
+pub find-some : (labels : ℕ) (M : Machine 2 ℕ) (count P : ℕ) (kind n size : ℕ) (label first second : List ℕ) → true ≡ anyBelow (M .accepting) count
+    → Ended (settling labels M count P) kind n size label first second → Ended (search labels (record { count = count; machine = M }) P) kind n size label first second
 unfolding search settling
-find-some labels M count P kind n label first second e h = rw (← e) h
+find-some labels M count P kind n size label first second e h = rw (← e) h
 
-pub find-none : (labels : ℕ) (M : Machine 2 ℕ) (count P : ℕ) (label first second : List ℕ) → false ≡ anyBelow (M .accepting) count → Ended (search labels (record { count = count; machine = M }) P) 0 1 label first second
+pub find-none : (labels : ℕ) (M : Machine 2 ℕ) (count P : ℕ) (label first second : List ℕ) → false ≡ anyBelow (M .accepting) count → Ended (search labels (record { count = count; machine = M }) P) 0 1 0 label first second
 unfolding search begin answerOf
-find-none labels M count P label first second e = record { answer = rw (← e); back = λ i h k. absurd (omega arith); low = omega arith; high = omega arith }
+find-none labels M count P label first second e = record { answer = rw (← e); counted = λ t f. absurd (let y : absent ≡ tree t = rw (← e) at f in let z : _≡_ {A = ℕ} 0 1 = cc in omega arith); back = λ i h k. absurd (omega arith); low = omega arith; high = omega arith }
 
 pub any-done : (accepts : ℕ → Bool) (q count : ℕ) (r : Bool) → q ≤ count → count ≤ q → r ≡ anyBelow accepts q → r ≡ anyBelow accepts count
 any-done accepts q count r h k e = let z : q ≡ count = omega arith in e ∙ ap (anyBelow accepts) z

@@ -151,10 +151,11 @@ fn narrow(x: usize) -> u8
     x as u8
 }
 
-// How the rounds ended: kind 0 none, 1 larger, 2 shown, the tree of rank n - 1, with each rank's label and branches.
+// How the rounds ended: kind 0 none, 1 larger, 2 shown, the tree of rank n - 1 with so many positions; each rank's label and branches.
 pub struct Found {
     pub kind: u8,
     pub n: usize,
+    pub positions: u64,
     pub label: [usize; 64],
     pub first: [usize; 64],
     pub second: [usize; 64],
@@ -170,7 +171,7 @@ pub fn settle(
     p: u64,
 ) -> Found
     requires { ⌜ Whole labels (now table) c count p ⌝ }
-    ensures { λ r. ⌜ Ended (settling labels (machineIn (now (table .entry)) c (now (accept .entry))) count p) (r .kind) (r .n) (r .label) (r .first) (r .second) ⌝ }
+    ensures { λ r. ⌜ Ended (settling labels (machineIn (now (table .entry)) c (now (accept .entry))) count p) (r .kind) (r .n) (r .positions) (r .label) (r .first) (r .second) ⌝ }
 {
     let mut done = [0u8; 64];
     let mut state = [0u8; 64];
@@ -183,10 +184,11 @@ pub fn settle(
     if accept[0] != 0 {
         return Found {
             kind: 2,
-            n: n,
-            label: label,
-            first: first,
-            second: second,
+            n,
+            positions: 0,
+            label,
+            first,
+            second,
         };
     }
     while n < count {
@@ -195,19 +197,21 @@ pub fn settle(
         if w == 0 {
             return Found {
                 kind: 0,
-                n: n,
-                label: label,
-                first: first,
-                second: second,
+                n,
+                positions: 0,
+                label,
+                first,
+                second,
             };
         }
         if p < w {
             return Found {
                 kind: 1,
-                n: n,
-                label: label,
-                first: first,
-                second: second,
+                n,
+                positions: 0,
+                label,
+                first,
+                second,
             };
         }
         let l = b.label;
@@ -224,19 +228,21 @@ pub fn settle(
         if accept[q] != 0 {
             return Found {
                 kind: 2,
-                n: n,
-                label: label,
-                first: first,
-                second: second,
+                n,
+                positions: w,
+                label,
+                first,
+                second,
             };
         }
     }
     Found {
         kind: 0,
-        n: n,
-        label: label,
-        first: first,
-        second: second,
+        n,
+        positions: 0,
+        label,
+        first,
+        second,
     }
 }
 
@@ -259,7 +265,7 @@ fn any(accept: &[u8; 64], count: usize) -> bool
 // The whole search: the contract is an equation with the definition.
 pub fn find(labels: usize, table: &[u8], c: usize, count: usize, accept: &[u8; 64], p: u64) -> Found
     requires { ⌜ Whole labels (now table) c count p ⌝ }
-    ensures { λ r. ⌜ Ended (search labels (tableIn (now (table .entry)) c (now (accept .entry)) count) p) (r .kind) (r .n) (r .label) (r .first) (r .second) ⌝ }
+    ensures { λ r. ⌜ Ended (search labels (tableIn (now (table .entry)) c (now (accept .entry)) count) p) (r .kind) (r .n) (r .positions) (r .label) (r .first) (r .second) ⌝ }
 {
     if any(accept, count) {
         return settle(labels, table, c, count, accept, p);
@@ -268,6 +274,7 @@ pub fn find(labels: usize, table: &[u8], c: usize, count: usize, accept: &[u8; 6
     Found {
         kind: 0,
         n: 1,
+        positions: 0,
         label: zero,
         first: zero,
         second: zero,

@@ -46,7 +46,6 @@ write-tree-returns t c =
     let m = st .pre .0 in
     empty-stands (bits (a .d .now)) (a .at) _ (rank-zero (a .label .now) (a .first .now) (a .second .now) (a .n) (a .count) (a .r) (c .if1 .taken) (omega arith)) (h .1 .1 .1)
 
-
 write-tree-mul-put-node : (t : ℕ) → write-tree-lts.Need-mul-put-node (R t) (write-tree-at t) write-tree.Post
 write-tree-mul-put-node t c = omega arith
 
@@ -63,7 +62,6 @@ write-tree-put-node-requires t c κs =
     let l = rank-length (a .label .now) (a .first .now) (a .second .now) (a .n) (a .count) (a .r) nz (h .0 .1) (h .1 .0) in
     let g = length-digits (a .n) (getD (a .label .now) (a .r) 0) in
     ((omega arith, omega arith, omega arith), h .1 .1 .1)
-
 
 write-tree-add-write-tree : (t : ℕ) → write-tree-lts.Need-add-write-tree (R t) (write-tree-at t) write-tree.Post
 write-tree-add-write-tree t c = omega arith
@@ -88,13 +86,19 @@ write-tree-write-tree-requires t c κs =
     let g = length-digits (a .n) (getD (a .label .now) (a .r) 0) in
     let p = c .before .before .before .before .put-node in
     let k = p .kept .0 in
-    let b = h .1 .0 (a .r) (omega arith) (h .0 .1) in
-    (omega (arith, b .0),
-    ((omega arith, omega (arith, b .0), omega arith, omega arith),
-    (h .1 .0,
-    (omega arith,
-    clear-after (bits (a .d .now)) _ (a .at) _ (1 ∷ digits (a .n) (getD (a .label .now) (a .r) 0)) (p .ensures) (h .1 .1 .1) (omega arith)))))
-
+    let b = h .1 .0 (a .r) (omega arith) (h .0 .1) in (
+      omega (arith, b .0),
+      (
+        (omega arith, omega (arith, b .0), omega arith, omega arith),
+        (
+          h .1 .0,
+          (
+            omega arith,
+            clear-after (bits (a .d .now)) _ (a .at) _ (1 ∷ digits (a .n) (getD (a .label .now) (a .r) 0)) (p .ensures) (h .1 .1 .1) (omega arith),
+          ),
+        ),
+      ),
+    )
 
 write-tree-mul-write-tree-2 : (t : ℕ) → write-tree-lts.Need-mul-write-tree-2 (R t) (write-tree-at t) write-tree.Post
 write-tree-mul-write-tree-2 t c = omega arith
@@ -117,18 +121,23 @@ write-tree-write-tree-requires-2 t c κs =
     let k₂ = w .kept .0 in
     let b = h .1 .0 (a .r) (omega arith) (h .0 .1) in
     let z₁ : Clear (bits (p .last .0)) (a .at + 1 + a .n) =
-        clear-after (bits (a .d .now)) _ (a .at) _ (1 ∷ digits (a .n) (getD (a .label .now) (a .r) 0)) (p .ensures) (h .1 .1 .1) (omega arith) in
-    (omega (arith, b .1),
-    ((omega arith, omega (arith, b .1), omega arith, omega arith),
-    (h .1 .0,
-    (omega (arith, w .ensures .0),
-    clear-after (bits (p .last .0)) _ (a .at + 1 + a .n) _ (treeBits (a .n) (treeOfRank (a .label .now) (a .first .now) (a .second .now) (a .count) (getD (a .first .now) (a .r) 0))) (w .ensures .1) z₁ (w .ensures .0)))))
-
+    clear-after (bits (a .d .now)) _ (a .at) _ (1 ∷ digits (a .n) (getD (a .label .now) (a .r) 0)) (p .ensures) (h .1 .1 .1) (omega arith) in (
+      omega (arith, b .1),
+      (
+        (omega arith, omega (arith, b .1), omega arith, omega arith),
+        (
+          h .1 .0,
+          (
+            omega (arith, w .ensures .0),
+            clear-after (bits (p .last .0)) _ (a .at + 1 + a .n) _ (treeBits (a .n) (treeOfRank (a .label .now) (a .first .now) (a .second .now) (a .count) (getD (a .first .now) (a .r) 0))) (w .ensures .1) z₁ (w .ensures .0),
+          ),
+        ),
+      ),
+    )
 
 write-tree-same-length : (t : ℕ) → write-tree-lts.Need-same-length (R t) (write-tree-at t) write-tree.Post
 write-tree-same-length t c =
     omega (arith, c .before .before .write-tree2 .kept .0, c .before .before .before .before .before .before .before .write-tree .kept .0, c .before .before .before .before .before .before .before .before .before .before .before .before .put-node .kept .0)
-
 
 write-tree-returns-2 : (t : ℕ) → write-tree-lts.Need-returns-2 (R t) (write-tree-at t) write-tree.Post
 write-tree-returns-2 t c =
@@ -143,12 +152,12 @@ write-tree-returns-2 t c =
     let w = c .before .before .before .before .before .before .before .write-tree in
     let w₂ = c .before .before .write-tree2 in
     let ys = treeBits (a .n) (treeOfRank (a .label .now) (a .first .now) (a .second .now) (a .count) (getD (a .first .now) (a .r) 0)) in
-    let zs = treeBits (a .n) (treeOfRank (a .label .now) (a .first .now) (a .second .now) (a .count) (getD (a .second .now) (a .r) 0)) in
-    (omega (arith, w .ensures .0, w₂ .ensures .0),
-    rw (rank-node (a .label .now) (a .first .now) (a .second .now) (a .n) (a .count) (a .r) nz (h .0 .1) (h .1 .0))
-        (three (bits (a .d .now)) (bits (p .last .0)) (bits (w .last .0)) _ (a .at) (a .at + 1 + a .n) _
-        (1 ∷ digits (a .n) (getD (a .label .now) (a .r) 0)) ys zs (p .ensures) (w .ensures .1) (w₂ .ensures .1) (omega arith) (w .ensures .0)))
-
+    let zs = treeBits (a .n) (treeOfRank (a .label .now) (a .first .now) (a .second .now) (a .count) (getD (a .second .now) (a .r) 0)) in (
+      omega (arith, w .ensures .0, w₂ .ensures .0),
+      rw (rank-node (a .label .now) (a .first .now) (a .second .now) (a .n) (a .count) (a .r) nz (h .0 .1) (h .1 .0))
+          (three (bits (a .d .now)) (bits (p .last .0)) (bits (w .last .0)) _ (a .at) (a .at + 1 + a .n) _
+          (1 ∷ digits (a .n) (getD (a .label .now) (a .r) 0)) ys zs (p .ensures) (w .ensures .1) (w₂ .ensures .1) (omega arith) (w .ensures .0)),
+    )
 
 pub +write-tree-spec : {M : Type 1} → statement M
 +write-tree-spec = close μ-write-tree λ t. write-tree-lts.spec (R t)

@@ -1,11 +1,11 @@
-// Decide, from decoded records: the builder, then the search.
+// Build and search together, over decoded records.
 ghost use mathlib.Core.Path.{_≡_};
 ghost use Prim.Native.Nat.{ℕ, _+_, _*_, _^_, _<_, _≤_};
-ghost use lib.ListN.{length, getD};
+ghost use lib.ListN.{length, getD, drop};
 ghost use Rattle.machine.specs.Word.{mem};
 ghost use Rattle.machine.specs.Rule.{Fits, Sound, noDecoded};
 ghost use Rattle.search.specs.Arrays.{acceptsOf};
-ghost use Rattle.core.specs.Core.{Marked, Decided};
+ghost use Rattle.solver.specs.Solve.{Marked, Solved};
 use machine::Decoded;
 use search::Found;
 
@@ -25,23 +25,25 @@ fn marks(w: u64) -> [u8; 64]
 }
 
 // over: the record with too many states, 128 where there is none; the states of the last record; and what the search found.
-pub struct Verdict {
+pub struct Solution {
     pub over: usize,
     pub states: usize,
     pub found: Found,
 }
 
-pub fn decide(
+// Decide's answer to the rule that the records are decoded from. The workspace keeps what lies past the shares.
+pub fn solve(
     ws: &mut [u8],
     records: [Decoded; 128],
     m: usize,
     c: usize,
     labels: usize,
     p: u64,
-) -> Verdict
+) -> Solution
     requires { ⌜ (0 < m) × (m ≤ 128) × (0 < c) × (c ≤ 64) × (p ≤ 255) × (labels ≤ 256) × (m * (labels * c * c) ≤ length (now ws)) ⌝ }
     requires { ⌜ ((r : ℕ) → r < m → Fits (getD records r noDecoded) r c labels (length (now ws)) × Sound (getD records r noDecoded) r labels) ⌝ }
-    ensures { λ r. ⌜ Decided records m c labels p r ⌝ }
+    ensures { λ r. ⌜ Solved records m c labels p r ⌝ }
+    ensures { λ r. ⌜ drop (m * (labels * c * c)) (now (ws .exit)) ≡ drop (m * (labels * c * c)) (now (ws .entry)) ⌝ }
 {
     let t = machine::build_all(ws, records, m, c, labels);
     let over = t.over;
@@ -54,12 +56,13 @@ pub fn decide(
         let none = Found {
             kind: 0,
             n: 1,
+            positions: 0,
             label: zero,
             first: zero,
             second: zero,
         };
-        return Verdict {
-            over: over,
+        return Solution {
+            over,
             states: 0,
             found: none,
         };
@@ -67,7 +70,7 @@ pub fn decide(
     let a = marks(accepts[last]);
     let base = last * (labels * c * c);
     let f = search::find(labels, &ws[base..], c, count, &a, p);
-    Verdict {
+    Solution {
         over: 128,
         states: count,
         found: f,

@@ -5,12 +5,12 @@ use native.Mathlib.Omega.{arith}
 use borrow.Author.Needs.{needs}
 use Rattle.machine.specs.Rule.{upto}
 use lib.ListN.{length}
-use Rattle.core.specs.Core.{core-whole, core-mul, core-share, core-refused, core-decided, part-all, part-long}
-use Rattle.core.proofs.decide.Statement.{statement}
-use Rattle.core.proofs.decide.Tie as tie
-use Rattle.core.proofs.decide.Reads as reads
-use Rattle.core.proofs.decide.Lts as lts
-use Rattle.core.proofs.marks.Reads as marks-reads
+use Rattle.solver.proofs.Solving.{solve-whole, solve-mul, solve-share, solve-refused, solve-decided, part-all, part-long}
+use Rattle.solver.proofs.solve.Statement.{statement}
+use Rattle.solver.proofs.solve.Tie as tie
+use Rattle.solver.proofs.solve.Reads as reads
+use Rattle.solver.proofs.solve.Lts as lts
+use Rattle.solver.proofs.marks.Reads as marks-reads
 use Rattle.machine.proofs.build_all.Reads as build-all-reads
 use Rattle.search.proofs.find.Reads as find-reads
 
@@ -38,7 +38,7 @@ same-length c = search needs
 returns : tie.Need-returns
 returns c =
     let a = c .before .before .before .before .before .before .before .before in
-    core-refused _ _ _ (c .before .before .before .before .before .build-all .result) _ (a .pre .0 .2) (a .pre .0 .3) _ _ (c .before .before .before .before .before .build-all .ensures .0) (search) _ refl
+    (solve-refused _ _ _ (c .before .before .before .before .before .build-all .result) _ (a .pre .0 .2) (a .pre .0 .3) _ _ (c .before .before .before .before .before .build-all .ensures .0) (search) _ refl refl, c .before .before .before .before .before .build-all .ensures .1)
 
 -- src/lib.rt:50:19
 mul-marks : tie.Need-mul-marks
@@ -56,31 +56,31 @@ marks-requires c κs = search needs
 mul-base : tie.Need-mul-base
 mul-base c =
     let a = c .before .before .before .before .before .before .before .before .before in
-    let h = core-mul (a .args .labels) (a .args .c) 256 64 (a .pre .0 .5) (a .pre .0 .3) in
+    let h = solve-mul (a .args .labels) (a .args .c) 256 64 (a .pre .0 .5) (a .pre .0 .3) in
     search needs
 
 -- src/lib.rt:51:24
 mul-base-2 : tie.Need-mul-base-2
 mul-base-2 c =
     let a = c .before .before .before .before .before .before .before .before .before in
-    let h = core-mul (a .args .labels) (a .args .c) 256 64 (a .pre .0 .5) (a .pre .0 .3) in
-    let i = core-mul (a .args .labels * a .args .c) (a .args .c) 16384 64 h (a .pre .0 .3) in
+    let h = solve-mul (a .args .labels) (a .args .c) 256 64 (a .pre .0 .5) (a .pre .0 .3) in
+    let i = solve-mul (a .args .labels * a .args .c) (a .args .c) 16384 64 h (a .pre .0 .3) in
     search needs
 
 -- src/lib.rt:51:16
 mul-base-3 : tie.Need-mul-base-3
 mul-base-3 c =
     let a = c .before .before .before .before .before .before .before .before .before in
-    let h = core-mul (a .args .labels) (a .args .c) 256 64 (a .pre .0 .5) (a .pre .0 .3) in
-    let i = core-mul (a .args .labels * a .args .c) (a .args .c) 16384 64 h (a .pre .0 .3) in
-    let j = core-mul (a .args .m - 1) (a .args .labels * a .args .c * a .args .c) 127 1048576 (let z = a .pre .0 .1 in omega arith) i in
+    let h = solve-mul (a .args .labels) (a .args .c) 256 64 (a .pre .0 .5) (a .pre .0 .3) in
+    let i = solve-mul (a .args .labels * a .args .c) (a .args .c) 16384 64 h (a .pre .0 .3) in
+    let j = solve-mul (a .args .m - 1) (a .args .labels * a .args .c * a .args .c) 127 1048576 (let z = a .pre .0 .1 in omega arith) i in
     search needs
 
 -- src/lib.rt:52:34
 sub-find : tie.Need-sub-find
 sub-find c =
     let a = c .before .before .before .before .before .before .before .before .before in
-    let e = core-share (a .args .m) (a .args .labels * a .args .c * a .args .c) (a .pre .0 .0) in
+    let e = solve-share (a .args .m) (a .args .labels * a .args .c * a .args .c) (a .pre .0 .0) in
     let l = a .pre .0 .6 in
     search needs
 
@@ -88,7 +88,7 @@ sub-find c =
 part-find-start : tie.Need-part-find-start
 part-find-start c =
     let a = c .before .before .before .before .before .before .before .before .before .before in
-    let e = core-share (a .args .m) (a .args .labels * a .args .c * a .args .c) (a .pre .0 .0) in
+    let e = solve-share (a .args .m) (a .args .labels * a .args .c * a .args .c) (a .pre .0 .0) in
     let l = a .pre .0 .6 in
     search needs
 
@@ -102,10 +102,10 @@ find-requires c κs =
     let a = c .before .before .before .before .before .before .before .before .before .before .before .before in
     let ws = c .before .before .before .before .before .before .before .before .before .build-all .last .0 in
     let share = a .args .labels * a .args .c * a .args .c in
-    let e = core-share (a .args .m) share (a .pre .0 .0) in
+    let e = solve-share (a .args .m) share (a .pre .0 .0) in
     let l = a .pre .0 .6 in
     let q : (a .args .m - 1) * share + share ≤ length ws = omega arith in
-    core-whole (upto (a .args .records) (a .args .c) (a .args .labels) (a .args .m)) (a .args .c) (a .args .labels) (a .args .m) (c .before .before .before .before .before .before .before .before .before .build-all .result) ws (c .before .before .before .before .before .before .before .before .before .build-all .ensures .0) (search needs) (a .pre .0 .0) (a .pre .0 .3) _ (a .pre .0 .4) _
+    solve-whole (upto (a .args .records) (a .args .c) (a .args .labels) (a .args .m)) (a .args .c) (a .args .labels) (a .args .m) (c .before .before .before .before .before .before .before .before .before .build-all .result) ws (c .before .before .before .before .before .before .before .before .before .build-all .ensures .0) (search needs) (a .pre .0 .0) (a .pre .0 .3) _ (a .pre .0 .4) _
     (part-all ((a .args .m - 1) * share) ws) (part-long ((a .args .m - 1) * share) share ws q)
 
 -- src/lib.rt:34:1
@@ -117,12 +117,14 @@ returns-2 : tie.Need-returns-2
 returns-2 c =
     let a = c .before .before .before .before .before .before .before .before .before .before .before .before .before in
     let ws = c .before .before .before .before .before .before .before .before .before .before .build-all .last .0 in
-    let share = a .args .labels * a .args .c * a .args .c in
-    core-decided _ (a .args .c) (a .args .p) (c .before .before .before .before .before .before .before .before .before .before .build-all .result) ws (a .pre .0 .2) (a .pre .0 .3) (search needs) (c .before .before .before .before .marks .result) _ _ _ _ _ _ (a .args .m) (a .args .labels) (c .before .before .before .before .before .before .before .before .before .before .build-all .ensures .0)
-    (part-all ((a .args .m - 1) * share) ws) (c .before .before .before .before .marks .ensures) (c .find .ensures)
+    let share = a .args .labels * a .args .c * a .args .c in (
+      solve-decided _ (a .args .c) (a .args .p) (c .before .before .before .before .before .before .before .before .before .before .build-all .result) ws (a .pre .0 .2) (a .pre .0 .3) (search needs) (c .before .before .before .before .marks .result) _ _ _ _ _ _ _ (a .args .m) (a .args .labels) (c .before .before .before .before .before .before .before .before .before .before .build-all .ensures .0)
+          (part-all ((a .args .m - 1) * share) ws) (c .before .before .before .before .marks .ensures) (c .find .ensures),
+      c .before .before .before .before .before .before .before .before .before .before .build-all .ensures .1,
+    )
 
-pub decide-spec : {M : Type 1} → statement M
-decide-spec =
+pub solve-spec : {M : Type 1} → statement M
+solve-spec =
     tie.close
     (tie.spec
     build-all-requires

@@ -1,5 +1,4 @@
--- What decide's code ensures, from decoded records.
--- Assumes nothing.
+-- Build and search over decoded records are decide's answer. Assumes nothing.
 use Prim.Native.Nat.{ℕ, zero, suc, _+_, _-_, _*_, _^_, _≤_, _<_}
 use mathlib.Core.Path.{_≡_, refl, sym, ap, subst, _∙_}
 use mathlib.Core.List.{List}
@@ -13,7 +12,8 @@ use lib.Dec.{ltb, eqb}
 use native.Mathlib.Nat.{mul-le-mul, suc-mul}
 use mathlib.Core.Bool.{Bool, true, false, not}
 use Rattle.logic.specs.Rule.{noRecord, Record, Accepted, lastOf}
-use Rattle.logic.specs.Claims.{Outcome, refused14}
+use Rattle.logic.specs.Claims.{Outcome, refused14, shown}
+use Rattle.logic.specs.Tree.{Tree}
 use Rattle.logic.specs.Decide.{report, decideOf}
 use Rattle.machine.specs.Word.{mem}
 use Rattle.machine.specs.Succ.{entry}
@@ -22,27 +22,11 @@ use Rattle.machine.specs.Rule.{Mach, noMach, Outcome as Made-outcome, built, ov
 use Rattle.machine.specs.declared.Machines.{Machines}
 use Rattle.machine.specs.declared.Decoded.{Decoded}
 use Rattle.search.specs.Arrays.{acceptsOf, tableIn, answerOf, Whole, Ended}
-use Rattle.logic.specs.Search.{search}
+use Rattle.logic.specs.Search.{Sought, tree, large, absent, search}
 use Rattle.refinement.proofs.Upto.{decodedOf, decide-over}
 use Rattle.refinement.proofs.Bytes.{decide-bytes}
-use Rattle.core.specs.declared.Verdict.{Verdict}
-
-abbrev pub Marked : List ℕ → ℕ → ℕ → Type 0
-Marked a w m = (q : ℕ) → q < m → acceptsOf a q ≡ mem q w
-
--- the answer that a verdict stands for
-unfoldable pub outcomeIf : Bool → Verdict → Outcome 2
-outcomeIf true v = refused14 (v .over)
-outcomeIf false v = report (v .states) (answerOf (v .found .kind) (v .found .n) (v .found .label) (v .found .first) (v .found .second))
-
-abbrev pub outcomeOf : Verdict → Outcome 2
-outcomeOf v = outcomeIf (ltb (v .over) 128) v
-
--- it is decide's answer to every rule that the records are decoded from
-abbrev pub Decided : List Decoded → ℕ → ℕ → ℕ → ℕ → Verdict → Type 0
-Decided records m c labels p v =
-    (n : ℕ) (rs : List Record) → Accepted 2 n rs → length rs ≡ m → labels ≡ 2 ^ n
-    → ((r : ℕ) → r < length rs → getD records r noDecoded ≡ decodedOf n (getD rs r noRecord)) → outcomeOf v ≡ decideOf 2 n rs c p
+use Rattle.solver.specs.declared.Solution.{Solution}
+use Rattle.solver.specs.Solve.{Marked, outcomeIf, outcomeOf, Solved}
 
 -- the loop's invariant
 pub record Marking (a : List ℕ) (w q : ℕ) : Type 0 where
@@ -92,9 +76,9 @@ is-over (built ms) c labels m s ws h l = absurd (let a = h .0 in omega arith)
 
 module _ (o : Made-outcome) (c labels m : ℕ) (s : Machines) (ws : List ℕ) (h : Made o c labels m s ws) (no : 128 ≤ s .over) (some : 0 < m) (top : c ≤ 64) where
   -- the search may be called on the last record's share
-  pub core-whole : (P : ℕ) → P ≤ 255 → (table : List ℕ) → table ≡ drop ((m - 1) * (labels * c * c)) ws → labels * c * c ≤ length table → Whole labels table c (getD (s .counts) (m - 1) 0) P
+  pub solve-whole : (P : ℕ) → P ≤ 255 → (table : List ℕ) → table ≡ drop ((m - 1) * (labels * c * c)) ws → labels * c * c ≤ length table → Whole labels table c (getD (s .counts) (m - 1) 0) P
   unfolding entry addr
-  core-whole P hp table et hl =
+  solve-whole P hp table et hl =
       let w = no-over o c labels m s ws h no in
       let a : At c labels (m - 1) (getD (w .0) (m - 1) noMach) s ws = w .2 .2 (m - 1) (omega arith) in
       let k = a .count in
@@ -111,42 +95,61 @@ module _ (o : Made-outcome) (c labels m : ℕ) (s : Machines) (ws : List ℕ) (h
         small = hp;
       }
 
-pub core-mul : (a b x y : ℕ) → a ≤ x → b ≤ y → a * b ≤ x * y
-core-mul a b x y h k = mul-le-mul h k
+pub solve-mul : (a b x y : ℕ) → a ≤ x → b ≤ y → a * b ≤ x * y
+solve-mul a b x y h k = mul-le-mul h k
 
-pub core-share : (m share : ℕ) → 0 < m → (m - 1) * share + share ≡ m * share
-core-share zero share h = absurd (omega arith)
-core-share (suc m) share h = let e : suc m - 1 ≡ m = omega arith in rw e (sym (suc-mul m share))
+pub solve-share : (m share : ℕ) → 0 < m → (m - 1) * share + share ≡ m * share
+solve-share zero share h = absurd (omega arith)
+solve-share (suc m) share h = let e : suc m - 1 ≡ m = omega arith in rw e (sym (suc-mul m share))
 
 module _ (records : List Decoded) (c P : ℕ) (s : Machines) (ws : List ℕ) (pos : 0 < c) (top : c ≤ 64) where
   -- too many states
-  pub core-refused : (m labels : ℕ) → Made (upto records c labels m) c labels m s ws → s .over < 128 → (v : Verdict) → v .over ≡ s .over → Decided records m c labels P v
+  pub solve-refused : (m labels : ℕ) → Made (upto records c labels m) c labels m s ws → s .over < 128 → (v : Solution) → v .over ≡ s .over → v .found .n ≡ 1
+      → Solved records m c labels P v
   unfolding outcomeIf
-  core-refused m labels h l v e n rs acc lm lab dec =
-      let o = is-over (upto records c labels m) c labels m s ws h l in
-      let o′ : upto records c (2 ^ n) (length rs) ≡ over (s .over) = rw (lm, ← lab) o in
-      rw (e, lt-ltb (s .over) 128 l) (sym (decide-over n c pos top rs acc records dec P (s .over) o′))
+  solve-refused m labels h l v e one = record {
+    answer = λ n rs acc lm lab dec.
+        let o = is-over (upto records c labels m) c labels m s ws h l in
+        let o′ : upto records c (2 ^ n) (length rs) ≡ over (s .over) = rw (lm, ← lab) o in
+        rw (e, lt-ltb (s .over) 128 l) (sym (decide-over n c pos top rs acc records dec P (s .over) o′));
+    back = λ i p k. absurd (omega arith);
+    low = omega arith;
+    high = omega arith;
+    counted = λ places states t f. absurd (let g : refused14 (v .over) ≡ shown places states t = rw (lt-ltb (v .over) 128 (omega arith)) at f in let z : _≡_ {A = ℕ} 0 1 = cc in omega arith);
+  }
 
-  module _ (no : 128 ≤ s .over) (accept table : List ℕ) (kind k : ℕ) (label first second : List ℕ) where
+  module _ (no : 128 ≤ s .over) (accept table : List ℕ) (kind k size : ℕ) (label first second : List ℕ) where
     abbrev All : ℕ → List Record → ℕ → ℕ → Type 0
     All n rs m labels = Made (upto records c labels m) c labels m s ws → table ≡ drop ((m - 1) * (labels * c * c)) ws → Marked accept (getD (s .accepts) (m - 1) 0) 64
-        → Ended (search labels (tableIn table c accept (getD (s .counts) (m - 1) 0)) P) kind k label first second
+        → Ended (search labels (tableIn table c accept (getD (s .counts) (m - 1) 0)) P) kind k size label first second
         → report (getD (s .counts) (m - 1) 0) (answerOf kind k label first second) ≡ decideOf 2 n rs c P
 
-    core-at : (n : ℕ) (rs : List Record) → Accepted 2 n rs → ((r : ℕ) → r < length rs → getD records r noDecoded ≡ decodedOf n (getD rs r noRecord)) → All n rs (length rs) (2 ^ n)
-    core-at n rs acc dec h et marks e =
+    solve-at : (n : ℕ) (rs : List Record) → Accepted 2 n rs → ((r : ℕ) → r < length rs → getD records r noDecoded ≡ decodedOf n (getD rs r noRecord)) → All n rs (length rs) (2 ^ n)
+    solve-at n rs acc dec h et marks e =
         let w = no-over (upto records c (2 ^ n) (length rs)) c (2 ^ n) (length rs) s ws h no in
         let a : At c (2 ^ n) (lastOf rs) (getD (w .0) (lastOf rs) noMach) s ws = w .2 .2 (lastOf rs) (let z = acc .0 in omega arith) in
         let d = decide-bytes n c pos top rs acc records dec s ws (w .0) (w .1) (w .2) accept (λ q l. marks q (let x = a .count in let y = a .few in omega arith)) P in
         ap (report (getD (s .counts) (lastOf rs) 0)) (e .answer ∙ ap (λ (t : List ℕ). search (2 ^ n) (tableIn t c accept (getD (s .counts) (lastOf rs) 0)) P) et) ∙ d
 
+    -- the tree that is reported is the one that was found
+    reported : (q : ℕ) (x : Sought 2) (places states : ℕ) (t : Tree 2) → report q x ≡ shown places states t → x ≡ tree t
+    unfolding report
+    reported q (tree u) places states t e = let z : u ≡ t = cc in ap {B = Sought 2} tree z
+    reported q large places states t e = absurd (let z : _≡_ {A = ℕ} 0 1 = cc in omega arith)
+    reported q absent places states t e = absurd (let z : _≡_ {A = ℕ} 0 1 = cc in omega arith)
+
     -- an answer
-    pub core-decided : (m labels : ℕ) → Made (upto records c labels m) c labels m s ws → table ≡ drop ((m - 1) * (labels * c * c)) ws → Marked accept (getD (s .accepts) (m - 1) 0) 64
-        → Ended (search labels (tableIn table c accept (getD (s .counts) (m - 1) 0)) P) kind k label first second
-        → Decided records m c labels P (record { over = 128; states = getD (s .counts) (m - 1) 0; found = record { kind = kind; n = k; label = label; first = first; second = second } })
+    pub solve-decided : (m labels : ℕ) → Made (upto records c labels m) c labels m s ws → table ≡ drop ((m - 1) * (labels * c * c)) ws → Marked accept (getD (s .accepts) (m - 1) 0) 64
+        → Ended (search labels (tableIn table c accept (getD (s .counts) (m - 1) 0)) P) kind k size label first second
+        → Solved records m c labels P (record { over = 128; states = getD (s .counts) (m - 1) 0; found = record { kind = kind; n = k; positions = size; label = label; first = first; second = second } })
     unfolding outcomeIf
-    core-decided m labels h et marks e n rs acc lm lab dec =
-        subst (λ (z : ℕ). All n rs z labels) lm (subst (λ (z : ℕ). All n rs (length rs) z) (sym lab) (core-at n rs acc dec)) h et marks e
+    solve-decided m labels h et marks e = record {
+      answer = λ n rs acc lm lab dec. subst (λ (z : ℕ). All n rs z labels) lm (subst (λ (z : ℕ). All n rs (length rs) z) (sym lab) (solve-at n rs acc dec)) h et marks e;
+      back = e .back;
+      low = e .low;
+      high = e .high;
+      counted = λ places states t f. e .counted t (sym (e .answer) ∙ reported (getD (s .counts) (m - 1) 0) (answerOf kind k label first second) places states t f);
+    }
 
 -- a part that goes to the end
 pub part-all : (n : ℕ) (ws : List ℕ) → take (length ws - n) (drop n ws) ≡ drop n ws

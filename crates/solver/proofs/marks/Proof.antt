@@ -4,11 +4,11 @@ use mathlib.Core.Logic.{⊎-elim}
 use Prim.Native.Nat.{_-_, _≤_}
 use native.Mathlib.Omega.{arith}
 use borrow.Author.Needs.{needs}
-use Rattle.core.specs.Core.{Marking, marking-first, marking-on, marking-off, marking-done}
-use Rattle.core.proofs.marks.Statement.{statement}
-use Rattle.core.proofs.marks.Tie as tie
-use Rattle.core.proofs.marks.Reads as reads
-use Rattle.core.proofs.marks.Lts as lts
+use Rattle.solver.proofs.Solving.{Marking, marking-first, marking-on, marking-off, marking-done}
+use Rattle.solver.proofs.marks.Statement.{statement}
+use Rattle.solver.proofs.marks.Tie as tie
+use Rattle.solver.proofs.marks.Reads as reads
+use Rattle.solver.proofs.marks.Lts as lts
 use Rattle.machine.proofs.has.Reads as has-reads
 
 abbrev Inv-loop : tie.InvT-loop

@@ -1,0 +1,38 @@
+-- What build and search give together, over decoded records. Assumes nothing.
+use Prim.Native.Nat.{ℕ, _-_, _^_, _≤_, _<_}
+use mathlib.Core.Path.{_≡_}
+use mathlib.Core.Bool.{Bool, true, false}
+use mathlib.Core.List.{List}
+use lib.Dec.{ltb}
+use lib.ListN.{length, getD}
+use Rattle.logic.specs.Rule.{Record, noRecord, Accepted}
+use Rattle.logic.specs.Tree.{Tree, positions}
+use Rattle.logic.specs.Claims.{Outcome, refused14, shown}
+use Rattle.logic.specs.Decide.{report, decideOf}
+use Rattle.machine.specs.Word.{mem}
+use Rattle.machine.specs.Rule.{noDecoded}
+use Rattle.machine.specs.declared.Decoded.{Decoded}
+use Rattle.search.specs.Arrays.{acceptsOf, answerOf, Backs}
+use Rattle.refinement.proofs.Upto.{decodedOf}
+use Rattle.solver.specs.declared.Solution.{Solution}
+
+-- the bytes of a mark the members of w below m
+abbrev pub Marked : List ℕ → ℕ → ℕ → Type 0
+Marked a w m = (q : ℕ) → q < m → acceptsOf a q ≡ mem q w
+
+-- the answer that a solution stands for
+unfoldable pub outcomeIf : Bool → Solution → Outcome 2
+outcomeIf true v = refused14 (v .over)
+outcomeIf false v = report (v .states) (answerOf (v .found .kind) (v .found .n) (v .found .label) (v .found .first) (v .found .second))
+
+abbrev pub outcomeOf : Solution → Outcome 2
+outcomeOf v = outcomeIf (ltb (v .over) 128) v
+
+-- v is decide's answer to every rule that the records are decoded from, with ranks that a writer can follow down and the tree's positions
+pub record Solved (records : List Decoded) (m c labels P : ℕ) (v : Solution) : Type 0 where
+  pub answer : (n : ℕ) (rs : List Record) → Accepted 2 n rs → length rs ≡ m → labels ≡ 2 ^ n
+      → ((r : ℕ) → r < length rs → getD records r noDecoded ≡ decodedOf n (getD rs r noRecord)) → outcomeOf v ≡ decideOf 2 n rs c P
+  pub back : Backs (v .found .n) (v .found .first) (v .found .second)
+  pub low : 0 < v .found .n
+  pub high : v .found .n ≤ 64
+  pub counted : (places states : ℕ) (t : Tree 2) → outcomeOf v ≡ shown places states t → v .found .positions ≡ positions t
