@@ -1,3 +1,4 @@
 pub mod Bits
+pub mod RuleAnswers
 pub mod RuleStrip
 pub mod TreeStrip

@@ -1,0 +1,54 @@
+-- `rule::any_set` meets its contract. The loop's invariant: what is to be said of the bits from the start is what is to be said of those
+-- from the place reached. Assumes nothing.
+use mathlib.Core.Path.{_≡_, refl, sym, _∙_}
+use Prim.Native.Nat.{_*_, _-_}
+use native.Mathlib.Omega.{arith}
+use borrow.Author.Needs.{needs}
+use lib.ListN.{length, drop}
+use Rattle.strip.specs.Bits.{bits, anySet}
+use Rattle.strip.proofs.Fields.{length-bits}
+use Rattle.strip.proofs.RuleChecks.{set-here, not-here, none-here}
+use Rattle.strip.proofs.rule.any_set.Statement.{statement}
+use Rattle.strip.proofs.rule.any_set.Tie as tie
+use Rattle.strip.proofs.rule.any_set.Reads as reads
+use Rattle.strip.proofs.rule.any_set.Lts as lts
+
+abbrev Inv-loop : tie.InvT-loop
+Inv-loop s from end at₀ at = (end ≡ 8 * length s) × (anySet (drop from (bits s)) ≡ anySet (drop at (bits s)))
+
+abbrev μ-loop : tie.MeasureT-loop
+μ-loop s from end at₀ at = end - at
+
+loop-holds : tie.Need-loop-holds Inv-loop μ-loop
+loop-holds c = (search needs, refl)
+
+bit-at-requires : tie.Need-bit-at-requires Inv-loop μ-loop
+bit-at-requires c κs = omega arith
+
+returns : tie.Need-returns Inv-loop μ-loop
+returns c =
+    let b = c .before .before .before in
+    let s = b .before .before .args .s .now in
+    sym (b .loop .inv .1 ∙ set-here (bits s) (b .loop .at) (omega (arith, length-bits s)) (λ e. c .if1 .taken (c .before .bit-at .ensures .0 ∙ e)))
+
+add-at : tie.Need-add-at Inv-loop μ-loop
+add-at c = omega arith
+
+loop-less : tie.Need-loop-less Inv-loop μ-loop
+loop-less c = omega arith
+
+loop-again : tie.Need-loop-again Inv-loop μ-loop
+loop-again c =
+    let b = c .before .before .before in
+    let s = b .before .before .args .s .now in
+    (refl, b .loop .inv .1 ∙ not-here (bits s) (b .loop .at) (omega (arith, length-bits s)) (sym (c .before .bit-at .ensures .0) ∙ c .if1 .left))
+
+returns-2 : tie.Need-returns-2 Inv-loop μ-loop
+returns-2 c =
+    let b = c .before in
+    let s = b .before .before .args .s .now in
+    sym (b .loop .inv .1 ∙ none-here (bits s) (b .loop .at) (omega (arith, length-bits s)))
+
+pub any-set-spec : {M : Type 1} → statement M
+any-set-spec =
+    tie.close (tie.spec Inv-loop μ-loop (λ c. search needs) loop-holds bit-at-requires returns add-at loop-less loop-again returns-2)

@@ -1,0 +1,71 @@
+-- `rule::check_rule` meets its contract: the head's refusal, else the padding's, else the records'. Assumes nothing.
+use mathlib.Core.Path.{sym, _∙_}
+use native.Mathlib.Omega.{arith}
+use borrow.Author.Needs.{needs}
+use Rattle.strip.proofs.RuleChecks.{Head, head-facts, check-head, check-padding, check-records, check-accepted}
+use Rattle.strip.proofs.rule.check_rule.Statement.{statement}
+use Rattle.strip.proofs.rule.check_rule.Tie as tie
+use Rattle.strip.proofs.rule.check_rule.Reads as reads
+use Rattle.strip.proofs.rule.check_rule.Lts as lts
+
+head : (c : tie.Else1) → Head (c .before .before .before .args .s .now)
+head c = head-facts _ (sym (c .before .head-refusal .ensures) ∙ c .if1 .left)
+
+returns : tie.Need-returns
+returns c = check-head _ _ (c .before .head-refusal .ensures) (c .if1 .taken)
+
+field-at-requires : tie.Need-field-at-requires
+field-at-requires c κs = let h = head c in omega arith
+
+field-at-requires-2 : tie.Need-field-at-requires-2
+field-at-requires-2 c κs = let h = head (c .before) in omega arith
+
+mul-any-set : tie.Need-mul-any-set
+mul-any-set c = let h = head (c .before .before) in omega arith
+
+add-any-set : tie.Need-add-any-set
+add-any-set c = let h = head (c .before .before) in omega arith
+
+any-set-requires : tie.Need-any-set-requires
+any-set-requires c κs = let h = head (c .before .before) in omega arith
+
+returns-2 : tie.Need-returns-2
+returns-2 c =
+    let b = c .before .before in
+    let a = b .before .before in
+    check-padding _ (sym (a .before .head-refusal .ensures) ∙ a .if1 .left) _ _ (b .before .field-at .ensures) (b .field-at2 .ensures) _ (c .before .any-set .ensures) (c .if2 .taken)
+
+read-records-requires : tie.Need-read-records-requires
+read-records-requires c κs = let h = head (c .before .before .before .before) in omega arith
+
+returns-3 : tie.Need-returns-3
+returns-3 c =
+    let d = c .before .before .before in
+    let b = d .before .before in
+    let a = b .before .before in
+    check-accepted _ (sym (a .before .head-refusal .ensures) ∙ a .if1 .left) _ _ (b .before .field-at .ensures) (b .field-at2 .ensures) _ (d .before .any-set .ensures) (d .if2 .left) _ (c .before .before .read-records .ensures) _ _ _ _ (c .enum-told .given .1)
+
+returns-4 : tie.Need-returns-4
+returns-4 c =
+    let d = c .before .before .before .before in
+    let b = d .before .before in
+    let a = b .before .before in
+    check-records _ (sym (a .before .head-refusal .ensures) ∙ a .if1 .left) _ _ (b .before .field-at .ensures) (b .field-at2 .ensures) _ (d .before .any-set .ensures) (d .if2 .left) _ (c .before .before .before .read-records .ensures) _ (c .before .r .given .1)
+
+pub check-rule-spec : {M : Type 1} → statement M
+check-rule-spec =
+    tie.close
+    (tie.spec
+    (λ c κs. search needs)
+    returns
+    field-at-requires
+    field-at-requires-2
+    mul-any-set
+    add-any-set
+    any-set-requires
+    returns-2
+    read-records-requires
+    (λ c. search needs)
+    (λ c. search needs)
+    returns-3
+    returns-4)

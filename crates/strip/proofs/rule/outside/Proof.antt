@@ -1,0 +1,27 @@
+-- `rule::outside` meets its contract, test by test. Assumes nothing.
+use mathlib.Core.Path.{_≡_, refl, _∙_}
+use mathlib.Core.Bool.{Bool, true, false, not}
+use Prim.Native.Nat.{ℕ}
+use lib.Dec.{ltb, leb}
+use borrow.Author.Tests.{le-leb, lt-leb, le-ltb, lt-ltb, ltb-true, ltb-false}
+use Rattle.strip.proofs.rule.outside.Statement.{statement}
+use Rattle.strip.proofs.rule.outside.Tie as tie
+use Rattle.strip.proofs.rule.outside.Reads as reads
+use Rattle.strip.proofs.rule.outside.Lts as lts
+
+returns : tie.Need-returns
+returns c = rw (lt-leb 1 _ (c .if1 .taken)) refl
+
+-- a test and its converse
+flip : (a b : ℕ) → ltb a b ≡ not (leb b a)
+flip a b = go (ltb a b) refl
+  where
+    go : (t : Bool) → ltb a b ≡ t → ltb a b ≡ not (leb b a)
+    go true e = rw (lt-leb b a (ltb-true a b e)) e
+    go false e = rw (le-leb b a (ltb-false a b e)) e
+
+returns-2 : tie.Need-returns-2
+returns-2 c = rw (le-leb 1 _ (c .if1 .left)) (flip (c .before .args .high) (c .before .args .v))
+
+pub outside-spec : {M : Type 1} → statement M
+outside-spec = tie.close (tie.spec returns returns-2)

@@ -1,0 +1,52 @@
+-- What the functions on rule strips answer. Assumes nothing.
+use Prim.Native.Nat.{ℕ, _+_, _-_, _*_}
+use mathlib.Core.Bool.{Bool, not}
+use mathlib.Core.List.{List}
+use lib.Dec.{ltb, leb, eqb}
+use lib.ListN.{length}
+use Rattle.logic.specs.Rule.{Record as RuleRecord}
+use Rattle.strip.specs.RuleStrip.{orElse, between, versionOf, variablesOf, countOf, ruleBytes, recordAt, recordsFrom, Use, variable, earlier, unused, recordRefusal, recordsRefusal, ruleRefusal}
+use Rattle.strip.specs.declared.rule.Read.{Read}
+use Rattle.strip.specs.declared.rule.Read.the-variants.{Record, Refused}
+use Rattle.strip.specs.declared.rule.RuleCheck.{RuleCheck}
+use Rattle.strip.specs.declared.rule.RuleCheck.the-variants.{Accepted as accepted, Refused as turnedDown}
+
+-- a use of a field stands in the code as the number of its refusal: "8 a variable not below n; 9 a record number not below its own;
+-- 10 an unused field not 0"
+abbrev pub useNumber : Use → ℕ
+useNumber variable = 8
+useNumber earlier = 9
+useNumber unused = 10
+
+-- what a field of that use must be below, in record number i
+abbrev pub limitOf : ℕ → ℕ → ℕ → ℕ
+limitOf n i kind = orElse (eqb kind 8) n (orElse (eqb kind 9) i 1)
+
+-- the refusal of a field v of that use, or 0
+abbrev pub fieldRefusal : ℕ → ℕ → ℕ → ℕ → ℕ
+fieldRefusal n i kind v = orElse (leb (limitOf n i kind) v) kind 0
+
+-- "the reader answers either a record with the next bit place or a refusal number": the refusal, where it is not 0
+abbrev pub recordOr : ℕ → RuleRecord → ℕ → Read
+recordOr refusal r next = orElse (eqb refusal 0) (Record (r .op) (r .first) (r .second) next) (Refused refusal)
+
+-- record number i, at bit place at, in a strip of n variables
+unfoldable pub readRecord : List ℕ → ℕ → ℕ → ℕ → Read
+readRecord s n i at = recordOr (recordRefusal n i (recordAt s at)) (recordAt s at) (at + 18)
+
+-- all m records of the strip, in order: the last of them, or the earliest refusal
+unfoldable pub readRecords : List ℕ → ℕ → ℕ → Read
+readRecords s n m = recordOr (recordsRefusal n 0 (recordsFrom s 16 m)) (recordAt s (16 + 18 * (m - 1))) (16 + 18 * m)
+
+-- the refusals 1 to 5, or 0
+unfoldable pub headRefusal : List ℕ → ℕ
+headRefusal s =
+    orElse (ltb (length s) 2) 1
+    (orElse (not (eqb (versionOf s) 1)) 2
+    (orElse (not (between 1 8 (variablesOf s))) 3
+    (orElse (not (between 1 128 (countOf s))) 4
+    (orElse (not (eqb (length s) (ruleBytes (countOf s)))) 5 0))))
+
+-- "Check a rule strip": a refusal's number; "Otherwise it returns n and m"
+unfoldable pub checkedRule : List ℕ → RuleCheck
+checkedRule s = orElse (eqb (ruleRefusal s) 0) (accepted (variablesOf s) (countOf s)) (turnedDown (ruleRefusal s))
