@@ -2,3 +2,4 @@ pub mod Bits
 pub mod RuleAnswers
 pub mod RuleStrip
 pub mod TreeStrip
+pub mod TreeAnswers

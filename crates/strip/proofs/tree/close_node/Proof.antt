@@ -1,0 +1,43 @@
+-- `tree::close_node` meets its contract. Assumes nothing.
+use mathlib.Core.Path.{_≡_, refl}
+use Prim.Native.Nat.{ℕ}
+use borrow.Author.Needs.{needs}
+use borrow.Author.Tests.{eq-eqb, ne-eqb}
+use Rattle.strip.specs.TreeAnswers.{closed}
+use Rattle.strip.specs.declared.tree.TreeRead.{TreeRead}
+use Rattle.strip.specs.declared.tree.TreeRead.the-variants.{Tree, Refused}
+use Rattle.strip.proofs.tree.close_node.Statement.{statement}
+use Rattle.strip.proofs.tree.close_node.Tie as tie
+
+-- the second branch's answer is r
+module _ (label met all next : ℕ) (r : TreeRead) (e : r ≡ Tree all next) where
+  bare : label ≡ 0 → all ≡ met → Refused 19 ≡ closed label met r
+  bare p q = rw (e, eq-eqb label 0 p, eq-eqb all met q) refl
+
+  branched : label ≡ 0 → (all ≡ met → ⊥) → Tree all next ≡ closed label met r
+  branched p q = rw (e, eq-eqb label 0 p, ne-eqb all met q) refl
+
+  labelled : (label ≡ 0 → ⊥) → Tree all next ≡ closed label met r
+  labelled p = rw (e, ne-eqb label 0 p) refl
+
+enum-known-second : tie.Need-enum-known-second
+enum-known-second c = search needs
+
+enum-told : tie.Need-enum-told
+enum-told c = search needs
+
+returns : tie.Need-returns
+returns c = search needs
+
+returns-2 : tie.Need-returns-2
+returns-2 c = bare _ _ _ _ _ (c .before .before .before .second .given .1) (c .before .if1 .taken) (c .if2 .taken)
+
+returns-3 : tie.Need-returns-3
+returns-3 c = branched _ _ _ _ _ (c .before .before .before .second .given .1) (c .before .if1 .taken) (c .if2 .left)
+
+returns-4 : tie.Need-returns-4
+returns-4 c = labelled _ _ _ _ _ (c .before .before .second .given .1) (c .if1 .left)
+
+pub close-node-spec : {M : Type 1} → statement M
+close-node-spec =
+    tie.close (tie.spec enum-known-second enum-told returns returns-2 returns-3 returns-4)

@@ -1,0 +1,95 @@
+-- `tree::read_head` meets its contract. Assumes nothing.
+use mathlib.Core.Path.{_≡_, refl, sym, _∙_}
+use mathlib.Core.List.{List}
+use Prim.Native.Nat.{ℕ, _+_, _*_, _/_, _≤_, _<_}
+use native.Mathlib.Omega.{arith}
+use borrow.Author.Needs.{needs}
+use borrow.Author.Tests.{le-leb, lt-leb, lt-ltb, le-ltb, eq-eqb, ne-eqb}
+use lib.ListN.{length, getD}
+use Rattle.strip.specs.Bits.{bits, field}
+use Rattle.strip.specs.TreeAnswers.{headAt}
+use Rattle.strip.specs.declared.tree.Head.{Head}
+use Rattle.strip.specs.declared.tree.Head.the-variants.{Empty, Node, Refused}
+use Rattle.strip.proofs.tree.read_head.Statement.{statement}
+use Rattle.strip.proofs.tree.read_head.Tie as tie
+
+module _ (s : List ℕ) (n met at : ℕ) where
+  bits-end : length s ≤ at / 8 → Refused 18 ≡ headAt s n met at
+  unfolding headAt
+  bits-end h = rw (le-leb (8 * length s) at (omega arith)) refl
+
+  -- b stands at the place
+  module _ (b : ℕ) (h : at / 8 < length s) (e : b ≡ getD (bits s) at 0) where
+    no-node : b ≡ 0 → Empty (at + 1) ≡ headAt s n met at
+    unfolding headAt
+    no-node z = rw (lt-leb (8 * length s) at (omega arith), eq-eqb (getD (bits s) at 0) 0 (sym e ∙ z)) refl
+
+    many : (b ≡ 0 → ⊥) → 255 ≤ met → Refused 20 ≡ headAt s n met at
+    unfolding headAt
+    many z k = rw (lt-leb (8 * length s) at (omega arith), ne-eqb (getD (bits s) at 0) 0 (λ q. z (e ∙ q)), le-leb 255 met k) refl
+
+    label-end : (b ≡ 0 → ⊥) → met < 255 → length s ≤ (at + n) / 8 → Refused 18 ≡ headAt s n met at
+    unfolding headAt
+    label-end z k l =
+        rw (lt-leb (8 * length s) at (omega arith), ne-eqb (getD (bits s) at 0) 0 (λ q. z (e ∙ q)), lt-leb 255 met k, lt-ltb (8 * length s) (at + 1 + n) (omega arith)) refl
+
+    is-node : (b ≡ 0 → ⊥) → met < 255 → (at + n) / 8 < length s → (v : ℕ) → v ≡ field s (at + 1) n → Node v (at + 1 + n) ≡ headAt s n met at
+    unfolding headAt
+    is-node z k l v q =
+        rw (lt-leb (8 * length s) at (omega arith), ne-eqb (getD (bits s) at 0) 0 (λ q. z (e ∙ q)), lt-leb 255 met k, le-ltb (8 * length s) (at + 1 + n) (omega arith), q) refl
+
+returns : tie.Need-returns
+returns c = bits-end _ _ _ _ (c .if1 .taken)
+
+bit-at-requires : tie.Need-bit-at-requires
+bit-at-requires c κs = search needs
+
+add-t9 : tie.Need-add-t9
+add-t9 c = search needs
+
+returns-2 : tie.Need-returns-2
+returns-2 c = no-node _ _ _ _ _ (c .before .before .if1 .left) (c .before .bit-at .ensures .0) (c .if2 .taken)
+
+returns-3 : tie.Need-returns-3
+returns-3 c = many _ _ _ _ _ (c .before .before .before .if1 .left) (c .before .before .bit-at .ensures .0) (c .before .if2 .left) (c .if3 .taken)
+
+add-if4 : tie.Need-add-if4
+add-if4 c = search needs
+
+returns-4 : tie.Need-returns-4
+returns-4 c =
+    label-end _ _ _ _ _ (c .before .before .before .before .if1 .left) (c .before .before .before .bit-at .ensures .0) (c .before .before .if2 .left) (c .before .if3 .left) (c .if4 .taken)
+
+add-field-at : tie.Need-add-field-at
+add-field-at c = search needs
+
+field-at-requires : tie.Need-field-at-requires
+field-at-requires c κs = search needs
+
+add-t10 : tie.Need-add-t10
+add-t10 c = search needs
+
+add-t12 : tie.Need-add-t12
+add-t12 c = search needs
+
+returns-5 : tie.Need-returns-5
+returns-5 c =
+    is-node _ _ _ _ _ (c .before .before .before .before .before .if1 .left) (c .before .before .before .before .bit-at .ensures .0) (c .before .before .before .if2 .left) (c .before .before .if3 .left)
+    (c .before .if4 .left) (c .field-at .result) (c .field-at .ensures)
+
+pub read-head-spec : {M : Type 1} → statement M
+read-head-spec =
+    tie.close
+    (tie.spec
+    returns
+    bit-at-requires
+    add-t9
+    returns-2
+    returns-3
+    add-if4
+    returns-4
+    add-field-at
+    field-at-requires
+    add-t10
+    add-t12
+    returns-5)

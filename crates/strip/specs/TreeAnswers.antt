@@ -1,0 +1,44 @@
+-- What the readers of tree strips answer, of the definitions of TreeStrip. Assumes nothing.
+use Prim.Native.Nat.{ℕ, _+_, _-_, _*_}
+use mathlib.Core.Bool.{Bool, _&&_}
+use mathlib.Core.List.{List}
+use lib.Dec.{ltb, leb, eqb}
+use lib.ListN.{length, getD}
+use Rattle.strip.specs.Bits.{bits, field}
+use Rattle.strip.specs.RuleStrip.{orElse}
+use Rattle.strip.specs.TreeStrip.{Parsed, parsed, refused, readTree}
+use Rattle.strip.specs.declared.tree.Head.{Head}
+use Rattle.strip.specs.declared.tree.Head.the-variants as head
+use Rattle.strip.specs.declared.tree.TreeRead.{TreeRead}
+use Rattle.strip.specs.declared.tree.TreeRead.the-variants as read
+use Rattle.strip.specs.declared.tree.TreeCheck.{TreeCheck}
+use Rattle.strip.specs.declared.tree.TreeCheck.the-variants as check
+
+-- what stands at bit place at, after `met` positions: "18 the bits end early"; "bit 0 for empty"; "20 a node bit for position 256"; "for a
+-- node bit 1, the label"
+unfoldable pub headAt : List ℕ → ℕ → ℕ → ℕ → Head
+headAt s n met at =
+    orElse (leb (8 * length s) at) (head.Refused 18)
+    (orElse (eqb (getD (bits s) at 0) 0) (head.Empty (at + 1))
+    (orElse (leb 255 met) (head.Refused 20)
+    (orElse (ltb (8 * length s) (at + 1 + n)) (head.Refused 18)
+    (head.Node (field s (at + 1) n) (at + 1 + n)))))
+
+-- a node's answer from that of its second branch, where `met` positions were met up to the node: 19, "once both branches are read, a node
+-- with label 0 and two empty branches"
+abbrev pub closed : ℕ → ℕ → TreeRead → TreeRead
+closed label met (read.Refused r) = read.Refused r
+closed label met (read.Tree all next) = orElse (eqb label 0 && eqb all met) (read.Refused 19) (read.Tree all next)
+
+-- a tree read of the strip s is told by the positions met and the place where its bits end
+abbrev pub told : List ℕ → Parsed → TreeRead
+told s (refused r) = read.Refused r
+told s (parsed t met rest) = read.Tree met (8 * length s - length rest)
+
+-- "Otherwise it returns n and N."
+abbrev pub answered : List ℕ → Parsed → TreeCheck
+answered s (refused r) = check.Refused r
+answered s (parsed t met rest) = check.Accepted (field s 4 4) met
+
+abbrev pub checkedTree : List ℕ → TreeCheck
+checkedTree s = answered s (readTree s)
