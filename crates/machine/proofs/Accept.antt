@@ -18,8 +18,8 @@ use Rattle.machine.specs.Machine.{startCode, codesOf, stepOf, acceptBy, 
 use Rattle.machine.proofs.Held.{any-true}
 use Rattle.machine.proofs.Run.{Tree, empty, node, codeOf, stateOf, Labelled, run-code}
 use Rattle.machine.proofs.Exists.{Cover, cover-state, cover-mem, mem-cover, and-both}
-use Rattle.machine.specs.declared.Kind.{Kind}
-use Rattle.machine.specs.declared.Kind.the-variants.{Not, Or, And, Exists}
+use Rattle.machine.specs.declared.explore.Kind.{Kind}
+use Rattle.machine.specs.declared.explore.Kind.the-variants.{Not, Or, And, Exists}
 
 -- a record's machine accepts where the code of the tree does
 pub accept-law : (k : Kind) (f g : Step) (wx wy c labels a b : ℕ) (cs : List ℕ) → 0 < c → c ≤ 64 → codesOf k f g wx wy c labels ≡ some cs → (t : Tree) → Labelled labels t

@@ -13,14 +13,14 @@ use borrow.Author.Tests.{ltb-true, ltb-false, le-leb, lt-leb}
 use lib.Arith.{digits-lt, digits-div, digits-mod}
 use lib.Dec.{ltb, leb}
 use lib.ListN.{length, getD, take, drop, set, length-append, List·getD-append}
-use Rattle.machine.specs.declared.Builder.{Builder}
+use Rattle.machine.specs.declared.explore.Builder.{Builder}
 use lib.Seq.{getD-take, getD-set-same, getD-set-other, take-set-le, drop-set-lt, length-take-le}
 use Rattle.machine.specs.Explore.{Has, pick, place, insert, visit}
 use Rattle.machine.proofs.Place.{place-le, place-append, place-last}
 use Rattle.machine.proofs.Grow.{Grows, insert-grows, has-grows, visit-has}
 use Rattle.machine.specs.Table.{listed, addr, Room, Cell, Filled, Built}
 use Rattle.machine.specs.Succ.{successorOf}
-use Rattle.machine.specs.declared.Plan.{Plan}
+use Rattle.machine.specs.declared.explore.Plan.{Plan}
 use Rattle.machine.proofs.Steps.{cell-small}
 
 pub addr-small : (c l i j : ℕ) → c ≤ 64 → l < 512 → i < 64 → j < 64 → addr c l i j < 4194304

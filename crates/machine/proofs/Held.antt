@@ -18,8 +18,8 @@ use Rattle.machine.specs.Word.{mem, wordOf, any}
 use Rattle.machine.proofs.WordLaws.{word-mem, word-lt, mem-zero}
 use Rattle.machine.specs.Succ.{Step, entry, notCode, pairCode, off, on, hit, hitRow, hitSet, existsCode, closeCode, kindCode, startBy, wordFound, wordCodes}
 use Rattle.machine.specs.Machine.{startCode, codesOf, stepOf, Holds, Bit}
-use Rattle.machine.specs.declared.Kind.{Kind}
-use Rattle.machine.specs.declared.Kind.the-variants.{Subset, Single, Child1, Child2, Root, Not, Or, And, Exists, Close}
+use Rattle.machine.specs.declared.explore.Kind.{Kind}
+use Rattle.machine.specs.declared.explore.Kind.the-variants.{Subset, Single, Child1, Child2, Root, Not, Or, And, Exists, Close}
 
 -- ---- any
 pub any-cong : (f g : ℕ → Bool) (n : ℕ) → ((i : ℕ) → i < n → f i ≡ g i) → any f n ≡ any g n

@@ -20,10 +20,10 @@ use Rattle.machine.specs.Rule.{Mach, noMach, Outcome, built, over, machF
 use Rattle.machine.proofs.Run.{Tree, empty, node, codeOf, stateOf, Labelled}
 use Rattle.machine.proofs.Exists.{Only, only-empty, only-off, only-on, Cover, cover-empty, cover-off, cover-on}
 use Rattle.machine.proofs.Accept.{accept-law, Small, Accepts, not-law, or-law, and-law, exists-law}
-use Rattle.machine.proofs.Atoms.{atomState, Four, atom-run}
-use Rattle.machine.specs.declared.Kind.{Kind}
-use Rattle.machine.specs.declared.Kind.the-variants.{Subset, Single, Child1, Child2, Root, Not, Or, And, Exists, Close}
-use Rattle.machine.specs.declared.Decoded.{Decoded}
+use Rattle.machine.proofs.AtomRuns.{atomState, Four, atom-run}
+use Rattle.machine.specs.declared.explore.Kind.{Kind}
+use Rattle.machine.specs.declared.explore.Kind.the-variants.{Subset, Single, Child1, Child2, Root, Not, Or, And, Exists, Close}
+use Rattle.machine.specs.declared.records.Decoded.{Decoded}
 
 -- does a record hold of a tree, where P says so of its parts
 abbrev pub satBy : Kind → ℕ → ℕ → ℕ → ℕ → (ℕ → Tree → Type 0) → Tree → Type 0

@@ -1,5 +1,6 @@
--- Exploration: the codes that are reachable from a start code under a successor function, in the order of discovery.
--- `none` says that there are more than `c` of them. Assumes nothing.
+-- Exploration: the codes that are reachable from a start code under a successor function, in the order of discovery; `none` where there
+-- are more than `c` of them. Document 01, "Machines": "States counted are those reachable from state 0 under all labels."
+-- Assumes nothing.
 use Prim.Native.Nat.{ℕ, zero, suc, _<_}
 use mathlib.Core.Bool.{Bool, true, false}
 use mathlib.Core.List.{List, [], _∷_, _++_}

@@ -1,4 +1,6 @@
--- The machines of a rule's records, one after the other. Assumes nothing.
+-- The machines of a rule's records, one after the other. Document 01, "Machines": "Counts and accepting sets are kept with one entry for
+-- each of the 128 possible records"; "What each operation turns down": "14, with the record's number, for the first record in strip order
+-- with more than c states. All records are built". Assumes nothing.
 use Prim.Native.Nat.{ℕ, zero, suc, _+_, _*_, _≤_, _<_}
 use mathlib.Core.Path.{_≡_}
 use mathlib.Core.List.{List, [], _∷_, _++_}
@@ -6,11 +8,11 @@ use mathlib.Core.Option.{Option, none, some}
 use lib.ListN.{length, getD}
 use Rattle.machine.specs.Succ.{Step, kindCode}
 use Rattle.machine.specs.Machine.{codesOf, stepOf, acceptOf, Holds, Bit}
-use Rattle.machine.specs.declared.Kind.{Kind}
-use Rattle.machine.specs.declared.Kind.the-variants.{Subset, Single, Child1, Child2, Root, Not, Or, And, Exists, Close}
-use Rattle.machine.specs.declared.Plan.{Plan}
-use Rattle.machine.specs.declared.Decoded.{Decoded}
-use Rattle.machine.specs.declared.Machines.{Machines}
+use Rattle.machine.specs.declared.explore.Kind.{Kind}
+use Rattle.machine.specs.declared.explore.Kind.the-variants.{Subset, Single, Child1, Child2, Root, Not, Or, And, Exists, Close}
+use Rattle.machine.specs.declared.explore.Plan.{Plan}
+use Rattle.machine.specs.declared.records.Decoded.{Decoded}
+use Rattle.machine.specs.declared.records.Machines.{Machines}
 
 -- a machine: the codes of its states, its step and the set of its accepting states
 pub record Mach : Type 0 where

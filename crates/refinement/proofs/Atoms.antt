@@ -17,7 +17,7 @@ use Rattle.logic.proofs.Reach.{elem-below}
 use Rattle.logic.proofs.Tables.{subset-bounded, singleton-bounded, successor-bounded, root-bounded}
 use Rattle.logic.proofs.Two.{two-branches, all-elem}
 use Rattle.machine.specs.Succ.{subsetRule, singleRule, childRule, child1Rule, child2Rule, rootRule}
-use Rattle.machine.proofs.Atoms.{atomState}
+use Rattle.machine.proofs.AtomRuns.{atomState}
 use Rattle.refinement.proofs.Trees.{back}
 use Rattle.refinement.proofs.Weights.{weight, bit-is}
 

@@ -20,8 +20,8 @@ use Rattle.machine.specs.Word.{mem}
 use Rattle.machine.specs.Table.{addr}
 use Rattle.machine.specs.Succ.{entry}
 use Rattle.machine.specs.Rule.{Mach, noMach, Outcome, built, over, At, Made, noDecoded, upto}
-use Rattle.machine.specs.declared.Decoded.{Decoded}
-use Rattle.machine.specs.declared.Machines.{Machines}
+use Rattle.machine.specs.declared.records.Decoded.{Decoded}
+use Rattle.machine.specs.declared.records.Machines.{Machines}
 use Rattle.search.specs.Arrays.{acceptsOf, machineIn, tableIn, Whole}
 use Rattle.refinement.proofs.Records.{machOf, Good}
 use Rattle.refinement.proofs.Upto.{decodedOf, Linked, linked, few-states, decide-over}

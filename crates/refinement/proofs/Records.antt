@@ -37,10 +37,10 @@ use Rattle.machine.proofs.Run.{Tree as Tree₂, empty as empty₂, node as node
 use Rattle.machine.proofs.Labels.{bit-of}
 use Rattle.machine.proofs.Exists.{Cover, cover-mem, mem-cover, and-both}
 use Rattle.machine.proofs.Accept.{Small, accept-law, not-run, pair-run}
-use Rattle.machine.proofs.Atoms.{atomState, atom-run}
+use Rattle.machine.proofs.AtomRuns.{atomState, atom-run}
 use Rattle.machine.proofs.Sat.{cover-labelled, subset-four, single-four, child-four, root-four}
-use Rattle.machine.specs.declared.Kind.{Kind}
-use Rattle.machine.specs.declared.Kind.the-variants.{Subset, Single, Child1, Child2, Root, Not, Or, And, Exists, Close}
+use Rattle.machine.specs.declared.explore.Kind.{Kind}
+use Rattle.machine.specs.declared.explore.Kind.the-variants.{Subset, Single, Child1, Child2, Root, Not, Or, And, Exists, Close}
 use Rattle.refinement.proofs.Trees.{back, forth, back-forth, raw, run-code, run-state, labelled, proper}
 use Rattle.refinement.proofs.Weights.{weight, varies-cover, cover-varies}
 use Rattle.refinement.proofs.Atoms.{subset-same, single-same, root-same, first-same, second-same}

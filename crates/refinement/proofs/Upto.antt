@@ -37,9 +37,9 @@ use Rattle.machine.specs.Machine.{startCode, codesOf, stepOf, acceptBy, acceptO
 use Rattle.machine.specs.Rule.{Mach, noMach, machFrom, Outcome, built, over, more, after, noDecoded, upto}
 use Rattle.machine.proofs.Run.{Tree as Tree₂, codeOf, stateOf, Labelled, run-code as code-state, reach-tree}
 use Rattle.machine.proofs.Accept.{accept-law}
-use Rattle.machine.specs.declared.Kind.{Kind}
-use Rattle.machine.specs.declared.Kind.the-variants.{Subset, Single, Child1, Child2, Root, Not, Or, And, Exists, Close}
-use Rattle.machine.specs.declared.Decoded.{Decoded}
+use Rattle.machine.specs.declared.explore.Kind.{Kind}
+use Rattle.machine.specs.declared.explore.Kind.the-variants.{Subset, Single, Child1, Child2, Root, Not, Or, And, Exists, Close}
+use Rattle.machine.specs.declared.records.Decoded.{Decoded}
 use Rattle.refinement.proofs.Trees.{back, forth, back-forth, raw, run-code, run-state, labelled, proper}
 use Rattle.refinement.proofs.Weights.{weight}
 use Rattle.refinement.proofs.Records.{machOf, Good, codeMachine, code-subset, code-single, code-root, code-first, code-second, code-not, code-or, code-and, code-exists}

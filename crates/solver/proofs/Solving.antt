@@ -19,8 +19,8 @@ use Rattle.machine.specs.Word.{mem}
 use Rattle.machine.specs.Succ.{entry}
 use Rattle.machine.specs.Table.{addr}
 use Rattle.machine.specs.Rule.{Mach, noMach, Outcome as Made-outcome, built, over, At, Made, noDecoded, upto}
-use Rattle.machine.specs.declared.Machines.{Machines}
-use Rattle.machine.specs.declared.Decoded.{Decoded}
+use Rattle.machine.specs.declared.records.Machines.{Machines}
+use Rattle.machine.specs.declared.records.Decoded.{Decoded}
 use Rattle.search.specs.Arrays.{acceptsOf, tableIn, answerOf, Whole, Ended}
 use Rattle.logic.specs.Search.{Sought, tree, large, absent, search}
 use Rattle.refinement.proofs.Upto.{decodedOf, decide-over}

@@ -11,7 +11,7 @@ use Rattle.logic.specs.Claims.{Outcome, refused14, shown}
 use Rattle.logic.specs.Decide.{report, decideOf}
 use Rattle.machine.specs.Word.{mem}
 use Rattle.machine.specs.Rule.{noDecoded}
-use Rattle.machine.specs.declared.Decoded.{Decoded}
+use Rattle.machine.specs.declared.records.Decoded.{Decoded}
 use Rattle.search.specs.Arrays.{acceptsOf, answerOf, Backs}
 use Rattle.refinement.proofs.Upto.{decodedOf}
 use Rattle.solver.specs.declared.Solution.{Solution}

@@ -6,7 +6,7 @@ ghost use Rattle.machine.specs.Word.{mem};
 ghost use Rattle.machine.specs.Rule.{Fits, Sound, noDecoded};
 ghost use Rattle.search.specs.Arrays.{acceptsOf};
 ghost use Rattle.solver.specs.Solve.{Marked, Solved};
-use machine::Decoded;
+use machine::records::Decoded;
 use search::Found;
 
 // One byte for each state: 1 where it is a member of w.
@@ -16,7 +16,7 @@ fn marks(w: u64) -> [u8; 64]
     let mut a = [0u8; 64];
     let mut q: usize = 0;
     while q < 64 {
-        if machine::has(w, q) {
+        if machine::words::has(w, q) {
             a[q] = 1;
         }
         q += 1;
@@ -45,7 +45,7 @@ pub fn solve(
     ensures { λ r. ⌜ Solved records m c labels p r ⌝ }
     ensures { λ r. ⌜ drop (m * (labels * c * c)) (now (ws .exit)) ≡ drop (m * (labels * c * c)) (now (ws .entry)) ⌝ }
 {
-    let t = machine::build_all(ws, records, m, c, labels);
+    let t = machine::records::build_all(ws, records, m, c, labels);
     let over = t.over;
     let counts = t.counts;
     let accepts = t.accepts;

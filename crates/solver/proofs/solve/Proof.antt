@@ -11,7 +11,7 @@ use Rattle.solver.proofs.solve.Tie as tie
 use Rattle.solver.proofs.solve.Reads as reads
 use Rattle.solver.proofs.solve.Lts as lts
 use Rattle.solver.proofs.marks.Reads as marks-reads
-use Rattle.machine.proofs.build_all.Reads as build-all-reads
+use Rattle.machine.proofs.records.build_all.Reads as build-all-reads
 use Rattle.search.proofs.find.Reads as find-reads
 
 -- src/lib.rt:39:9

@@ -1,0 +1,39 @@
+-- `entry_at` meets its contract. Assumes nothing.
+use mathlib.Core.Path.{_≡_, refl, sym, ap, _∙_}
+use Prim.Native.Nat.{ℕ, _+_}
+use native.Mathlib.Omega.{arith}
+use lib.ListN.{getD}
+use Rattle.machine.specs.Table.{addr}
+use Rattle.machine.specs.Succ.{entry}
+use Rattle.machine.proofs.Fill.{addr-small}
+use borrow.Author.Needs.{needs}
+use Rattle.machine.proofs.explore.entry_at.Statement.{statement}
+use Rattle.machine.proofs.explore.entry_at.Tie as tie
+use Rattle.machine.proofs.explore.entry_at.Reads as reads
+use Rattle.machine.proofs.explore.entry_at.Lts as lts
+use Rattle.machine.proofs.explore.cell.Reads as cell-reads
+use Rattle.machine.proofs.explore.read.Reads as read-reads
+use Rattle.machine.proofs.explore.wide.Reads as wide-reads
+
+cell-requires : tie.Need-cell-requires
+cell-requires c κs = search needs
+
+add-read : tie.Need-add-read
+add-read c =
+    let a = c .before .before .args in
+    omega (arith, addr-small (a .c) (a .l) (a .i) (a .j) (omega arith) (omega arith) (omega arith) (omega arith))
+
+read-requires : tie.Need-read-requires
+read-requires c κs = search needs
+
+wide-requires : tie.Need-wide-requires
+wide-requires c κs = search needs
+
+returns : tie.Need-returns
+unfolding entry
+returns c =
+    let a = c .before .before .before .before .args in
+    (c .wide .ensures .0 ∙ c .before .read .ensures ∙ ap (λ (k : ℕ). getD (a .low .now) (a .a + k) 0) (c .before .before .cell .ensures), c .wide .ensures .1)
+
+pub entry-at-spec : {M : Type 1} → statement M
+entry-at-spec = tie.close (tie.spec cell-requires add-read read-requires wide-requires returns)

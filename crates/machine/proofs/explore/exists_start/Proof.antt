@@ -1,0 +1,33 @@
+-- `exists_start` meets its contract. The exploration is the one of the plan's closing, in the same share. Assumes nothing.
+use mathlib.Core.Path.{_≡_, ap, _∙_}
+use native.Mathlib.Omega.{arith}
+use lib.ListN.{length}
+use Rattle.machine.specs.Succ.{existsStart, wordFound, closing, succIn}
+use Rattle.machine.proofs.Start.{room-closing, kept-closing}
+use borrow.Author.Needs.{needs}
+use Rattle.machine.proofs.explore.exists_start.Statement.{statement}
+use Rattle.machine.proofs.explore.exists_start.Tie as tie
+use Rattle.machine.proofs.explore.exists_start.Reads as reads
+use Rattle.machine.proofs.explore.exists_start.Lts as lts
+use Rattle.machine.proofs.explore.build.Reads as build-reads
+use Rattle.machine.proofs.explore.word_found.Reads as word-found-reads
+
+build-requires : tie.Need-build-requires
+build-requires c κs = let s = c .before .before in room-closing (s .args .p) (length (s .args .ws .now)) (omega arith) (s .pre .0)
+
+word-found-requires : tie.Need-word-found-requires
+word-found-requires c κs = search needs
+
+same-length : tie.Need-same-length
+same-length c = search needs
+
+returns : tie.Need-returns
+unfolding existsStart
+returns c =
+    let s = c .before .before .before .before .before .before in
+    let a = s .args in
+    let b = c .before .before .before .build in
+    (c .word-found .ensures ∙ ap wordFound (b .ensures .list), kept-closing (succIn (a .ws .now) (closing (a .p))) (a .p) (b .result) (a .ws .now) (b .last .0) (omega (arith, s .pre)) (b .ensures))
+
+pub exists-start-spec : {M : Type 1} → statement M
+exists-start-spec = tie.close (tie.spec build-requires word-found-requires same-length returns)

@@ -1,0 +1,30 @@
+-- `pair_code` meets its contract. Assumes nothing.
+use mathlib.Core.Path.{_≡_, refl, sym, ap, ap₂, _∙_}
+use Prim.Native.Nat.{ℕ, _+_, _*_}
+use Rattle.machine.specs.Succ.{pairCode}
+use borrow.Author.Needs.{needs}
+use Rattle.machine.proofs.explore.pair_code.Statement.{statement}
+use Rattle.machine.proofs.explore.pair_code.Tie as tie
+use Rattle.machine.proofs.explore.pair_code.Reads as reads
+use Rattle.machine.proofs.explore.pair_code.Lts as lts
+use Rattle.machine.proofs.explore.entry_at.Reads as entry-at-reads
+
+entry-at-requires : tie.Need-entry-at-requires
+entry-at-requires c κs = search needs
+
+entry-at-requires-2 : tie.Need-entry-at-requires-2
+entry-at-requires-2 c κs = search needs
+
+mul-result : tie.Need-mul-result
+mul-result c = search needs
+
+add-result : tie.Need-add-result
+add-result c = search needs
+
+returns : tie.Need-returns
+unfolding pairCode
+returns c = ap₂ (λ (a b : ℕ). a * 64 + b) (c .before .entry-at .ensures .0) (c .entry-at2 .ensures .0)
+
+pub pair-code-spec : {M : Type 1} → statement M
+pair-code-spec =
+    tie.close (tie.spec entry-at-requires entry-at-requires-2 mul-result add-result returns)

@@ -1,0 +1,45 @@
+-- `put` meets its contract. Assumes nothing.
+use mathlib.Core.Path.{subst, ap, _∙_}
+use mathlib.Core.Logic.{⊎-elim}
+use borrow.Author.Needs.{needs}
+use native.Mathlib.Omega.{arith}
+use Prim.Native.Nat.{ℕ, _+_}
+use mathlib.Core.List.{List}
+use mathlib.Core.Option.{Option}
+use Rattle.machine.specs.Table.{listed}
+use Rattle.machine.specs.declared.explore.Builder.{Builder}
+use Rattle.machine.proofs.Steps.{id-length, put-old, put-new, put-full}
+use Rattle.machine.proofs.explore.put.Statement.{statement}
+use Rattle.machine.proofs.explore.put.Tie as tie
+use Rattle.machine.proofs.explore.put.Reads as reads
+use Rattle.machine.proofs.explore.put.Lts as lts
+
+returns : tie.Need-returns
+returns c =
+    let a = c .before .args in
+    (omega arith, omega arith, put-old (a .c) (a .x) (a .b .count) (a .b .codes) (id-length 64 (a .b .codes) (c .before .good .0 .1 .1 .0 .1 .0 .1)) (omega arith) (omega arith) (omega arith))
+
+mul-r : tie.Need-mul-r
+mul-r c = search needs
+
+element-write-r : tie.Need-element-write-r
+element-write-r c = search needs
+
+add-r : tie.Need-add-r
+add-r c = search needs
+
+returns-2 : tie.Need-returns-2
+returns-2 c =
+    let a = c .before .before .args in
+    let n = id-length 64 (a .b .codes) (c .before .before .good .0 .1 .1 .0 .1 .0 .1) in
+    let then : (r : Builder) → Option (List ℕ) = λ r. listed (a .c) (record { codes = r .codes; count = a .b .count + 1 }) in (
+      omega arith,
+      omega arith,
+      ⊎-elim
+          (λ w. ap then (w .1) ∙ put-new (a .c) (a .x) (a .b .count) (a .b .codes) n (omega arith) (omega arith) (omega arith) (w .0 .taken))
+          (λ w. ap then (w .1) ∙ put-full (a .c) (a .x) (a .b .count) (a .b .codes) n (omega arith) (omega arith) (a .b .codes) (omega arith) (w .0 .left))
+          (c .if2 .came),
+    )
+
+pub put-spec : {M : Type 1} → statement M
+put-spec = tie.close (tie.spec returns mul-r element-write-r add-r returns-2)

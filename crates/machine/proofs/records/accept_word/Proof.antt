@@ -1,0 +1,98 @@
+-- `accept_word` meets its contract. The invariant: the word holds the accepting states below i. Assumes nothing.
+use borrow.Author.Needs.{needs}
+use Prim.Native.Nat.{ℕ, _+_, _-_, _^_, _≤_, _<_, _%_}
+use mathlib.Core.Bool.{Bool, _||_, _&&_}
+use mathlib.Core.Logic.{⊎-elim}
+use mathlib.Core.Path.{_≡_, refl, sym, ap, _∙_, subst}
+use native.Mathlib.Omega.{arith}
+use borrow.Author.Tests.{le-ltb}
+use lib.Dec.{eqb, ltb}
+use lib.ListN.{length, getD, take}
+use lib.Seq.{getD-take, length-take-le}
+use Rattle.machine.specs.Word.{mem}
+use Rattle.machine.proofs.WordLaws.{mem-zero, word-ext}
+use Rattle.machine.specs.Machine.{acceptBy, acceptOf}
+use Rattle.machine.proofs.Steps.{id-length}
+use Rattle.machine.proofs.Members.{accept-more, accept-same}
+use Rattle.machine.proofs.records.accept_word.Statement.{statement}
+use Rattle.machine.proofs.records.accept_word.Tie as tie
+use Rattle.machine.proofs.records.accept_word.Reads as reads
+use Rattle.machine.proofs.records.accept_word.Lts as lts
+use Rattle.machine.proofs.records.accepts.Reads as accepts-reads
+use Rattle.machine.proofs.words.with_member.Reads as with-member-reads
+
+abbrev Inv-loop : tie.InvT-loop
+Inv-loop kind a b codes count r₀ i₀ r i =
+    (i ≤ count) × (count ≤ 64) × (r < 2 ^ 64) × ((q : ℕ) → mem q r ≡ (ltb q i && acceptBy kind a b (getD (take count codes) q 0)))
+
+abbrev μ-loop : tie.MeasureT-loop
+μ-loop kind a b codes count r₀ i₀ r i = count - i
+
+loop-holds : tie.Need-loop-holds Inv-loop μ-loop
+loop-holds c = (omega arith, omega arith, omega arith, λ q. rw (le-ltb q 0 (omega arith)) (mem-zero q))
+
+mul-accepts : tie.Need-mul-accepts Inv-loop μ-loop
+mul-accepts c = search needs
+
+array-read-accepts : tie.Need-array-read-accepts Inv-loop μ-loop
+array-read-accepts c = search needs
+
+accepts-requires : tie.Need-accepts-requires Inv-loop μ-loop
+accepts-requires c κs = search needs
+
+with-member-requires : tie.Need-with-member-requires Inv-loop μ-loop
+with-member-requires c κs = search needs
+
+add-i : tie.Need-add-i Inv-loop μ-loop
+add-i c = search needs
+
+loop-less : tie.Need-loop-less Inv-loop μ-loop
+loop-less c = search needs
+
+loop-again : tie.Need-loop-again Inv-loop μ-loop
+loop-again c =
+    let a = c .before .before .before .before .before .args in
+    let h = c .before .before .before .loop in
+    let t = c .before .before .loop-test .taken in
+    let v = c .before .accepts in
+    let A : ℕ → Bool = λ q. acceptBy (a .kind) (a .a) (a .b) (getD (take (a .s .count) (a .s .codes)) q 0) in
+    let e : v .result ≡ A (h .i) = v .ensures ∙ ap (acceptBy (a .kind) (a .a) (a .b)) (sym (getD-take (a .s .count) (a .s .codes) (h .i) 0 t)) in
+    ⊎-elim
+    (λ w.
+    let m : h .i % 64 ≡ h .i = omega arith in (
+      omega arith,
+      omega arith,
+      omega (arith, w .2, w .1 .ok),
+      λ q.
+          ap (mem q) (w .2) ∙ w .1 .ensures q ∙ ap (λ (k : ℕ). mem q (h .r) || eqb k q) m ∙ accept-more (h .i) q A (mem q (h .r)) (sym e ∙ w .0 .taken) (h .inv .3 q),
+    ))
+    (λ w. (omega arith, omega arith, omega (arith, w .1, h .inv .2), λ q. ap (mem q) (w .1) ∙ accept-same (h .i) q A (mem q (h .r)) (sym e ∙ w .0 .left) (h .inv .3 q)))
+    (c .if1 .came)
+
+returns : tie.Need-returns Inv-loop μ-loop
+unfolding acceptOf
+returns c =
+    let s = c .before .before .before in
+    let a = s .args in
+    let h = c .before .loop in
+    let cs = take (a .s .count) (a .s .codes) in
+    let n : length cs ≡ a .s .count = length-take-le (a .s .count) (a .s .codes) (omega (arith, id-length 64 (a .s .codes) (s .good .0 .1 .1 .0 .1 .0 .1))) in
+    let e : h .i ≡ length cs = omega arith in
+    let all : (q : ℕ) → mem q (h .r) ≡ (ltb q (length cs) && acceptBy (a .kind) (a .a) (a .b) (getD cs q 0)) = rw e at (h .inv .3) in
+    word-ext 64 (h .r) (λ (q : ℕ). ltb q (length cs) && acceptBy (a .kind) (a .a) (a .b) (getD cs q 0)) (h .inv .2) (λ q l. all q)
+
+pub accept-word-spec : {M : Type 1} → statement M
+accept-word-spec =
+    tie.close
+    (tie.spec
+    Inv-loop
+    μ-loop
+    loop-holds
+    mul-accepts
+    array-read-accepts
+    accepts-requires
+    with-member-requires
+    add-i
+    loop-less
+    loop-again
+    returns)

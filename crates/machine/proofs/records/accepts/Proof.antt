@@ -1,0 +1,154 @@
+-- `accepts` meets its contract. Each arm is the definition's clause for that kind. Assumes nothing.
+use Prim.Native.Nat.{_/_, _%_}
+use mathlib.Core.Bool.{Bool, not, _||_, _&&_}
+use mathlib.Core.Path.{_≡_, refl, sym, ap, _∙_}
+use Rattle.machine.specs.Word.{mem}
+use Rattle.machine.specs.Machine.{acceptBy}
+use borrow.Author.Needs.{needs}
+use Rattle.machine.proofs.records.accepts.Statement.{statement}
+use Rattle.machine.proofs.records.accepts.Tie as tie
+use Rattle.machine.proofs.records.accepts.Reads as reads
+use Rattle.machine.proofs.records.accepts.Lts as lts
+use Rattle.machine.proofs.words.has.Reads as has-reads
+use Rattle.machine.proofs.words.meet.Reads as meet-reads
+
+enum-told : tie.Need-enum-told
+enum-told c = search needs
+
+enum-told-2 : tie.Need-enum-told-2
+enum-told-2 c = search needs
+
+enum-told-3 : tie.Need-enum-told-3
+enum-told-3 c = search needs
+
+enum-told-4 : tie.Need-enum-told-4
+enum-told-4 c = search needs
+
+enum-told-5 : tie.Need-enum-told-5
+enum-told-5 c = search needs
+
+enum-told-6 : tie.Need-enum-told-6
+enum-told-6 c = search needs
+
+has-requires : tie.Need-has-requires
+has-requires c κs = search needs
+
+enum-told-7 : tie.Need-enum-told-7
+enum-told-7 c = search needs
+
+has-requires-2 : tie.Need-has-requires-2
+has-requires-2 c κs = search needs
+
+has-requires-3 : tie.Need-has-requires-3
+has-requires-3 c κs = search needs
+
+enum-told-8 : tie.Need-enum-told-8
+enum-told-8 c = search needs
+
+has-requires-4 : tie.Need-has-requires-4
+has-requires-4 c κs = search needs
+
+has-requires-5 : tie.Need-has-requires-5
+has-requires-5 c κs = search needs
+
+enum-told-9 : tie.Need-enum-told-9
+enum-told-9 c = search needs
+
+meet-requires : tie.Need-meet-requires
+meet-requires c κs = search needs
+
+enum-told-10 : tie.Need-enum-told-10
+enum-told-10 c = search needs
+
+returns : tie.Need-returns
+unfolding acceptBy
+returns c = rw (c .enum-told .given .1) refl
+
+returns-2 : tie.Need-returns-2
+unfolding acceptBy
+returns-2 c = rw (c .enum-told2 .given .1) refl
+
+returns-3 : tie.Need-returns-3
+unfolding acceptBy
+returns-3 c = rw (c .enum-told3 .given .1) refl
+
+returns-4 : tie.Need-returns-4
+unfolding acceptBy
+returns-4 c = rw (c .enum-told4 .given .1) refl
+
+returns-5 : tie.Need-returns-5
+unfolding acceptBy
+returns-5 c = rw (c .enum-told5 .given .1) refl
+
+returns-6 : tie.Need-returns-6
+unfolding acceptBy
+returns-6 c = rw (c .before .enum-told6 .given .1) (ap not (c .has .ensures))
+
+returns-7 : tie.Need-returns-7
+unfolding acceptBy
+returns-7 c =
+    let a = c .before .before .before .before .args in
+    rw (c .before .before .enum-told7 .given .1)
+    (c .if1 .taken ∙ sym (ap (λ (u : Bool). u || mem (a .x % 64) (a .b)) (sym (c .before .has2 .ensures) ∙ c .if1 .taken)))
+
+returns-8 : tie.Need-returns-8
+unfolding acceptBy
+returns-8 c =
+    let a = c .before .before .before .before .before .args in
+    rw (c .before .before .before .enum-told7 .given .1)
+    (c .has3 .ensures ∙ sym (ap (λ (u : Bool). u || mem (a .x % 64) (a .b)) (sym (c .before .before .has2 .ensures) ∙ c .before .if1 .left)))
+
+returns-9 : tie.Need-returns-9
+unfolding acceptBy
+returns-9 c =
+    let a = c .before .before .before .before .before .args in
+    rw (c .before .before .before .enum-told8 .given .1)
+    (c .has5 .ensures ∙ sym (ap (λ (u : Bool). u && mem (a .x % 64) (a .b)) (sym (c .before .before .has4 .ensures) ∙ c .before .if2 .taken)))
+
+returns-10 : tie.Need-returns-10
+unfolding acceptBy
+returns-10 c =
+    let a = c .before .before .before .before .args in
+    rw (c .before .before .enum-told8 .given .1)
+    (c .if2 .left ∙ sym (ap (λ (u : Bool). u && mem (a .x % 64) (a .b)) (sym (c .before .has4 .ensures) ∙ c .if2 .left)))
+
+returns-11 : tie.Need-returns-11
+unfolding acceptBy
+returns-11 c = rw (c .before .enum-told9 .given .1) (c .meet .ensures)
+
+returns-12 : tie.Need-returns-12
+unfolding acceptBy
+returns-12 c = rw (c .enum-told10 .given .1) refl
+
+pub accepts-spec : {M : Type 1} → statement M
+accepts-spec =
+    tie.close
+    (tie.spec
+    enum-told
+    enum-told-2
+    enum-told-3
+    enum-told-4
+    enum-told-5
+    enum-told-6
+    has-requires
+    enum-told-7
+    has-requires-2
+    has-requires-3
+    enum-told-8
+    has-requires-4
+    has-requires-5
+    enum-told-9
+    meet-requires
+    enum-told-10
+    returns
+    returns-2
+    returns-3
+    returns-4
+    returns-5
+    returns-6
+    returns-7
+    returns-8
+    returns-9
+    returns-10
+    returns-11
+    returns-12)

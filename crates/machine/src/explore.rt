@@ -1,0 +1,364 @@
+// The exploration of a record's states: one for every kind of record, which differ in the successor and the start.
+ghost use mathlib.Core.Bool.{_||_};
+ghost use mathlib.Core.Path.{_≡_};
+ghost use Prim.Native.Nat.{ℕ, _+_, _≤_, _<_};
+ghost use lib.ListN.{length, getD, take};
+ghost use Rattle.machine.specs.Explore.{place, insert};
+ghost use Rattle.machine.specs.Succ.{entry, notCode, pairCode, hitRow, existsCode, closeCode, successorOf, succIn, wordFound, existsStart, startOf};
+ghost use Rattle.machine.specs.Table.{listed, addr, Room, Visited, Rowed, Ringed, Nexted, Explored, Kept};
+ghost use Rattle.machine.specs.Word.{mem, any};
+use crate::atoms::atom_index;
+use crate::atoms::child1_at;
+use crate::atoms::child2_at;
+use crate::atoms::root_at;
+use crate::atoms::single_at;
+use crate::atoms::subset_at;
+use crate::words::next_member;
+use crate::words::with_member;
+
+// The codes found so far, in the order of discovery: those below count, where count is at most the ceiling. A count above the
+// ceiling says that there are too many.
+pub struct Builder {
+    pub codes: [u64; 64],
+    pub count: usize,
+}
+
+// How a record's successor codes are computed.
+pub enum Kind {
+    // X is a subset of Y.
+    Subset,
+    // X has one member.
+    Single,
+    // X is the first branch of Y.
+    Child1,
+    // X is the second branch of Y.
+    Child2,
+    // X is the root.
+    Root,
+    // The states of one machine, for "not".
+    Not,
+    // The pairs of the states of two machines, accepting where one accepts.
+    Or,
+    // The pairs of the states of two machines, accepting where both accept.
+    And,
+    // The sets of states of one machine, for "exists".
+    Exists,
+    // The states of one machine under label 0 with the bound bit cleared or set, for the start of "exists".
+    Close,
+}
+
+// A machine to be built: its kind, the places where the tables of its parts start, the weights of the bits of its variables, the state
+// ceiling, the number of labels and the place where its own table starts.
+pub struct Plan {
+    pub kind: Kind,
+    pub first: usize,
+    pub second: usize,
+    pub wx: usize,
+    pub wy: usize,
+    pub c: usize,
+    pub labels: usize,
+    pub base: usize,
+}
+
+// Where x stands among the codes; the count where it does not.
+pub fn find(b: Builder, x: u64) -> usize
+    requires { ⌜ b .count ≤ 64 ⌝ }
+    ensures { λ r. ⌜ r ≡ place x (take (b .count) (b .codes)) ⌝ }
+{
+    let codes = b.codes;
+    let count = b.count;
+    let mut i = 0;
+    while i < count {
+        if codes[i] == x {
+            return i;
+        }
+        i += 1;
+    }
+    i
+}
+
+// The codes with x in them, where at is the place of x.
+pub fn put(b: Builder, x: u64, at: usize, c: usize) -> Builder
+    requires { ⌜ (b .count ≤ c) × (c ≤ 64) ⌝ }
+    requires { ⌜ at ≡ place x (take (b .count) (b .codes)) ⌝ }
+    ensures { λ r. ⌜ (b .count ≤ r .count) × (r .count ≤ c + 1) × (listed c r ≡ insert c x (take (b .count) (b .codes))) ⌝ }
+{
+    let count = b.count;
+    if at < count {
+        return b;
+    }
+    let mut r = b;
+    if count < c {
+        r.codes[count] = x;
+    }
+    r.count = count + 1;
+    r
+}
+
+// Where the entry for label l and states i and j stands in a table.
+pub fn cell(c: usize, l: usize, i: usize, j: usize) -> usize
+    requires { ⌜ (c ≤ 64) × (l < 512) × (i < 64) × (j < 64) ⌝ }
+    ensures { λ r. ⌜ r ≡ addr c l i j ⌝ }
+{
+    (l * c + i) * c + j
+}
+
+// The byte at k, and 0 past the end.
+pub fn read(s: &[u8], k: usize) -> u8
+    ensures { λ r. ⌜ r ≡ getD (now (s .entry)) k 0 ⌝ }
+{
+    if k < s.len() {
+        return s[k];
+    }
+    0
+}
+
+// The entry for label l and states i and j of the table that starts at a; 0 past the end.
+pub fn entry_at(low: &[u8], c: usize, a: usize, l: usize, i: usize, j: usize) -> u64
+    requires { ⌜ (c ≤ 64) × (l < 512) × (i < 64) × (j < 64) × (a < 4294967296) ⌝ }
+    ensures { λ r. ⌜ (r ≡ entry (now (low .entry)) c a l i j) × (r < 256) ⌝ }
+{
+    let k = cell(c, l, i, j);
+    wide(read(low, a + k))
+}
+
+// A byte as a word.
+pub fn wide(x: u8) -> u64
+    ensures { λ r. ⌜ (r ≡ x) × (r < 256) ⌝ }
+{
+    x as u64
+}
+
+// The successor for "not".
+pub fn not_code(low: &[u8], c: usize, a: usize, l: usize, x: u64, y: u64) -> u64
+    requires { ⌜ (c ≤ 64) × (l < 256) × (a < 4294967296) ⌝ }
+    ensures { λ r. ⌜ r ≡ notCode (entry (now (low .entry)) c a) l x y ⌝ }
+{
+    entry_at(low, c, a, l, (x % 64) as usize, (y % 64) as usize)
+}
+
+// The successor for "and" and "or".
+pub fn pair_code(low: &[u8], c: usize, a: usize, b: usize, l: usize, x: u64, y: u64) -> u64
+    requires { ⌜ (c ≤ 64) × (l < 256) × (a < 4294967296) × (b < 4294967296) ⌝ }
+    ensures { λ r. ⌜ r ≡ pairCode (entry (now (low .entry)) c a) (entry (now (low .entry)) c b) l x y ⌝ }
+{
+    let first = entry_at(low, c, a, l, (x / 64 % 64) as usize, (y / 64 % 64) as usize);
+    let second = entry_at(low, c, b, l, (x % 64) as usize, (y % 64) as usize);
+    first * 64 + second
+}
+
+// The set s with the states that follow state i and a member of y under the labels l and m.
+pub fn row_word(low: &[u8], c: usize, a: usize, l: usize, m: usize, i: usize, y: u64, s: u64) -> u64
+    requires { ⌜ (c ≤ 64) × (l < 512) × (m < 512) × (i < 64) × (a < 4294967296) ⌝ }
+    ensures { λ r. ⌜ ((q : ℕ) → mem q r ≡ (mem q s || any (hitRow (entry (now (low .entry)) c a) l m y q i) 64)) ⌝ }
+{
+    let mut r = s;
+    let mut j = next_member(y, 0);
+    while j < 64 {
+        r = with_member(r, entry_at(low, c, a, l, i, j));
+        r = with_member(r, entry_at(low, c, a, m, i, j));
+        j = next_member(y, j + 1);
+    }
+    r
+}
+
+// The successor for "exists", where w is the weight of the bound variable's bit.
+pub fn exists_code(low: &[u8], c: usize, a: usize, w: usize, l: usize, x: u64, y: u64) -> u64
+    requires { ⌜ (c ≤ 64) × (l < 256) × (a < 4294967296) × (0 < w) × (w ≤ 128) ⌝ }
+    ensures { λ r. ⌜ r ≡ existsCode (entry (now (low .entry)) c a) w l x y ⌝ }
+{
+    let off = l / (2 * w) * (2 * w) + l % w;
+    let on = off + w;
+    let mut r: u64 = 0;
+    let mut i = next_member(x, 0);
+    while i < 64 {
+        r = row_word(low, c, a, off, on, i, y, r);
+        i = next_member(x, i + 1);
+    }
+    r
+}
+
+// The successor for the start of "exists": label 0 with the bound bit v.
+pub fn close_code(low: &[u8], c: usize, a: usize, w: usize, v: usize, x: u64, y: u64) -> u64
+    requires { ⌜ (c ≤ 64) × (v < 256) × (a < 4294967296) × (0 < w) × (w ≤ 128) ⌝ }
+    ensures { λ r. ⌜ r ≡ closeCode (entry (now (low .entry)) c a) w v x y ⌝ }
+{
+    entry_at(low, c, a, v % 2 * w, (x % 64) as usize, (y % 64) as usize)
+}
+
+// The successor by the kind of record.
+pub fn successor(low: &[u8], p: Plan, l: usize, x: u64, y: u64) -> u64
+    requires { ⌜ (p .c ≤ 64) × (l < 256) × (p .first < 4294967296) × (p .second < 4294967296) ⌝ }
+    requires { ⌜ (0 < p .wx) × (p .wx ≤ 128) × (0 < p .wy) × (p .wy ≤ 128) ⌝ }
+    ensures { λ r. ⌜ r ≡ successorOf (now (low .entry)) p l x y ⌝ }
+{
+    let kind = p.kind;
+    let c = p.c;
+    let a = p.first;
+    let b = p.second;
+    let wx = p.wx;
+    let wy = p.wy;
+    match kind {
+        Kind::Subset => subset_at(atom_index(wx, wy, l, x, y)),
+        Kind::Single => single_at(atom_index(wx, wy, l, x, y)),
+        Kind::Child1 => child1_at(atom_index(wx, wy, l, x, y)),
+        Kind::Child2 => child2_at(atom_index(wx, wy, l, x, y)),
+        Kind::Root => root_at(atom_index(wx, wy, l, x, y)),
+        Kind::Not => not_code(low, c, a, l, x, y),
+        Kind::Or => pair_code(low, c, a, b, l, x, y),
+        Kind::And => pair_code(low, c, a, b, l, x, y),
+        Kind::Exists => exists_code(low, c, a, wx, l, x, y),
+        Kind::Close => close_code(low, c, a, wx, l, x, y),
+    }
+}
+
+// The successor of states i and j under label l is put in and written to the table.
+pub fn visit_pair(ws: &mut [u8], p: Plan, b: Builder, l: usize, i: usize, j: usize) -> Builder
+    requires { ⌜ Room p (length (now ws)) ⌝ }
+    requires { ⌜ (l < p .labels) × (i < b .count) × (j < b .count) × (b .count ≤ p .c + 1) ⌝ }
+    ensures { λ r. ⌜ Visited (succIn (now (ws .entry)) p) p b r (now (ws .entry)) (now (ws .exit)) l i j ⌝ }
+{
+    let c = p.c;
+    let base = p.base;
+    let count = b.count;
+    if c < count {
+        return b;
+    }
+    let codes = b.codes;
+    let x = successor(&ws[..base], p, l, codes[i], codes[j]);
+    let at = find(b, x);
+    let r = put(b, x, at, c);
+    let k = base + cell(c, l, i, j);
+    ws[k] = at as u8;
+    r
+}
+
+// The pairs of state k with those up to k, both ways, under label l.
+pub fn visit_row(ws: &mut [u8], p: Plan, b: Builder, l: usize, k: usize) -> Builder
+    requires { ⌜ Room p (length (now ws)) ⌝ }
+    requires { ⌜ (l < p .labels) × (k < b .count) × (b .count ≤ p .c + 1) ⌝ }
+    ensures { λ r. ⌜ Rowed (succIn (now (ws .entry)) p) p b r (now (ws .entry)) (now (ws .exit)) l k (k + 1) ⌝ }
+{
+    let mut r = b;
+    let mut i = 0;
+    while i <= k {
+        r = visit_pair(ws, p, r, l, i, k);
+        r = visit_pair(ws, p, r, l, k, i);
+        i += 1;
+    }
+    r
+}
+
+// The pairs of state k with those up to k, both ways, under every label.
+pub fn visit_ring(ws: &mut [u8], p: Plan, b: Builder, k: usize) -> Builder
+    requires { ⌜ Room p (length (now ws)) ⌝ }
+    requires { ⌜ (k < b .count) × (b .count ≤ p .c + 1) ⌝ }
+    ensures { λ r. ⌜ Ringed (succIn (now (ws .entry)) p) p b r (now (ws .entry)) (now (ws .exit)) k (p .labels) ⌝ }
+{
+    let labels = p.labels;
+    let mut r = b;
+    let mut l = 0;
+    while l < labels {
+        r = visit_row(ws, p, r, l, k);
+        l += 1;
+    }
+    r
+}
+
+// State k is paired with those up to it, if there is a state k.
+pub fn visit_next(ws: &mut [u8], p: Plan, b: Builder, k: usize) -> Builder
+    requires { ⌜ Room p (length (now ws)) ⌝ }
+    requires { ⌜ b .count ≤ p .c + 1 ⌝ }
+    ensures { λ r. ⌜ Nexted (succIn (now (ws .entry)) p) p b r (now (ws .entry)) (now (ws .exit)) k ⌝ }
+{
+    let c = p.c;
+    let count = b.count;
+    if c < count {
+        return b;
+    }
+    if count <= k {
+        return b;
+    }
+    visit_ring(ws, p, b, k)
+}
+
+// The machine of a plan, from its start code: its codes, and its table in the plan's share of the workspace.
+pub fn build(ws: &mut [u8], p: Plan, start: u64) -> Builder
+    requires { ⌜ Room p (length (now ws)) ⌝ }
+    ensures { λ r. ⌜ Explored (succIn (now (ws .entry)) p) p start r (now (ws .entry)) (now (ws .exit)) ⌝ }
+{
+    let c = p.c;
+    let mut b = Builder {
+        codes: [start; 64],
+        count: 1,
+    };
+    let mut k = 0;
+    while k < c {
+        b = visit_next(ws, p, b, k);
+        k += 1;
+    }
+    b
+}
+
+// The set of the codes that were found; empty where there were too many.
+pub fn word_found(b: Builder, c: usize) -> u64
+    requires { ⌜ (b .count ≤ c + 1) × (c ≤ 64) ⌝ }
+    ensures { λ r. ⌜ r ≡ wordFound (listed c b) ⌝ }
+{
+    let codes = b.codes;
+    let count = b.count;
+    if c < count {
+        return 0;
+    }
+    let mut r: u64 = 0;
+    let mut i = 0;
+    while i < count {
+        r = with_member(r, codes[i]);
+        i += 1;
+    }
+    r
+}
+
+// The start code for "exists": the states of the trees that hold no member but of the bound variable. The share is used on the way.
+pub fn exists_start(ws: &mut [u8], p: Plan) -> u64
+    requires { ⌜ Room p (length (now ws)) ⌝ }
+    requires { ⌜ 2 ≤ p .labels ⌝ }
+    ensures { λ r. ⌜ (r ≡ existsStart (take (p .base) (now (ws .entry))) p) × Kept p (now (ws .entry)) (now (ws .exit)) ⌝ }
+{
+    let c = p.c;
+    let q = Plan {
+        kind: Kind::Close,
+        first: p.first,
+        second: p.second,
+        wx: p.wx,
+        wy: p.wy,
+        c: p.c,
+        labels: 2,
+        base: p.base,
+    };
+    let b = build(ws, q, 0);
+    word_found(b, c)
+}
+
+// The start code by the kind of record.
+pub fn start_code(ws: &mut [u8], p: Plan) -> u64
+    requires { ⌜ Room p (length (now ws)) ⌝ }
+    requires { ⌜ 2 ≤ p .labels ⌝ }
+    ensures { λ r. ⌜ (r ≡ startOf (take (p .base) (now (ws .entry))) p) × Kept p (now (ws .entry)) (now (ws .exit)) ⌝ }
+{
+    let kind = p.kind;
+    match kind {
+        Kind::Exists => exists_start(ws, p),
+        _ => 0,
+    }
+}
+
+// The machine of a plan.
+pub fn build_plan(ws: &mut [u8], p: Plan) -> Builder
+    requires { ⌜ Room p (length (now ws)) ⌝ }
+    requires { ⌜ 2 ≤ p .labels ⌝ }
+    ensures { λ r. ⌜ Explored (succIn (now (ws .entry)) p) p (startOf (take (p .base) (now (ws .entry))) p) r (now (ws .entry)) (now (ws .exit)) ⌝ }
+{
+    let start = start_code(ws, p);
+    build(ws, p, start)
+}
