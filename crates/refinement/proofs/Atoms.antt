@@ -19,7 +19,8 @@ use Rattle.logic.proofs.Two.{two-branches, all-elem}
 use Rattle.machine.specs.Succ.{subsetRule, singleRule, childRule, child1Rule, child2Rule, rootRule}
 use Rattle.machine.proofs.AtomRuns.{atomState}
 use Rattle.refinement.proofs.Trees.{back}
-use Rattle.refinement.proofs.Weights.{weight, bit-is}
+use Rattle.refinement.specs.Decode.{weight}
+use Rattle.refinement.proofs.Weights.{bit-is}
 
 -- whether a rule says what a step says, at states below m
 agrees : ℕ → (ℕ → ℕ → ℕ → ℕ → ℕ) → (Bool → Bool → (Branch 2 → ℕ) → ℕ) → Bool → Bool → Bool

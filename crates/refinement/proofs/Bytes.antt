@@ -24,7 +24,8 @@ use Rattle.machine.specs.declared.records.Decoded.{Decoded}
 use Rattle.machine.specs.declared.records.Machines.{Machines}
 use Rattle.search.specs.Arrays.{acceptsOf, machineIn, tableIn, Whole}
 use Rattle.refinement.proofs.Records.{machOf, Good}
-use Rattle.refinement.proofs.Upto.{decodedOf, Linked, linked, few-states, decide-over}
+use Rattle.refinement.specs.Decode.{decodedOf}
+use Rattle.refinement.proofs.Upto.{Linked, linked, few-states, decide-over}
 
 module _ (n c : ℕ) (pos : 0 < c) (top : c ≤ 64) (rs : List Record) (acc : Accepted 2 n rs) (xs : List Decoded)
     (decoded : (r : ℕ) → r < length rs → getD xs r noDecoded ≡ decodedOf n (getD rs r noRecord)) (s : Machines) (ws : List ℕ) where

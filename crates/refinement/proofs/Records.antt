@@ -42,7 +42,8 @@ use Rattle.machine.proofs.Sat.{cover-labelled, subset-four, single-four, child-
 use Rattle.machine.specs.declared.explore.Kind.{Kind}
 use Rattle.machine.specs.declared.explore.Kind.the-variants.{Subset, Single, Child1, Child2, Root, Not, Or, And, Exists, Close}
 use Rattle.refinement.proofs.Trees.{back, forth, back-forth, raw, run-code, run-state, labelled, proper}
-use Rattle.refinement.proofs.Weights.{weight, varies-cover, cover-varies}
+use Rattle.refinement.specs.Decode.{weight}
+use Rattle.refinement.proofs.Weights.{varies-cover, cover-varies}
 use Rattle.refinement.proofs.Atoms.{subset-same, single-same, root-same, first-same, second-same}
 
 -- the logic's machine of a machine that is built

@@ -11,6 +11,7 @@ use native.Mathlib.Omega.{arith}
 use native.Mathlib.Decide.{decLt}
 use lib.Dec.{T, eqb, ltb, ltb→lt}
 use lib.ListN.{length, getD, length-append}
+use Rattle.refinement.specs.Decode.{decodedOf}
 use Rattle.logic.specs.Meaning.{Branch, Formula, subset, singleton, successor, root, negation, disjunction, conjunction, exists as someF}
 use Rattle.logic.specs.Tree.{Tree, empty, node, Proper}
 use Rattle.logic.specs.Rule.{noRecord, Record, formulaOf, formulaAt, extend, good, goodFrom, successorAt, lastOf, Accepted}
@@ -41,18 +42,8 @@ use Rattle.machine.specs.declared.explore.Kind.{Kind}
 use Rattle.machine.specs.declared.explore.Kind.the-variants.{Subset, Single, Child1, Child2, Root, Not, Or, And, Exists, Close}
 use Rattle.machine.specs.declared.records.Decoded.{Decoded}
 use Rattle.refinement.proofs.Trees.{back, forth, back-forth, raw, run-code, run-state, labelled, proper}
-use Rattle.refinement.proofs.Weights.{weight}
+use Rattle.refinement.specs.Decode.{weight}
 use Rattle.refinement.proofs.Records.{machOf, Good, codeMachine, code-subset, code-single, code-root, code-first, code-second, code-not, code-or, code-and, code-exists}
-
--- the builder's record of a strip's record
-unfoldable pub decodedOf : ℕ → Record → Decoded
-decodedOf n e = record {
-  kind = getD (Subset ∷ Single ∷ Child1 ∷ Child2 ∷ Root ∷ Not ∷ Or ∷ And ∷ Exists ∷ []) (e .op) Subset;
-  first = cond (eqb (e .op) 8) (e .second) (e .first);
-  second = e .second;
-  wx = weight n (e .first);
-  wy = weight n (e .second);
-}
 
 both-of : (a b : Bool) → T (a && b) → T a × T b
 both-of a b = (and-iff a b (λ t. t, λ t. t) (λ t. t, λ t. t)) .0

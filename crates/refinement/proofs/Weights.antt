@@ -8,6 +8,7 @@ use native.Mathlib.Omega.{arith}
 use lib.Arith.{mod-mul}
 use lib.Pow.{pow-pos}
 use lib.Dec.{T, eqb}
+use Rattle.refinement.specs.Decode.{weight}
 use Rattle.logic.specs.Meaning.{Branch}
 use Rattle.logic.specs.Tree.{Tree, empty, node, Proper, bit}
 use Rattle.logic.specs.Machine.{bitOf, setLow, withBit}
@@ -20,10 +21,6 @@ use Rattle.machine.specs.Succ.{off, on}
 use Rattle.machine.proofs.Run.{Tree as Tree₂, empty as empty₂, node as node₂}
 use Rattle.machine.proofs.Exists.{Only, only-empty, only-off, only-on, Cover, cover-empty, cover-off, cover-on}
 use Rattle.refinement.proofs.Trees.{back, forth}
-
--- the weight of variable x's bit in an n-bit label
-abbrev pub weight : ℕ → ℕ → ℕ
-weight n x = 2 ^ (n - suc x)
 
 pub bit-is : (n l x : ℕ) → bit n l x ≡ eqb (l / weight n x % 2) 1
 unfolding bit

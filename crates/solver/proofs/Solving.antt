@@ -23,7 +23,8 @@ use Rattle.machine.specs.declared.records.Machines.{Machines}
 use Rattle.machine.specs.declared.records.Decoded.{Decoded}
 use Rattle.search.specs.Arrays.{acceptsOf, tableIn, answerOf, Whole, Ended}
 use Rattle.logic.specs.Search.{Sought, tree, large, absent, search}
-use Rattle.refinement.proofs.Upto.{decodedOf, decide-over}
+use Rattle.refinement.specs.Decode.{decodedOf}
+use Rattle.refinement.proofs.Upto.{decide-over}
 use Rattle.refinement.proofs.Bytes.{decide-bytes}
 use Rattle.solver.specs.declared.Solution.{Solution}
 use Rattle.solver.specs.Solve.{Marked, outcomeIf, outcomeOf, Solved}

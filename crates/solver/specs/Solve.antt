@@ -13,7 +13,7 @@ use Rattle.machine.specs.Word.{mem}
 use Rattle.machine.specs.Rule.{noDecoded}
 use Rattle.machine.specs.declared.records.Decoded.{Decoded}
 use Rattle.search.specs.Arrays.{acceptsOf, answerOf, Backs}
-use Rattle.refinement.proofs.Upto.{decodedOf}
+use Rattle.refinement.specs.Decode.{decodedOf}
 use Rattle.solver.specs.declared.Solution.{Solution}
 
 -- the bytes of a mark the members of w below m

@@ -1,0 +1,42 @@
+-- `ws2s::decode::decoded` meets its contract. Assumes nothing.
+use mathlib.Core.Path.{_≡_}
+use Prim.Native.Nat.{ℕ}
+use borrow.Author.Needs.{needs}
+use borrow.Author.Tests.{eq-eqb, ne-eqb}
+use Rattle.machine.specs.declared.explore.Kind.{Kind}
+use Rattle.machine.specs.declared.records.Decoded.{Decoded}
+use Rattle.refinement.specs.Decode.{weight, kindAt, decodedOf}
+use Rattle.ws2s.proofs.decode.decoded.Statement.{statement}
+use Rattle.ws2s.proofs.decode.decoded.Tie as tie
+use Rattle.ws2s.proofs.decode.decoded.Reads as reads
+use Rattle.ws2s.proofs.decode.decoded.Lts as lts
+use Rattle.ws2s.proofs.decode.kind_of.Reads as kind-of-reads
+use Rattle.ws2s.proofs.decode.weight_of.Reads as weight-of-reads
+
+kind-of-requires : tie.Need-kind-of-requires
+kind-of-requires c κs = search needs
+
+weight-of-requires : tie.Need-weight-of-requires
+weight-of-requires c κs = search needs
+
+weight-of-requires-2 : tie.Need-weight-of-requires-2
+weight-of-requires-2 c κs = search needs
+
+module _ (n op first second : ℕ) (k : Kind) (x y : ℕ) (ek : k ≡ kindAt op) (ex : x ≡ weight n first) (ey : y ≡ weight n second) where
+  turned : op ≡ 8 → _≡_ {A = Decoded} (record { kind = k; first = second; second = second; wx = x; wy = y }) (decodedOf n (record { op = op; first = first; second = second }))
+  unfolding decodedOf
+  turned e = rw (ek, ex, ey, eq-eqb op 8 e)
+
+  straight : (op ≡ 8 → ⊥) → _≡_ {A = Decoded} (record { kind = k; first = first; second = second; wx = x; wy = y }) (decodedOf n (record { op = op; first = first; second = second }))
+  unfolding decodedOf
+  straight e = rw (ek, ex, ey, ne-eqb op 8 e)
+
+returns : tie.Need-returns
+returns c = turned _ _ _ _ _ _ _ (c .before .before .before .kind-of .ensures) (c .before .before .weight-of .ensures) (c .before .weight-of2 .ensures) (c .if1 .taken)
+
+returns-2 : tie.Need-returns-2
+returns-2 c = straight _ _ _ _ _ _ _ (c .before .before .before .kind-of .ensures) (c .before .before .weight-of .ensures) (c .before .weight-of2 .ensures) (c .if1 .left)
+
+pub decoded-spec : {M : Type 1} → statement M
+decoded-spec =
+    tie.close (tie.spec kind-of-requires weight-of-requires weight-of-requires-2 returns returns-2)
