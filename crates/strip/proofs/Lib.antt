@@ -5,3 +5,4 @@ pub mod TreeBits
 pub mod TreeParse
 pub mod TreeHead
 pub mod TreeEnd
+pub mod RuleLaws

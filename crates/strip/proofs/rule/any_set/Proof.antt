@@ -10,8 +10,6 @@ use Rattle.strip.proofs.Fields.{length-bits}
 use Rattle.strip.proofs.RuleChecks.{set-here, not-here, none-here}
 use Rattle.strip.proofs.rule.any_set.Statement.{statement}
 use Rattle.strip.proofs.rule.any_set.Tie as tie
-use Rattle.strip.proofs.rule.any_set.Reads as reads
-use Rattle.strip.proofs.rule.any_set.Lts as lts
 
 abbrev Inv-loop : tie.InvT-loop
 Inv-loop s from end at₀ at = (end ≡ 8 * length s) × (anySet (drop from (bits s)) ≡ anySet (drop at (bits s)))

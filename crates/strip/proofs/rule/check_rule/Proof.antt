@@ -1,15 +1,17 @@
 -- `rule::check_rule` meets its contract: the head's refusal, else the padding's, else the records'. Assumes nothing.
-use mathlib.Core.Path.{sym, _∙_}
+use mathlib.Core.Path.{_≡_, sym, _∙_}
 use native.Mathlib.Omega.{arith}
 use borrow.Author.Needs.{needs}
+use Rattle.strip.specs.RuleAnswers.{headRefusal}
 use Rattle.strip.proofs.RuleChecks.{Head, head-facts, check-head, check-padding, check-records, check-accepted}
 use Rattle.strip.proofs.rule.check_rule.Statement.{statement}
 use Rattle.strip.proofs.rule.check_rule.Tie as tie
-use Rattle.strip.proofs.rule.check_rule.Reads as reads
-use Rattle.strip.proofs.rule.check_rule.Lts as lts
+
+unrefused : (c : tie.Else1) → headRefusal (c .before .before .before .args .s .now) ≡ 0
+unrefused c = sym (c .before .head-refusal .ensures) ∙ c .if1 .left
 
 head : (c : tie.Else1) → Head (c .before .before .before .args .s .now)
-head c = head-facts _ (sym (c .before .head-refusal .ensures) ∙ c .if1 .left)
+head c = head-facts _ (unrefused c)
 
 returns : tie.Need-returns
 returns c = check-head _ _ (c .before .head-refusal .ensures) (c .if1 .taken)
@@ -33,7 +35,8 @@ returns-2 : tie.Need-returns-2
 returns-2 c =
     let b = c .before .before in
     let a = b .before .before in
-    check-padding _ (sym (a .before .head-refusal .ensures) ∙ a .if1 .left) _ _ (b .before .field-at .ensures) (b .field-at2 .ensures) _ (c .before .any-set .ensures) (c .if2 .taken)
+    check-padding _ (unrefused a) _ _ (b .before .field-at .ensures) (b .field-at2 .ensures)
+    _ (c .before .any-set .ensures) (c .if2 .taken)
 
 read-records-requires : tie.Need-read-records-requires
 read-records-requires c κs = let h = head (c .before .before .before .before) in omega arith
@@ -43,14 +46,16 @@ returns-3 c =
     let d = c .before .before .before in
     let b = d .before .before in
     let a = b .before .before in
-    check-accepted _ (sym (a .before .head-refusal .ensures) ∙ a .if1 .left) _ _ (b .before .field-at .ensures) (b .field-at2 .ensures) _ (d .before .any-set .ensures) (d .if2 .left) _ (c .before .before .read-records .ensures) _ _ _ _ (c .enum-told .given .1)
+    check-accepted _ (unrefused a) _ _ (b .before .field-at .ensures) (b .field-at2 .ensures)
+    _ (d .before .any-set .ensures) (d .if2 .left) _ (c .before .before .read-records .ensures) _ _ _ _ (c .enum-told .given .1)
 
 returns-4 : tie.Need-returns-4
 returns-4 c =
     let d = c .before .before .before .before in
     let b = d .before .before in
     let a = b .before .before in
-    check-records _ (sym (a .before .head-refusal .ensures) ∙ a .if1 .left) _ _ (b .before .field-at .ensures) (b .field-at2 .ensures) _ (d .before .any-set .ensures) (d .if2 .left) _ (c .before .before .before .read-records .ensures) _ (c .before .r .given .1)
+    check-records _ (unrefused a) _ _ (b .before .field-at .ensures) (b .field-at2 .ensures)
+    _ (d .before .any-set .ensures) (d .if2 .left) _ (c .before .before .before .read-records .ensures) _ (c .before .r .given .1)
 
 pub check-rule-spec : {M : Type 1} → statement M
 check-rule-spec =

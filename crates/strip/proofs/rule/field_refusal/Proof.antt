@@ -4,8 +4,6 @@ use borrow.Author.Needs.{needs}
 use borrow.Author.Tests.{le-leb, lt-leb}
 use Rattle.strip.proofs.rule.field_refusal.Statement.{statement}
 use Rattle.strip.proofs.rule.field_refusal.Tie as tie
-use Rattle.strip.proofs.rule.field_refusal.Reads as reads
-use Rattle.strip.proofs.rule.field_refusal.Lts as lts
 
 returns : tie.Need-returns
 returns c = rw (← c .before .limit .ensures, le-leb _ _ (c .if1 .taken)) refl

@@ -5,8 +5,6 @@ use Rattle.strip.specs.RuleStrip.{variable, earlier, firstUse}
 use Rattle.strip.proofs.RuleChecks.{numbers}
 use Rattle.strip.proofs.rule.first_use.Statement.{statement}
 use Rattle.strip.proofs.rule.first_use.Tie as tie
-use Rattle.strip.proofs.rule.first_use.Reads as reads
-use Rattle.strip.proofs.rule.first_use.Lts as lts
 
 returns : tie.Need-returns
 unfolding firstUse

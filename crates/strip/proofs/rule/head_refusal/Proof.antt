@@ -7,12 +7,10 @@ use native.Mathlib.Omega.{arith}
 use lib.Dec.{eqb}
 use borrow.Author.Needs.{needs}
 use borrow.Author.Tests.{lt-ltb, le-ltb, eq-eqb, ne-eqb}
-use Rattle.strip.specs.RuleStrip.{between, countOf}
-use Rattle.strip.proofs.RuleChecks.{in-range, short, otherVersion, badVariables, badCount, badLength, head-1, head-2, head-3, head-4, head-5, head-0}
+use Rattle.strip.specs.RuleStrip.{between}
+use Rattle.strip.proofs.RuleChecks.{in-range, short, otherVersion, badVariables, badCount, head-1, head-2, head-3, head-4, head-5, head-0}
 use Rattle.strip.proofs.rule.head_refusal.Statement.{statement}
 use Rattle.strip.proofs.rule.head_refusal.Tie as tie
-use Rattle.strip.proofs.rule.head_refusal.Reads as reads
-use Rattle.strip.proofs.rule.head_refusal.Lts as lts
 
 -- a test of a number r that was read, as one of what it was read from
 differs : (r v k : ℕ) → r ≡ v → (r ≡ k → ⊥) → not (eqb v k) ≡ true
@@ -52,13 +50,15 @@ returns-2 c = head-2 _ (pass-1 (c .before .before)) (differs _ _ 1 (c .before .f
 returns-3 : tie.Need-returns-3
 returns-3 c =
     let b = c .before .before .before in
-    head-3 _ (pass-1 (b .before .before)) (pass-2 b) (ranged 8 _ _ _ true (c .before .before .field-at2 .ensures) (c .before .outside .ensures) (c .if3 .taken))
+    head-3 _ (pass-1 (b .before .before)) (pass-2 b)
+    (ranged 8 _ _ _ true (c .before .before .field-at2 .ensures) (c .before .outside .ensures) (c .if3 .taken))
 
 returns-4 : tie.Need-returns-4
 returns-4 c =
     let d = c .before .before .before in
     let b = d .before .before .before in
-    head-4 _ (pass-1 (b .before .before)) (pass-2 b) (pass-3 d) (ranged 128 _ _ _ true (c .before .before .field-at3 .ensures) (c .before .outside2 .ensures) (c .if4 .taken))
+    head-4 _ (pass-1 (b .before .before)) (pass-2 b) (pass-3 d)
+    (ranged 128 _ _ _ true (c .before .before .field-at3 .ensures) (c .before .outside2 .ensures) (c .if4 .taken))
 
 mul-if5 : tie.Need-mul-if5
 mul-if5 c = let h = few c in omega arith

@@ -3,8 +3,6 @@ use mathlib.Core.Path.{refl}
 use borrow.Author.Tests.{eq-eqb, ne-eqb}
 use Rattle.strip.proofs.rule.limit.Statement.{statement}
 use Rattle.strip.proofs.rule.limit.Tie as tie
-use Rattle.strip.proofs.rule.limit.Reads as reads
-use Rattle.strip.proofs.rule.limit.Lts as lts
 
 returns : tie.Need-returns
 returns c = rw (eq-eqb _ 8 (c .if1 .taken)) refl

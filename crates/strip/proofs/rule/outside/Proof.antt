@@ -1,13 +1,11 @@
 -- `rule::outside` meets its contract, test by test. Assumes nothing.
-use mathlib.Core.Path.{_≡_, refl, _∙_}
+use mathlib.Core.Path.{_≡_, refl}
 use mathlib.Core.Bool.{Bool, true, false, not}
 use Prim.Native.Nat.{ℕ}
 use lib.Dec.{ltb, leb}
-use borrow.Author.Tests.{le-leb, lt-leb, le-ltb, lt-ltb, ltb-true, ltb-false}
+use borrow.Author.Tests.{le-leb, lt-leb, ltb-true, ltb-false}
 use Rattle.strip.proofs.rule.outside.Statement.{statement}
 use Rattle.strip.proofs.rule.outside.Tie as tie
-use Rattle.strip.proofs.rule.outside.Reads as reads
-use Rattle.strip.proofs.rule.outside.Lts as lts
 
 returns : tie.Need-returns
 returns c = rw (lt-leb 1 _ (c .if1 .taken)) refl

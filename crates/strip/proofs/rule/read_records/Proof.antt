@@ -5,8 +5,6 @@ use borrow.Author.Needs.{needs}
 use Rattle.strip.proofs.RuleChecks.{Reached, reach-first, reach-next, reach-refused, reach-last}
 use Rattle.strip.proofs.rule.read_records.Statement.{statement}
 use Rattle.strip.proofs.rule.read_records.Tie as tie
-use Rattle.strip.proofs.rule.read_records.Reads as reads
-use Rattle.strip.proofs.rule.read_records.Lts as lts
 
 abbrev Inv-loop : tie.InvT-loop
 Inv-loop s n m at₀ i₀ at i = Reached s n m at i
