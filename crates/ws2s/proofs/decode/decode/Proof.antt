@@ -1,3 +1,10 @@
+-- `ws2s::decode::decode` meets its contract. Assumes nothing.
+use Prim.Native.Nat.{_-_}
+use mathlib.Core.Path.{_≡_, refl}
+use native.Mathlib.Omega.{arith}
+use borrow.Author.Needs.{needs}
+use Rattle.strip.proofs.RuleLaws.{rule-accepted}
+use Rattle.ws2s.proofs.Decodes.{Decoding, decoding-first, decoding-never, decoding-next, decoding-last}
 use Rattle.ws2s.proofs.decode.decode.Statement.{statement}
 use Rattle.ws2s.proofs.decode.decode.Tie as tie
 use Rattle.ws2s.proofs.decode.decode.Reads as reads
@@ -6,62 +13,57 @@ use Rattle.strip.proofs.rule.read_record.Reads as read-record-reads
 use Rattle.ws2s.proofs.decode.decoded.Reads as decoded-reads
 
 abbrev Inv-loop : tie.InvT-loop
-Inv-loop s n m records₀ at₀ i₀ records at i = ?
+Inv-loop s n m records₀ at₀ i₀ records at i = Decoding s n m records at i
 
 abbrev μ-loop : tie.MeasureT-loop
-μ-loop s n m records₀ at₀ i₀ records at i = ?
+μ-loop s n m records₀ at₀ i₀ records at i = m - i
 
--- src/decode.rt:70:24
 decoded-requires : tie.Need-decoded-requires Inv-loop μ-loop
-decoded-requires c κs = ?
+decoded-requires c κs = search needs
 
--- src/decode.rt:73:5
 loop-holds : tie.Need-loop-holds Inv-loop μ-loop
-loop-holds c = ?
+loop-holds c = decoding-first _ _ _ (c .before .before .pre .0) (c .before .before .pre .1) (c .before .before .pre .2) _ refl
 
--- src/decode.rt:74:13
 read-record-requires : tie.Need-read-record-requires Inv-loop μ-loop
-read-record-requires c κs = ?
+read-record-requires c κs = (omega arith, omega arith)
 
--- src/decode.rt:76:13
 enum-known-r : tie.Need-enum-known-r Inv-loop μ-loop
-enum-known-r c = ?
+enum-known-r c = search needs
 
--- src/decode.rt:82:13
 enum-told : tie.Need-enum-told Inv-loop μ-loop
-enum-told c = ?
+enum-told c = search needs
 
--- src/decode.rt:82:13
 returns : tie.Need-returns Inv-loop μ-loop
-returns c = ?
+returns c =
+    let b = c .before .before .before .before in
+    let a = b .before .before .before in
+    absurd (decoding-never _ _ _ (a .pre .0) (a .pre .1) (a .pre .2) _ _ _ (b .loop .inv) (search needs) _ (c .before .before .read-record .ensures) _ (c .enum-told .given .1))
 
--- src/decode.rt:84:22
 decoded-requires-2 : tie.Need-decoded-requires-2 Inv-loop μ-loop
-decoded-requires-2 c κs = ?
+decoded-requires-2 c κs = search needs
 
--- src/decode.rt:84:9
 mul-records : tie.Need-mul-records Inv-loop μ-loop
-mul-records c = ?
+mul-records c = search needs
 
--- src/decode.rt:84:9
 array-set-from-records : tie.Need-array-set-from-records Inv-loop μ-loop
-array-set-from-records c = ?
+array-set-from-records c = search needs
 
--- src/decode.rt:86:9
 add-i : tie.Need-add-i Inv-loop μ-loop
-add-i c = ?
+add-i c = search needs
 
--- src/decode.rt:73:5
 loop-less : tie.Need-loop-less Inv-loop μ-loop
-loop-less c = ?
+loop-less c = search needs
 
--- src/decode.rt:73:5
 loop-again : tie.Need-loop-again Inv-loop μ-loop
-loop-again c = ?
+loop-again c =
+    let b = c .before .before .before .before .before .before in
+    let a = b .before .before .before in
+    decoding-next _ _ _ (a .pre .0) (a .pre .1) (a .pre .2) _ _ _ (b .loop .inv) (search needs) _ (c .before .before .before .before .read-record .ensures) _ _ _ _ (c .before .before .r .given .1) _ (c .decoded2 .ensures)
 
--- src/decode.rt:66:1
 returns-2 : tie.Need-returns-2 Inv-loop μ-loop
-returns-2 c = ?
+returns-2 c =
+    let a = c .before .before .before .before in
+    decoding-last _ _ _ (a .pre .0) (a .pre .1) (a .pre .2) _ _ _ (c .before .loop .inv) (search needs)
 
 pub decode-spec : {M : Type 1} → statement M
 decode-spec =
