@@ -4,3 +4,4 @@ pub mod Records
 pub mod Trees
 pub mod Upto
 pub mod Weights
+pub mod Ready

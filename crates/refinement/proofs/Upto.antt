@@ -45,7 +45,7 @@ use Rattle.refinement.proofs.Trees.{back, forth, back-forth, raw, run-c
 use Rattle.refinement.specs.Decode.{weight}
 use Rattle.refinement.proofs.Records.{machOf, Good, codeMachine, code-subset, code-single, code-root, code-first, code-second, code-not, code-or, code-and, code-exists}
 
-both-of : (a b : Bool) → T (a && b) → T a × T b
+pub both-of : (a b : Bool) → T (a && b) → T a × T b
 both-of a b = (and-iff a b (λ t. t, λ t. t) (λ t. t, λ t. t)) .0
 
 child-first : (x y : ℕ) → successorAt {k = 2} 0 x y ≡ successor one x y
@@ -66,10 +66,10 @@ good-at n (e ∷ es) i t (suc j) h =
     let z : suc i + j ≡ i + suc j = omega arith in
     subst (λ (m : ℕ). T (good 2 n m (getD es j noRecord))) z (good-at n es (suc i) ((both-of (good 2 n i e) (goodFrom 2 n (suc i) es) t) .1) j (omega arith))
 
-module _ (n c : ℕ) (pos : 0 < c) (top : c ≤ 64) where
-  good-here : (rs : List Record) (r : ℕ) → T (goodFrom 2 n 0 rs) → r < length rs → T (good 2 n r (getD rs r noRecord))
-  good-here rs r t h = let z : 0 + r ≡ r = omega arith in subst (λ (m : ℕ). T (good 2 n m (getD rs r noRecord))) z (good-at n rs 0 t r h)
+pub good-here : (n : ℕ) (rs : List Record) (r : ℕ) → T (goodFrom 2 n 0 rs) → r < length rs → T (good 2 n r (getD rs r noRecord))
+good-here n rs r t h = let z : 0 + r ≡ r = omega arith in subst (λ (m : ℕ). T (good 2 n m (getD rs r noRecord))) z (good-at n rs 0 t r h)
 
+module _ (n c : ℕ) (pos : 0 < c) (top : c ≤ 64) where
   abbrev labels : ℕ
   labels = 2 ^ n
 
@@ -192,7 +192,7 @@ module _ (n c : ℕ) (pos : 0 < c) (top : c ≤ 64) where
       raw-right =
           let e : Record = getD rs r noRecord in
           subst (λ (x : Decoded). MachineOf n (formulaAt rs r) (rawMachine x ns)) (sym (decoded r hr))
-          (subst (λ (f : Formula 2). MachineOf n f (rawMachine (decodedOf n e) ns)) (sym (record-formula 2 n rs (acc .1) r hr)) (by-op (e .op) (e .first) (e .second) (good-here rs r (acc .1) hr)))
+          (subst (λ (f : Formula 2). MachineOf n f (rawMachine (decodedOf n e) ns)) (sym (record-formula 2 n rs (acc .1) r hr)) (by-op (e .op) (e .first) (e .second) (good-here n rs r (acc .1) hr)))
 
     -- what the outcome for the first m records says
     unfoldable pub Linked : ℕ → Outcome → Type 0
