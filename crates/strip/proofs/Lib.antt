@@ -6,3 +6,4 @@ pub mod TreeParse
 pub mod TreeHead
 pub mod TreeEnd
 pub mod RuleLaws
+pub mod TreePack
