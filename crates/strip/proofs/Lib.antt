@@ -7,3 +7,5 @@ pub mod TreeHead
 pub mod TreeEnd
 pub mod RuleLaws
 pub mod TreePack
+pub mod TreeLaws
+pub mod TreeWalk

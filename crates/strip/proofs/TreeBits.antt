@@ -81,6 +81,14 @@ unfolding bits
 bits-bits [] k = lit< tt
 bits-bits (x ∷ s) k = bits-append (digits 8 x) (bits s) (digits-bits 8 x) (bits-bits s) k
 
+pub tree-bits : (n : ℕ) (t : Tree 2) → AreBits (treeBits n t)
+unfolding treeBits
+tree-bits n empty zero = lit< tt
+tree-bits n empty (suc k) = lit< tt
+tree-bits n (node l f) zero = lit< tt
+tree-bits n (node l f) (suc k) =
+    bits-append (digits n l) (treeBits n (f one) ++ treeBits n (f two)) (digits-bits n l) (bits-append (treeBits n (f one)) (treeBits n (f two)) (tree-bits n (f one)) (tree-bits n (f two))) k
+
 -- ---- a list of bits as a number
 number-from : (a : ℕ) (bs : List ℕ) → number a bs ≡ a * 2 ^ length bs + number 0 bs
 number-from a [] = sym (omega (arith, mul-one a))

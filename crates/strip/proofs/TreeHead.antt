@@ -1,5 +1,5 @@
 -- The tree at a bit place of a strip, by what stands there: each step of the reader. Assumes nothing.
-use Prim.Native.Nat.{ℕ, zero, suc, _+_, _-_, _*_, _≤_, _<_}
+use Prim.Native.Nat.{ℕ, zero, suc, _+_, _-_, _*_, _^_, _≤_, _<_}
 use mathlib.Core.Path.{_≡_, refl, sym, ap, ap₂, subst, _∙_}
 use mathlib.Core.Bool.{Bool, true, false, _&&_}
 use mathlib.Core.List.{List, [], _∷_, _++_}
@@ -23,7 +23,7 @@ use Rattle.strip.specs.declared.tree.TreeRead.{TreeRead}
 use Rattle.strip.specs.declared.tree.TreeRead.the-variants as read
 use Rattle.strip.proofs.Fields.{length-bits}
 use Rattle.strip.proofs.TreeBits.{treeBits-length, AreBits, bits-drop, bits-bits}
-use Rattle.strip.proofs.TreeParse.{Reading, Good, parse-good, parse-reading, parse-enough}
+use Rattle.strip.proofs.TreeParse.{Reading, Good, label-lt, parse-good, parse-reading, parse-enough}
 
 module _ (s : List ℕ) (n : ℕ) where
   -- the tree that begins with a head
@@ -96,6 +96,12 @@ module _ (s : List ℕ) (n : ℕ) where
 
   pub node-within : (met at l next : ℕ) → headAt s n met at ≡ head.Node l next → (next ≡ at + 1 + n) × (next ≤ 8 * length s) × (met < 255) × (l ≡ field s (at + 1) n)
   node-within met at l next e = subst (Within met at) e (head-within met at)
+
+  pub head-label : (met at l next : ℕ) → headAt s n met at ≡ head.Node l next → l < 2 ^ n
+  head-label met at l next e =
+      let w = node-within met at l next e in
+      let k = left (at + 1) in
+      rw (w .3) (label-lt n (drop (at + 1) (bits s)) (bits-drop (at + 1) (bits s) (bits-bits s)) (omega (arith, w .0, w .1)))
 
   -- ---- the reader's answers, with enough for every bit of the strip
   abbrev pub treeAt : ℕ → ℕ → Parsed

@@ -54,11 +54,13 @@ last-bits bs h l a =
 
 more-bits : (bs : List ℕ) → 8 < length bs → AreBits bs → Padded (pack 0 8 (drop 8 bs)) (drop 8 bs) → Padded (pack 0 8 bs) bs
 unfolding bits
-more-bits bs h a p =
-    (p .0, p .1,
-    ap bits (pack-more 0 8 bs h)
-    ∙ ap₂ (λ (k l : List ℕ). k ++ l) (eight (take 8 bs) (length-take-le 8 bs (omega arith)) (bits-take 8 bs a)) (p .2)
-    ∙ sym (append-assoc (take 8 bs) (drop 8 bs) (replicate (p .0) 0)) ∙ ap (λ (l : List ℕ). l ++ replicate (p .0) 0) (take-append-drop 8 bs))
+more-bits bs h a p = (
+  p .0,
+  p .1,
+  ap bits (pack-more 0 8 bs h)
+      ∙ ap₂ (λ (k l : List ℕ). k ++ l) (eight (take 8 bs) (length-take-le 8 bs (omega arith)) (bits-take 8 bs a)) (p .2)
+      ∙ sym (append-assoc (take 8 bs) (drop 8 bs) (replicate (p .0) 0)) ∙ ap (λ (l : List ℕ). l ++ replicate (p .0) 0) (take-append-drop 8 bs),
+)
 
 -- d: at least the number of bits
 bits-of : (d : ℕ) (bs : List ℕ) → length bs ≤ d → 0 < length bs → AreBits bs → Padded (pack 0 8 bs) bs
@@ -89,9 +91,10 @@ module _ (x : ℕ) (s bs : List ℕ) (z : ℕ) (e : digits 8 x ++ bits s ≡ bs 
       omega (arith, length-digits 8 x, length-bits s, length-replicate {A = ℕ} z 0)
 
   first-byte : 8 < length bs → (digits 8 x ≡ take 8 bs) × (bits s ≡ drop 8 bs ++ replicate z 0)
-  first-byte h =
-      (sym (take-at (digits 8 x) (bits s) 8 (length-digits 8 x)) ∙ ap (take 8) e ∙ take-append-le 8 bs (replicate z 0) (omega arith),
-      sym (drop-at (digits 8 x) (bits s) 8 (length-digits 8 x)) ∙ ap (drop 8) e ∙ drop-append-le 8 bs (replicate z 0) (omega arith))
+  first-byte h = (
+    sym (take-at (digits 8 x) (bits s) 8 (length-digits 8 x)) ∙ ap (take 8) e ∙ take-append-le 8 bs (replicate z 0) (omega arith),
+    sym (drop-at (digits 8 x) (bits s) 8 (length-digits 8 x)) ∙ ap (drop 8) e ∙ drop-append-le 8 bs (replicate z 0) (omega arith),
+  )
 
   last-byte : length bs ≤ 8 → z < 8 → x < 256 → x ∷ s ≡ pack 0 8 bs
   unfolding bits

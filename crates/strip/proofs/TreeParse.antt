@@ -3,10 +3,10 @@ use Prim.Native.Nat.{ℕ, zero, suc, _+_, _-_, _*_, _^_, _≤_, _<_}
 use mathlib.Core.Path.{_≡_, refl, sym, ap, ap₂, subst, _∙_}
 use mathlib.Core.Bool.{Bool, true, false, cond, not, _&&_}
 use mathlib.Core.List.{List, [], _∷_, _++_, append-assoc}
-use native.Mathlib.Nat.{not-suc-le-zero, add-zero}
+use native.Mathlib.Nat.{not-suc-le-zero, add-zero, mod-eq-of-lt}
 use native.Mathlib.Omega.{arith}
 use borrow.Author.Tests.{le-leb, lt-leb, le-ltb, leb-false, ltb-false, eqb-true}
-use lib.Dec.{T, eqb, leb, ltb}
+use lib.Dec.{T, T-not, eqb, leb, ltb}
 use lib.ListN.{length, getD, take, drop, length-append, length-drop, take-append-drop}
 use lib.Seq.{length-take-le, take-at, drop-at}
 use Rattle.logic.specs.Machine.{allOf}
@@ -14,7 +14,7 @@ use Rattle.logic.specs.Meaning.{Branch}
 use Rattle.logic.specs.Tree.{Tree, empty, node, downFrom, positions, Proper}
 use Rattle.logic.specs.Trim.{isEmpty, bare, Trimmed}
 use Rattle.logic.specs.Two.{one, two, pairOf}
-use Rattle.logic.proofs.Places.{true→T}
+use Rattle.logic.proofs.Places.{true→T, not-T}
 use Rattle.strip.specs.Bits.{digits, number}
 use Rattle.strip.specs.RuleStrip.{orElse}
 use Rattle.strip.specs.TreeStrip.{Parsed, parsed, refused, join, andThen, parse, treeBits}
@@ -87,10 +87,10 @@ module _ (n : ℕ) where
   then-good met l bs (parsed t m mid) go h d a p k =
       join-good met l m bs mid t (go m mid) h d p (k m mid (p .few) (bits-second (treeBits n t) mid (subst AreBits (p .written) (bits-drop n bs a))))
 
-  label-digits : (bs : List ℕ) → AreBits bs → n ≤ length bs → digits n (number 0 (take n bs)) ≡ take n bs
+  pub label-digits : (bs : List ℕ) → AreBits bs → n ≤ length bs → digits n (number 0 (take n bs)) ≡ take n bs
   label-digits bs a h = ap (λ (k : ℕ). digits k (number 0 (take n bs))) (sym (length-take-le n bs h)) ∙ digits-number 0 (take n bs) (bits-take n bs a)
 
-  label-lt : (bs : List ℕ) → AreBits bs → n ≤ length bs → number 0 (take n bs) < 2 ^ n
+  pub label-lt : (bs : List ℕ) → AreBits bs → n ≤ length bs → number 0 (take n bs) < 2 ^ n
   label-lt bs a h = subst (λ (k : ℕ). number 0 (take n bs) < 2 ^ k) (length-take-le n bs h) (number-lt (take n bs) (bits-take n bs a))
 
   pub parse-good : (d met : ℕ) (bs : List ℕ) → met ≤ 255 → AreBits bs → Good n met bs (parse d n met bs)
@@ -147,3 +147,36 @@ module _ (n : ℕ) where
           (λ t m mid w. let g = parse-reading e (suc met) (drop n bs) t m mid (omega arith) c w in
           let s = shorter (suc met) (drop n bs) t m mid g in
           k m mid (omega arith) (g .few) (bits-second (treeBits n t) mid (subst AreBits (g .written) c))))
+
+  -- ---- a written tree is read back
+  parse-one : (d met l : ℕ) (bs : List ℕ) → met < 255 → l < 2 ^ n → parse (suc d) n met (1 ∷ (digits n l ++ bs)) ≡ andThen l (parse d n (suc met) bs) (parse d n)
+  unfolding parse
+  parse-one d met l bs h k =
+      let a = length-append (digits n l) bs in
+      let b = length-digits n l in
+      let e : number 0 (digits n l) ≡ l = number-digits 0 n l ∙ ap (λ (v : ℕ). 0 * 2 ^ n + v) (mod-eq-of-lt k) ∙ omega arith in
+      rw (lt-leb 255 met h, le-ltb (length (digits n l ++ bs)) n (omega arith), take-at (digits n l) bs n b, drop-at (digits n l) bs n b, e) refl
+
+  join-back : (l m : ℕ) (f : Branch 2 → Tree 2) (rest : List ℕ) → T (not (bare l f)) → join l (f one) (parsed (f two) m rest) ≡ parsed (node l f) m rest
+  unfolding join
+  join-back l m f rest r =
+      let e = sym (bare-pair l (f one) (f two)) ∙ ap (bare l) (both-branches f) ∙ not-T (bare l f) (T-not (bare l f) r) in
+      rw e (ap (λ (g : Branch 2 → Tree 2). parsed (node l g) m rest) (both-branches f))
+
+  pub parse-back : (d met : ℕ) (t : Tree 2) (rest : List ℕ) → length (treeBits n t ++ rest) < d → met + positions t ≤ 255 → Proper n t → Trimmed t
+      → parse d n met (treeBits n t ++ rest) ≡ parsed t (met + positions t) rest
+  unfolding parse andThen treeBits positions Proper Trimmed
+  parse-back zero met t rest h k o r = absurd (not-suc-le-zero h)
+  parse-back (suc d) met empty rest h k o r = rw (add-zero met) refl
+  parse-back (suc d) met (node l f) rest h k o r =
+      let p = positions-node l f in
+      let w = treeBits n (f one) ++ (treeBits n (f two) ++ rest) in
+      let e : (digits n l ++ (treeBits n (f one) ++ treeBits n (f two))) ++ rest ≡ digits n l ++ w = simp append-assoc in
+      let a = ap length e ∙ length-append (digits n l) w in
+      let b = length-append (treeBits n (f one)) (treeBits n (f two) ++ rest) in
+      let i = parse-back d (suc met) (f one) (treeBits n (f two) ++ rest) (omega arith) (omega arith) (o .1 one) (r .1 one) in
+      let j = parse-back d (suc met + positions (f one)) (f two) rest (omega arith) (omega arith) (o .1 two) (r .1 two) in
+      let c : suc met + positions (f one) + positions (f two) ≡ met + positions (node l f) = omega arith in
+      ap (λ (v : List ℕ). parse (suc d) n met (1 ∷ v)) e ∙ parse-one d met l w (omega arith) (o .0)
+      ∙ ap (λ (P : Parsed). andThen l P (parse d n)) i ∙ ap (join l (f one)) j
+      ∙ join-back l (suc met + positions (f one) + positions (f two)) f rest (r .0) ∙ ap (λ (m : ℕ). parsed (node l f) m rest) c
