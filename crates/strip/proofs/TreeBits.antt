@@ -1,14 +1,14 @@
 -- Trees of two branches as bits: how many, and the number that a label's bits are. Assumes nothing.
-use Prim.Native.Nat.{ℕ, zero, suc, _+_, _*_, _/_, _%_, _^_, _≤_, _<_}
+use Prim.Native.Nat.{ℕ, zero, suc, _+_, _-_, _*_, _/_, _%_, _^_, _<_}
 use mathlib.Core.Path.{_≡_, refl, sym, ap, ap₂, _∙_, fun-ext}
 use mathlib.Core.Bool.{Bool, true, false, cond}
 use mathlib.Core.List.{List, [], _∷_, _++_}
-use native.Mathlib.Nat.{add-mul, suc-mul, pow-suc, mul-assoc, mul-comm, mul-one, zero-add, zero-mul, not-suc-le-zero, le-of-suc-le-suc}
+use native.Mathlib.Nat.{mod-eq-of-lt, add-mul, suc-mul, pow-suc, mul-assoc, mul-comm, mul-one}
 use native.Mathlib.Omega.{arith}
 use lib.Arith.{digits-lt, digits-mod}
 use lib.Dec.{eqb, lit<}
-use lib.ListN.{length, getD, take, drop, length-append, List·getD-append, List·getD-eq-default}
-use lib.Pow.{pow-pos, high}
+use lib.ListN.{length, getD, take, drop, length-append, length-drop}
+use lib.Pow.{high}
 use lib.Seq.{getD-drop, getD-append-add}
 use Rattle.logic.specs.Meaning.{Branch}
 use Rattle.logic.specs.Tree.{Tree, empty, node, downFrom, sumOf, positions}
@@ -18,7 +18,7 @@ use Rattle.logic.proofs.Branches.{branch-same}
 use Rattle.strip.specs.Bits.{digits, bits, number}
 use Rattle.strip.specs.TreeStrip.{treeBits}
 use Rattle.strip.proofs.Digits.{bit-lt}
-use Rattle.strip.proofs.Fields.{length-digits, digits-at}
+use Rattle.strip.proofs.Fields.{length-digits, length-bits, number-digits}
 
 -- ---- two branches
 pub both-branches : {A : Type 0} (f : Branch 2 → A) → pairOf (f one) (f two) ≡ f
@@ -46,7 +46,8 @@ treeBits-length n (node l f) =
     let q = length-append (treeBits n (f one)) (treeBits n (f two)) in
     let d = length-digits n l in
     let e : positions (node l f) * (n + 1) ≡ positions (f one) * (n + 1) + positions (f two) * (n + 1) + (n + 1) =
-    ap (λ (k : ℕ). k * (n + 1)) (positions-node l f) ∙ suc-mul (positions (f one) + positions (f two)) (n + 1) ∙ ap (λ (k : ℕ). k + (n + 1)) (add-mul (positions (f one)) (positions (f two)) (n + 1)) in
+    ap (λ (k : ℕ). k * (n + 1)) (positions-node l f) ∙ suc-mul (positions (f one) + positions (f two)) (n + 1)
+    ∙ ap (λ (k : ℕ). k + (n + 1)) (add-mul (positions (f one)) (positions (f two)) (n + 1)) in
     omega (arith, positions-node l f)
 
 -- ---- lists of bits
@@ -87,13 +88,23 @@ tree-bits n empty zero = lit< tt
 tree-bits n empty (suc k) = lit< tt
 tree-bits n (node l f) zero = lit< tt
 tree-bits n (node l f) (suc k) =
-    bits-append (digits n l) (treeBits n (f one) ++ treeBits n (f two)) (digits-bits n l) (bits-append (treeBits n (f one)) (treeBits n (f two)) (tree-bits n (f one)) (tree-bits n (f two))) k
+    bits-append (digits n l) (treeBits n (f one) ++ treeBits n (f two)) (digits-bits n l)
+    (bits-append (treeBits n (f one)) (treeBits n (f two)) (tree-bits n (f one)) (tree-bits n (f two))) k
+
+-- the bits from a place on
+pub length-from : (s : List ℕ) (at : ℕ) → length (drop at (bits s)) ≡ 8 * length s - at
+length-from s at = length-drop at (bits s) ∙ ap (λ (k : ℕ). k - at) (length-bits s)
 
 -- ---- a list of bits as a number
+-- a number of n bits, from its digits
+pub number-of : (n l : ℕ) → l < 2 ^ n → number 0 (digits n l) ≡ l
+number-of n l h = number-digits 0 n l ∙ ap (λ (v : ℕ). 0 * 2 ^ n + v) (mod-eq-of-lt h) ∙ omega arith
+
 number-from : (a : ℕ) (bs : List ℕ) → number a bs ≡ a * 2 ^ length bs + number 0 bs
 number-from a [] = sym (omega (arith, mul-one a))
 number-from a (b ∷ bs) =
-    let e : (a * 2 + b) * 2 ^ length bs ≡ a * (2 * 2 ^ length bs) + b * 2 ^ length bs = add-mul (a * 2) b (2 ^ length bs) ∙ ap (λ (k : ℕ). k + b * 2 ^ length bs) (mul-assoc a 2 (2 ^ length bs)) in
+    let e : (a * 2 + b) * 2 ^ length bs ≡ a * (2 * 2 ^ length bs) + b * 2 ^ length bs =
+    add-mul (a * 2) b (2 ^ length bs) ∙ ap (λ (k : ℕ). k + b * 2 ^ length bs) (mul-assoc a 2 (2 ^ length bs)) in
     let f : 2 ^ suc (length bs) ≡ 2 * 2 ^ length bs = pow-suc 2 (length bs) ∙ mul-comm (2 ^ length bs) 2 in
     let p = number-from (a * 2 + b) bs in
     let q = number-from (0 * 2 + b) bs in

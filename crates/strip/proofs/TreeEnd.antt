@@ -1,12 +1,12 @@
 -- The end of a tree strip: padding bits, bytes left over, and the answer. Assumes nothing.
 use Prim.Native.Nat.{ℕ, zero, suc, _+_, _-_, _*_, _/_, _%_, _≤_, _<_}
-use mathlib.Core.Path.{_≡_, refl, sym, ap, ap₂, _∙_}
+use mathlib.Core.Path.{_≡_, refl, sym, ap, _∙_}
 use mathlib.Core.Bool.{Bool, true, false, not, _||_}
 use mathlib.Core.List.{List, [], _∷_}
 use native.Mathlib.Omega.{arith}
-use borrow.Author.Tests.{le-leb, lt-leb, eq-eqb, ne-eqb}
+use borrow.Author.Tests.{le-leb, lt-leb, ne-eqb}
 use lib.Dec.{eqb, leb}
-use lib.ListN.{length, take, drop, length-drop, drop-of-length-le}
+use lib.ListN.{length, drop, drop-of-length-le}
 use lib.Seq.{take-all}
 use Rattle.logic.specs.Tree.{Tree, positions}
 use Rattle.strip.specs.Bits.{bits, number, field, anySet}
@@ -14,10 +14,9 @@ use Rattle.strip.specs.TreeStrip.{Parsed, parsed, refused, ended, treeBi
 use Rattle.strip.specs.TreeAnswers.{told, answered}
 use Rattle.strip.specs.declared.tree.TreeRead.{TreeRead}
 use Rattle.strip.specs.declared.tree.TreeRead.the-variants as read
-use Rattle.strip.specs.declared.tree.TreeCheck.{TreeCheck}
 use Rattle.strip.specs.declared.tree.TreeCheck.the-variants as check
 use Rattle.strip.proofs.Fields.{length-bits}
-use Rattle.strip.proofs.TreeBits.{treeBits-length}
+use Rattle.strip.proofs.TreeBits.{length-from, treeBits-length}
 use Rattle.strip.proofs.TreeHead.{treeAt, told-tree, reading-at, ending, room}
 
 -- a list of bits is the number 0 where none is set
@@ -47,11 +46,8 @@ abbrev pub over : List ℕ → ℕ → Bool
 over s at = leb 8 (length (drop at (bits s))) || anySet (drop at (bits s))
 
 module _ (s : List ℕ) (at : ℕ) where
-  left : length (drop at (bits s)) ≡ 8 * length s - at
-  left = length-drop at (bits s) ∙ ap (λ (k : ℕ). k - at) (length-bits s)
-
   pub byte-left : (at + 7) / 8 < length s → true ≡ over s at
-  byte-left h = let l = left in rw (le-leb 8 (length (drop at (bits s))) (omega arith)) refl
+  byte-left h = let l = length-from s at in rw (le-leb 8 (length (drop at (bits s))) (omega arith)) refl
 
   pub none-left : length s ≤ (at + 7) / 8 → at % 8 ≡ 0 → false ≡ over s at
   unfolding anySet
@@ -61,7 +57,7 @@ module _ (s : List ℕ) (at : ℕ) where
 
   pub bits-left : length s ≤ (at + 7) / 8 → (at % 8 ≡ 0 → ⊥) → at ≤ 8 * length s → (v : ℕ) → v ≡ field s at (8 - at % 8) → not (eqb v 0) ≡ over s at
   bits-left h e k v q =
-      let l = left in
+      let l = length-from s at in
       rw (lt-leb 8 (length (drop at (bits s))) (omega arith), q, take-all (8 - at % 8) (drop at (bits s)) (omega arith)) (any-number (drop at (bits s)))
 
 -- ---- the answer after the tree

@@ -1,19 +1,19 @@
 -- The tree at a bit place of a strip, by what stands there: each step of the reader. Assumes nothing.
 use Prim.Native.Nat.{ℕ, zero, suc, _+_, _-_, _*_, _^_, _≤_, _<_}
-use mathlib.Core.Path.{_≡_, refl, sym, ap, ap₂, subst, _∙_}
+use mathlib.Core.Path.{_≡_, refl, sym, ap, subst, _∙_}
 use mathlib.Core.Bool.{Bool, true, false, _&&_}
-use mathlib.Core.List.{List, [], _∷_, _++_}
+use mathlib.Core.List.{List, _∷_}
 use native.Mathlib.Nat.{mul-le-mul-left}
 use native.Mathlib.Numerals.{add-one}
 use native.Mathlib.Omega.{arith}
 use borrow.Author.Tests.{lt-ltb, le-ltb, leb-true, leb-false, ltb-true, ltb-false, eqb-true, eqb-false, eq-eqb, ne-eqb}
 use lib.Dec.{eqb, leb, ltb, eqb·suc-zero}
-use lib.ListN.{length, getD, take, drop, length-append, length-drop, drop-of-length-le}
+use lib.ListN.{length, getD, drop, length-append, drop-of-length-le}
 use lib.Seq.{drop-cons, drop-drop, drop-append-seam}
 use Rattle.logic.specs.Tree.{Tree, empty, node, branches, sumOf, positions}
 use Rattle.logic.specs.Trim.{isEmpty}
 use Rattle.logic.specs.Two.{pairOf}
-use Rattle.strip.specs.Bits.{bits, number, field}
+use Rattle.strip.specs.Bits.{bits, field}
 use Rattle.strip.specs.RuleStrip.{orElse}
 use Rattle.strip.specs.TreeStrip.{Parsed, parsed, refused, join, andThen, parse, treeBits}
 use Rattle.strip.specs.TreeAnswers.{headAt, closed, told}
@@ -22,7 +22,7 @@ use Rattle.strip.specs.declared.tree.Head.the-variants as head
 use Rattle.strip.specs.declared.tree.TreeRead.{TreeRead}
 use Rattle.strip.specs.declared.tree.TreeRead.the-variants as read
 use Rattle.strip.proofs.Fields.{length-bits}
-use Rattle.strip.proofs.TreeBits.{treeBits-length, AreBits, bits-drop, bits-bits}
+use Rattle.strip.proofs.TreeBits.{length-from, treeBits-length, bits-drop, bits-bits}
 use Rattle.strip.proofs.TreeParse.{Reading, Good, label-lt, parse-good, parse-reading, parse-enough}
 
 module _ (s : List ℕ) (n : ℕ) where
@@ -32,9 +32,6 @@ module _ (s : List ℕ) (n : ℕ) where
   follow d met (head.Empty next) = parsed empty met (drop next (bits s))
   follow d met (head.Node l next) = andThen l (parse d n (suc met) (drop next (bits s))) (parse d n)
 
-  left : (at : ℕ) → length (drop at (bits s)) ≡ 8 * length s - at
-  left at = length-drop at (bits s) ∙ ap (λ (k : ℕ). k - at) (length-bits s)
-
   -- a node bit's head
   abbrev nodeHead : ℕ → ℕ → Head
   nodeHead met at = orElse (leb 255 met) (head.Refused 20) (orElse (ltb (8 * length s) (at + 1 + n)) (head.Refused 18) (head.Node (field s (at + 1) n) (at + 1 + n)))
@@ -43,8 +40,8 @@ module _ (s : List ℕ) (n : ℕ) where
   cut at h = go (ltb (8 * length s) (at + 1 + n)) refl
     where
       go : (v : Bool) → ltb (8 * length s) (at + 1 + n) ≡ v → ltb (length (drop (suc at) (bits s))) n ≡ v
-      go true e = let k = ltb-true (8 * length s) (at + 1 + n) e in let l = left (suc at) in lt-ltb (length (drop (suc at) (bits s))) n (omega arith)
-      go false e = let k = ltb-false (8 * length s) (at + 1 + n) e in let l = left (suc at) in le-ltb (length (drop (suc at) (bits s))) n (omega arith)
+      go true e = let k = ltb-true (8 * length s) (at + 1 + n) e in let l = length-from s (suc at) in lt-ltb (length (drop (suc at) (bits s))) n (omega arith)
+      go false e = let k = ltb-false (8 * length s) (at + 1 + n) e in let l = length-from s (suc at) in le-ltb (length (drop (suc at) (bits s))) n (omega arith)
 
   parse-node : (d met at b : ℕ) → at < 8 * length s → parse (suc d) n met (suc b ∷ drop (suc at) (bits s)) ≡ follow d met (nodeHead met at)
   unfolding parse
@@ -100,7 +97,7 @@ module _ (s : List ℕ) (n : ℕ) where
   pub head-label : (met at l next : ℕ) → headAt s n met at ≡ head.Node l next → l < 2 ^ n
   head-label met at l next e =
       let w = node-within met at l next e in
-      let k = left (at + 1) in
+      let k = length-from s (at + 1) in
       rw (w .3) (label-lt n (drop (at + 1) (bits s)) (bits-drop (at + 1) (bits s) (bits-bits s)) (omega (arith, w .0, w .1)))
 
   -- ---- the reader's answers, with enough for every bit of the strip
@@ -108,7 +105,7 @@ module _ (s : List ℕ) (n : ℕ) where
   treeAt met at = parse (suc (8 * length s)) n met (drop at (bits s))
 
   place : (at : ℕ) → at ≤ 8 * length s → 8 * length s - length (drop at (bits s)) ≡ at
-  place at h = let l = left at in omega arith
+  place at h = let l = length-from s at in omega arith
 
   pub told-refused : (met at k : ℕ) (h : Head) → h ≡ headAt s n met at → h ≡ head.Refused k → read.Refused k ≡ told s (treeAt met at)
   told-refused met at k h p q = sym (ap (told s) (parse-head (8 * length s) met at ∙ ap (follow (8 * length s) met) (sym p ∙ q)))
@@ -120,7 +117,9 @@ module _ (s : List ℕ) (n : ℕ) where
 
   -- the first branch's answer is that of the definition with one less to spare
   one-less : (met at : ℕ) → met ≤ 255 → 0 < at → at ≤ 8 * length s → parse (8 * length s) n met (drop at (bits s)) ≡ treeAt met at
-  one-less met at h z k = let l = left at in parse-enough n (8 * length s) (suc (8 * length s)) met (drop at (bits s)) (omega arith) (omega arith) h (bits-drop at (bits s) (bits-bits s))
+  one-less met at h z k =
+      let l = length-from s at in
+      parse-enough n (8 * length s) (suc (8 * length s)) met (drop at (bits s)) (omega arith) (omega arith) h (bits-drop at (bits s) (bits-bits s))
 
   node-at : (met at l next : ℕ) (h : Head) → h ≡ headAt s n met at → h ≡ head.Node l next → treeAt met at ≡ andThen l (treeAt (suc met) next) (parse (8 * length s) n)
   node-at met at l next h p q =
@@ -137,9 +136,13 @@ module _ (s : List ℕ) (n : ℕ) where
       → (drop mid (bits s) ≡ rest) × (mid ≡ next + length (treeBits n t)) × (mid ≤ 8 * length s)
   ending met next m mid t rest h g e =
       let a = ap length (g .written) ∙ length-append (treeBits n t) rest in
-      let b = left next in
-      let f : mid ≡ next + length (treeBits n t) = omega arith in
-      (ap (λ (k : ℕ). drop k (bits s)) f ∙ sym (drop-drop (length (treeBits n t)) next (bits s)) ∙ ap (drop (length (treeBits n t))) (g .written) ∙ drop-append-seam (treeBits n t) rest, f, omega arith)
+      let b = length-from s next in
+      let f : mid ≡ next + length (treeBits n t) = omega arith in (
+        ap (λ (k : ℕ). drop k (bits s)) f
+            ∙ sym (drop-drop (length (treeBits n t)) next (bits s)) ∙ ap (drop (length (treeBits n t))) (g .written) ∙ drop-append-seam (treeBits n t) rest,
+        f,
+        omega arith,
+      )
 
   pub reading-at : (met at m : ℕ) (t : Tree 2) (rest : List ℕ) → met ≤ 255 → treeAt met at ≡ parsed t m rest → Reading n met (drop at (bits s)) t m rest
   reading-at met at m t rest h e = parse-reading n (suc (8 * length s)) met (drop at (bits s)) t m rest h (bits-drop at (bits s) (bits-bits s)) e
@@ -202,8 +205,11 @@ module _ (s : List ℕ) (n : ℕ) where
           let q = told-tree (treeAt (suc met) next) m mid (sym (rw (add-one met) at is-first) ∙ is-tree) in
           let g = reading-at (suc met) next m (q .0) (q .1) (omega arith) (q .2) in
           let f = ending (suc met) next m mid (q .0) (q .1) (w .1) g (q .3) in
-          let c : treeAt met at ≡ join l (q .0) (parse (8 * length s) n m (q .1)) = node-at met at l next h is-head is-node ∙ ap (λ (P : Parsed). andThen l P (parse (8 * length s) n)) (q .2) in
-          let d : parse (8 * length s) n m (q .1) ≡ treeAt m mid = ap (parse (8 * length s) n m) (sym (f .0)) ∙ one-less m mid (g .few) (omega (arith, w .0, f .1)) (f .2) in
+          let c : treeAt met at ≡ join l (q .0) (parse (8 * length s) n m (q .1)) =
+          node-at met at l next h is-head is-node ∙ ap (λ (P : Parsed). andThen l P (parse (8 * length s) n)) (q .2) in
+          let d : parse (8 * length s) n m (q .1) ≡ treeAt m mid = ap (parse (8 * length s) n m) (sym (f .0))
+          ∙ one-less m mid (g .few) (omega (arith, w .0, f .1)) (f .2) in
           ap (closed l (met + 1)) e
-          ∙ join-closed l met m (q .0) (drop mid (bits s)) (treeAt m mid) (g .counted) (parse-good n (suc (8 * length s)) m (drop mid (bits s)) (g .few) (bits-drop mid (bits s) (bits-bits s)))
+          ∙ join-closed l met m (q .0) (drop mid (bits s)) (treeAt m mid) (g .counted)
+          (parse-good n (suc (8 * length s)) m (drop mid (bits s)) (g .few) (bits-drop mid (bits s) (bits-bits s)))
           ∙ sym (ap (told s) (c ∙ ap (join l (q .0)) d))

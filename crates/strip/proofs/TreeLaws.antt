@@ -1,23 +1,25 @@
 -- Tree strips and trees: an accepted strip holds one trimmed tree, the tree's strip is read back, and no other strip holds it.
 -- Assumes nothing.
-use Prim.Native.Nat.{ℕ, zero, suc, _+_, _-_, _*_, _/_, _^_, _≤_, _<_}
+use Prim.Native.Nat.{ℕ, zero, suc, _+_, _*_, _/_, _≤_, _<_}
 use mathlib.Core.Path.{_≡_, refl, sym, ap, ap₂, subst, _∙_}
 use mathlib.Core.Bool.{Bool, true, false, not, _&&_, _||_}
 use mathlib.Core.List.{List, [], _∷_, _++_, append-assoc}
 use native.Mathlib.Nat.{mul-le-mul, zero-add}
 use native.Mathlib.Omega.{arith}
-use borrow.Author.Tests.{le-leb, lt-leb, eq-eqb, ne-eqb, leb-true, leb-false, eqb-true, eqb-false}
-use lib.Dec.{lit<, leb, eqb}
+use borrow.Author.Tests.{le-leb, lt-leb, eq-eqb, ne-eqb, leb-true, leb-false, eqb-true, eqb-false, not-false}
+use lib.Dec.{leb, eqb}
 use lib.ListN.{length, getD, take, drop, replicate, length-append, length-drop, length-replicate, take-append-drop}
 use lib.Seq.{drop-drop, take-at, drop-at}
-use Rattle.logic.specs.Tree.{Tree, empty, node, positions, Proper}
+use Rattle.logic.specs.Tree.{Tree, positions, Proper}
 use Rattle.logic.specs.Trim.{Trimmed}
-use Rattle.strip.specs.Bits.{digits, bits, number, field, anySet, pack}
+use Rattle.strip.specs.Bits.{digits, bits, number, field, anySet}
 use Rattle.strip.specs.RuleStrip.{orElse, between}
 use Rattle.strip.specs.TreeStrip.{Parsed, parsed, refused, parse, ended, readTree, treeBits, treeStrip, treeBytes}
-use Rattle.strip.proofs.Fields.{length-digits, length-bits, number-digits}
-use Rattle.strip.proofs.TreeBits.{treeBits-length, AreBits, bits-append, bits-drop, bits-bits, digits-bits, tree-bits}
-use Rattle.strip.proofs.TreeParse.{Reading, label-digits, parse-reading, parse-back}
+use Rattle.strip.specs.TreeAnswers.{answered, checkedTree}
+use Rattle.strip.specs.declared.tree.TreeCheck.the-variants.{Accepted}
+use Rattle.strip.proofs.Fields.{length-digits, length-bits}
+use Rattle.strip.proofs.TreeBits.{treeBits-length, length-from, number-of, bits-append, bits-drop, bits-bits, digits-bits, tree-bits}
+use Rattle.strip.proofs.TreeParse.{label-digits, parse-reading, parse-back}
 use Rattle.strip.proofs.TreePack.{Padded, pack-bits, strip-of-bits}
 
 -- the bits that are written before the padding
@@ -47,16 +49,12 @@ passed : (v : Bool) (r : ℕ) (P : Parsed) (t : Tree 2) (m : ℕ) (rest : List �
 passed true r P t m rest e = absurd (let z : _≡_ {A = ℕ} 0 1 = cc in omega arith)
 passed false r P t m rest e = (refl, e)
 
-was-true : (v : Bool) → not v ≡ false → v ≡ true
-was-true true e = refl
-was-true false e = absurd (let z : _≡_ {A = ℕ} 0 1 = cc in omega arith)
-
 no-bit : (l : List ℕ) → anySet l ≡ false → l ≡ replicate (length l) 0
 unfolding anySet
 no-bit [] e = refl
 no-bit (b ∷ l) e =
     let w = either (not (eqb b 0)) (anySet l) e in
-    ap₂ (λ (x : ℕ) (r : List ℕ). x ∷ r) (eqb-true b 0 (was-true (eqb b 0) (w .0))) (no-bit l (w .1))
+    ap₂ (λ (x : ℕ) (r : List ℕ). x ∷ r) (eqb-true b 0 (not-false (eqb b 0) (w .0))) (no-bit l (w .1))
 
 no-set : (z : ℕ) → anySet (replicate z 0) ≡ false
 unfolding anySet
@@ -92,11 +90,11 @@ tree-accepted s t m rest e =
     let a = passed (eqb (length s) 0) 15 _ t m rest e in
     let b = passed (not (eqb (field s 0 4) 1)) 16 _ t m rest (a .1) in
     let c = passed (not (between 1 8 n)) 17 _ t m rest (b .1) in
-    let i = both (leb 1 n) (leb n 8) (was-true (between 1 8 n) (c .0)) in
+    let i = both (leb 1 n) (leb n 8) (not-false (between 1 8 n) (c .0)) in
     let d = ended-is (parse (suc (8 * length s)) n 0 (drop 8 (bits s))) t m rest (c .1) in
     let g = parse-reading n (suc (8 * length s)) 0 (drop 8 (bits s)) t m rest (omega arith) (bits-drop 8 (bits s) (bits-bits s)) (d .0) in
     let h : 0 < length s = (let z = eqb-false (length s) 0 (a .0) in omega arith) in
-    let v = eqb-true (field s 0 4) 1 (was-true (eqb (field s 0 4) 1) (b .0)) in (
+    let v = eqb-true (field s 0 4) 1 (not-false (eqb (field s 0 4) 1) (b .0)) in (
       omega (arith, g .counted),
       record {
         some = leb-true 1 n (i .0);
@@ -104,7 +102,12 @@ tree-accepted s t m rest e =
         proper = g .proper;
         trimmed = g .trimmed;
         few = omega (arith, g .counted, g .few);
-        padded = (length rest, d .1, header s 1 n h v refl ∙ ap (λ (x : List ℕ). digits 4 1 ++ (digits 4 n ++ x)) (g .written ∙ ap (λ (x : List ℕ). treeBits n t ++ x) (d .2)) ∙ sym (grouped n t (length rest)));
+        padded = (
+          length rest,
+          d .1,
+          header s 1 n h v refl
+              ∙ ap (λ (x : List ℕ). digits 4 1 ++ (digits 4 n ++ x)) (g .written ∙ ap (λ (x : List ℕ). treeBits n t ++ x) (d .2)) ∙ sym (grouped n t (length rest)),
+        );
       },
     )
 
@@ -158,7 +161,7 @@ module _ (s : List ℕ) (n : ℕ) (t : Tree 2) (f : TreeFacts s n t) where
   pub facts-variables : field s 4 4 ≡ n
   facts-variables =
       ap (λ (l : List ℕ). number 0 (take 4 l)) after-version ∙ ap (number 0) (take-at (digits 4 n) (treeBits n t ++ zeros) 4 (length-digits 4 n))
-      ∙ number-digits 0 4 n ∙ omega (arith, f .at-most)
+      ∙ number-of 4 n (omega (arith, f .at-most))
 
   -- the tree stands at bit place 8
   pub facts-tree : drop 8 (bits s) ≡ treeBits n t ++ zeros
@@ -167,10 +170,20 @@ module _ (s : List ℕ) (n : ℕ) (t : Tree 2) (f : TreeFacts s n t) where
   pub facts-read : readTree s ≡ parsed t (positions t) zeros
   unfolding readTree ended
   facts-read =
-      let h : length (treeBits n t ++ zeros) < suc (8 * length s) = omega (arith, ap length facts-tree, length-drop 8 (bits s), length-bits s) in
+      let h : length (treeBits n t ++ zeros) < suc (8 * length s) = omega (arith, ap length facts-tree, length-from s 8) in
       let p = parse-back n (suc (8 * length s)) 0 t zeros h (omega (arith, f .few)) (f .proper) (f .trimmed) in
       let z : length zeros < 8 = omega (arith, length-replicate {A = ℕ} (f .padded .0) 0, f .padded .1) in
-      rw (facts-variables, ne-eqb (length s) 0 (λ e. omega (arith, facts-length)), eq-eqb (field s 0 4) 1 version, le-leb 1 n (f .some), le-leb n 8 (f .at-most), facts-tree, p, lt-leb 8 (length zeros) z, no-set (f .padded .0))
+      rw (
+        facts-variables,
+        ne-eqb (length s) 0 (λ e. omega (arith, facts-length)),
+        eq-eqb (field s 0 4) 1 version,
+        le-leb 1 n (f .some),
+        le-leb n 8 (f .at-most),
+        facts-tree,
+        p,
+        lt-leb 8 (length zeros) z,
+        no-set (f .padded .0),
+      )
       (ap (λ (m : ℕ). parsed t m zeros) (zero-add (positions t)))
 
   -- no other bytes hold the tree
@@ -189,3 +202,18 @@ module _ (n : ℕ) (t : Tree 2) (some : 1 ≤ n) (at-most : n ≤ 8) (proper : P
 -- an accepted strip is the one that is written for its tree
 pub tree-only : (s : List ℕ) (t : Tree 2) (m : ℕ) (rest : List ℕ) → ((i : ℕ) → getD s i 0 < 256) → readTree s ≡ parsed t m rest → s ≡ treeStrip (field s 4 4) t
 tree-only s t m rest g e = facts-only s (field s 4 4) t ((tree-accepted s t m rest e) .1) g
+
+-- ---- the same of the answer of the check
+pub checked-accepted : (s : List ℕ) (n N : ℕ) → checkedTree s ≡ Accepted n N → (t : Tree 2) × (N ≡ positions t) × TreeFacts s n t
+checked-accepted s n N e = go (readTree s) refl e
+  where
+    go : (P : Parsed) → readTree s ≡ P → answered s P ≡ Accepted n N → (t : Tree 2) × (N ≡ positions t) × TreeFacts s n t
+    go (refused r) p q = absurd (let z : _≡_ {A = ℕ} 0 1 = cc in omega arith)
+    go (parsed t m rest) p q =
+        let w = tree-accepted s t m rest p in
+        let i : field s 4 4 ≡ n = cc in
+        let j : m ≡ N = cc in
+        (t, sym j ∙ w .0, subst (λ (k : ℕ). TreeFacts s k t) i (w .1))
+
+pub facts-checked : (s : List ℕ) (n : ℕ) (t : Tree 2) → TreeFacts s n t → checkedTree s ≡ Accepted n (positions t)
+facts-checked s n t f = ap (answered s) (facts-read s n t f) ∙ ap (λ (k : ℕ). Accepted k (positions t)) (facts-variables s n t f)

@@ -1,6 +1,6 @@
 -- Bits packed into bytes: packing is unpacked by `bits`, up to padding, and nothing else packs to the same. Assumes nothing.
-use Prim.Native.Nat.{ℕ, zero, suc, _+_, _-_, _*_, _/_, _%_, _^_, _≤_, _<_}
-use mathlib.Core.Path.{_≡_, refl, sym, ap, ap₂, subst, _∙_}
+use Prim.Native.Nat.{ℕ, zero, suc, _+_, _-_, _*_, _^_, _≤_, _<_}
+use mathlib.Core.Path.{_≡_, refl, sym, ap, ap₂, _∙_}
 use mathlib.Core.Bool.{Bool, true, false}
 use mathlib.Core.List.{List, [], _∷_, _++_, append-assoc, append-nil}
 use native.Mathlib.Nat.{not-suc-le-zero, le-of-suc-le-suc, pow-suc, mul-one, mul-assoc, mul-comm}
@@ -10,8 +10,8 @@ use lib.Dec.{ltb, lit<}
 use lib.ListN.{length, getD, take, drop, replicate, length-append, length-drop, length-replicate, take-append-drop}
 use lib.Seq.{length-take-le, take-append-le, drop-append-le, take-at, drop-at}
 use Rattle.strip.specs.Bits.{digits, bits, number, pack}
-use Rattle.strip.proofs.Fields.{length-digits, length-bits, number-digits}
-use Rattle.strip.proofs.TreeBits.{AreBits, bits-append, bits-drop, bits-take, digits-number}
+use Rattle.strip.proofs.Fields.{length-digits, length-bits}
+use Rattle.strip.proofs.TreeBits.{AreBits, bits-append, bits-drop, bits-take, number-of, digits-number}
 
 -- ---- the first byte, and the rest
 number-zeros : (a d : ℕ) → number a (replicate d 0) ≡ a * 2 ^ d
@@ -49,8 +49,11 @@ last-bits : (bs : List ℕ) → 0 < length bs → length bs ≤ 8 → AreBits bs
 unfolding bits
 last-bits bs h l a =
     let w = bs ++ replicate (8 - length bs) 0 in
-    let e : length w ≡ 8 = length-append bs (replicate (8 - length bs) 0) ∙ ap (λ (k : ℕ). length bs + k) (length-replicate (8 - length bs) 0) ∙ omega arith in
-    (8 - length bs, omega arith, ap bits (pack-last 0 8 bs l) ∙ append-nil (digits 8 (number 0 w)) ∙ eight w e (bits-append bs (replicate (8 - length bs) 0) a (zeros-bits (8 - length bs))))
+    let e : length w ≡ 8 = length-append bs (replicate (8 - length bs) 0) ∙ ap (λ (k : ℕ). length bs + k) (length-replicate (8 - length bs) 0) ∙ omega arith in (
+      8 - length bs,
+      omega arith,
+      ap bits (pack-last 0 8 bs l) ∙ append-nil (digits 8 (number 0 w)) ∙ eight w e (bits-append bs (replicate (8 - length bs) 0) a (zeros-bits (8 - length bs))),
+    )
 
 more-bits : (bs : List ℕ) → 8 < length bs → AreBits bs → Padded (pack 0 8 (drop 8 bs)) (drop 8 bs) → Padded (pack 0 8 bs) bs
 unfolding bits
@@ -75,9 +78,6 @@ pub pack-bits : (bs : List ℕ) → 0 < length bs → AreBits bs → Padded (pac
 pack-bits bs h a = bits-of (length bs) bs (omega arith) h a
 
 -- ---- bytes that hold some bits and padding are those bits, packed
-byte-is : (x : ℕ) → x < 256 → number 0 (digits 8 x) ≡ x
-byte-is x h = number-digits 0 8 x ∙ omega arith
-
 none : (s : List ℕ) → length s ≡ 0 → s ≡ []
 none [] e = refl
 none (x ∷ s) e = absurd (omega arith)
@@ -101,8 +101,9 @@ module _ (x : ℕ) (s bs : List ℕ) (z : ℕ) (e : digits 8 x ++ bits s ≡ bs 
   last-byte h l g =
       let n = none s (let a = all in omega arith) in
       let f : z ≡ 8 - length bs = (let a = all in let b = ap length n in omega arith) in
-      let d : digits 8 x ≡ bs ++ replicate (8 - length bs) 0 = sym (append-nil (digits 8 x)) ∙ ap (λ (r : List ℕ). digits 8 x ++ bits r) (sym n) ∙ e ∙ ap (λ (k : ℕ). bs ++ replicate k 0) f in
-      ap (λ (r : List ℕ). x ∷ r) n ∙ ap (λ (k : ℕ). k ∷ []) (sym (byte-is x g) ∙ ap (number 0) d) ∙ sym (pack-last 0 8 bs h)
+      let d : digits 8 x ≡ bs ++ replicate (8 - length bs) 0 =
+      sym (append-nil (digits 8 x)) ∙ ap (λ (r : List ℕ). digits 8 x ++ bits r) (sym n) ∙ e ∙ ap (λ (k : ℕ). bs ++ replicate k 0) f in
+      ap (λ (r : List ℕ). x ∷ r) n ∙ ap (λ (k : ℕ). k ∷ []) (sym (number-of 8 x g) ∙ ap (number 0) d) ∙ sym (pack-last 0 8 bs h)
 
 pub strip-of-bits : (s bs : List ℕ) (z : ℕ) → ((i : ℕ) → getD s i 0 < 256) → bits s ≡ bs ++ replicate z 0 → z < 8 → 0 < length bs → s ≡ pack 0 8 bs
 unfolding bits
@@ -114,5 +115,5 @@ strip-of-bits (x ∷ s) bs z g e h l = go (ltb 8 (length bs)) refl (λ i j. stri
         let i = ltb-true 8 (length bs) f in
         let p = first-byte x s bs z e i in
         let j = length-drop 8 bs in
-        ap₂ (λ (b : ℕ) (r : List ℕ). b ∷ r) (sym (byte-is x (g 0)) ∙ ap (number 0) (p .0)) (k (p .1) (omega arith)) ∙ sym (pack-more 0 8 bs i)
+        ap₂ (λ (b : ℕ) (r : List ℕ). b ∷ r) (sym (number-of 8 x (g 0)) ∙ ap (number 0) (p .0)) (k (p .1) (omega arith)) ∙ sym (pack-more 0 8 bs i)
     go false f k = last-byte x s bs z e (ltb-false 8 (length bs) f) h (g 0)

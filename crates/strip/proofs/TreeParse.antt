@@ -1,13 +1,13 @@
 -- What a tree that is read from bits is, and that a written tree is read back. Assumes nothing.
-use Prim.Native.Nat.{ℕ, zero, suc, _+_, _-_, _*_, _^_, _≤_, _<_}
-use mathlib.Core.Path.{_≡_, refl, sym, ap, ap₂, subst, _∙_}
+use Prim.Native.Nat.{ℕ, zero, suc, _+_, _^_, _≤_, _<_}
+use mathlib.Core.Path.{_≡_, refl, sym, ap, subst, _∙_}
 use mathlib.Core.Bool.{Bool, true, false, cond, not, _&&_}
 use mathlib.Core.List.{List, [], _∷_, _++_, append-assoc}
-use native.Mathlib.Nat.{not-suc-le-zero, add-zero, mod-eq-of-lt}
+use native.Mathlib.Nat.{not-suc-le-zero, add-zero}
 use native.Mathlib.Omega.{arith}
-use borrow.Author.Tests.{le-leb, lt-leb, le-ltb, leb-false, ltb-false, eqb-true}
+use borrow.Author.Tests.{lt-leb, le-ltb, leb-false, ltb-false}
 use lib.Dec.{T, T-not, eqb, leb, ltb}
-use lib.ListN.{length, getD, take, drop, length-append, length-drop, take-append-drop}
+use lib.ListN.{length, take, drop, length-append, length-drop, take-append-drop}
 use lib.Seq.{length-take-le, take-at, drop-at}
 use Rattle.logic.specs.Machine.{allOf}
 use Rattle.logic.specs.Meaning.{Branch}
@@ -18,8 +18,8 @@ use Rattle.logic.proofs.Places.{true→T, not-T}
 use Rattle.strip.specs.Bits.{digits, number}
 use Rattle.strip.specs.RuleStrip.{orElse}
 use Rattle.strip.specs.TreeStrip.{Parsed, parsed, refused, join, andThen, parse, treeBits}
-use Rattle.strip.proofs.Fields.{length-digits, number-digits}
-use Rattle.strip.proofs.TreeBits.{both-branches, positions-pair, positions-node, AreBits, bits-drop, bits-take, bits-second, number-lt, digits-number}
+use Rattle.strip.proofs.Fields.{length-digits}
+use Rattle.strip.proofs.TreeBits.{both-branches, positions-pair, positions-node, AreBits, bits-drop, bits-take, bits-second, number-of, number-lt, digits-number}
 
 -- t is at the front of bs, and m positions are met after it
 pub record Reading (n met : ℕ) (bs : List ℕ) (t : Tree 2) (m : ℕ) (rest : List ℕ) : Type 0 where
@@ -56,7 +56,8 @@ module _ (n : ℕ) where
   written-node l t u bs mid rest d p q =
       ap (λ (x : List ℕ). 1 ∷ x)
       (sym (take-append-drop n bs)
-      ∙ rw (← d, p, q) (ap (λ (x : List ℕ). digits n l ++ x) (sym (append-assoc (treeBits n t) (treeBits n u) rest)) ∙ sym (append-assoc (digits n l) (treeBits n t ++ treeBits n u) rest)))
+      ∙ rw (← d, p, q) (ap (λ (x : List ℕ). digits n l ++ x) (sym (append-assoc (treeBits n t) (treeBits n u) rest))
+      ∙ sym (append-assoc (digits n l) (treeBits n t ++ treeBits n u) rest)))
 
   node-reading : (met l m m′ : ℕ) (bs mid rest : List ℕ) (t u : Tree 2) → l < 2 ^ n → digits n l ≡ take n bs
       → Reading n (suc met) (drop n bs) t m mid → Reading n m mid u m′ rest → (eqb l 0 && (isEmpty t && isEmpty u)) ≡ false
@@ -99,7 +100,10 @@ module _ (n : ℕ) where
   parse-good (suc d) met [] h a = tt
   parse-good (suc d) met (zero ∷ bs) h a = record { written = refl; counted = sym (add-zero met); few = h; proper = tt; trimmed = tt }
   parse-good (suc d) met (suc (suc b) ∷ bs) h a = let z = a 0 in absurd (omega arith)
-  parse-good (suc d) met (suc zero ∷ bs) h a = go (leb 255 met) refl (ltb (length bs) n) refl (λ e. parse-good d (suc met) (drop n bs) (let f = leb-false 255 met e in omega arith) (bits-drop n bs (λ k. a (suc k)))) (λ m mid g c. parse-good d m mid g c)
+  parse-good (suc d) met (suc zero ∷ bs) h a =
+      go (leb 255 met) refl (ltb (length bs) n) refl
+      (λ e. parse-good d (suc met) (drop n bs) (let f = leb-false 255 met e in omega arith) (bits-drop n bs (λ k. a (suc k))))
+      (λ m mid g c. parse-good d m mid g c)
     where
       go : (v : Bool) → leb 255 met ≡ v → (w : Bool) → ltb (length bs) n ≡ w → (leb 255 met ≡ false → Good n (suc met) (drop n bs) (parse d n (suc met) (drop n bs)))
           → ((m : ℕ) (mid : List ℕ) → m ≤ 255 → AreBits mid → Good n m mid (parse d n m mid))
@@ -143,7 +147,9 @@ module _ (n : ℕ) where
           let l = leb-false 255 met f in
           let c : AreBits (drop n bs) = bits-drop n bs (λ j. a (suc j)) in
           let r = length-drop n bs in
-          ap (orElse (ltb (length bs) n) (refused 18)) (then-same (number 0 (take n bs)) (parse d n (suc met) (drop n bs)) (parse e n (suc met) (drop n bs)) (parse d n) (parse e n) (k (suc met) (drop n bs) (omega arith) (omega arith) c)
+          ap (orElse (ltb (length bs) n) (refused 18))
+          (then-same (number 0 (take n bs)) (parse d n (suc met) (drop n bs)) (parse e n (suc met) (drop n bs)) (parse d n) (parse e n)
+          (k (suc met) (drop n bs) (omega arith) (omega arith) c)
           (λ t m mid w. let g = parse-reading e (suc met) (drop n bs) t m mid (omega arith) c w in
           let s = shorter (suc met) (drop n bs) t m mid g in
           k m mid (omega arith) (g .few) (bits-second (treeBits n t) mid (subst AreBits (g .written) c))))
@@ -154,8 +160,7 @@ module _ (n : ℕ) where
   parse-one d met l bs h k =
       let a = length-append (digits n l) bs in
       let b = length-digits n l in
-      let e : number 0 (digits n l) ≡ l = number-digits 0 n l ∙ ap (λ (v : ℕ). 0 * 2 ^ n + v) (mod-eq-of-lt k) ∙ omega arith in
-      rw (lt-leb 255 met h, le-ltb (length (digits n l ++ bs)) n (omega arith), take-at (digits n l) bs n b, drop-at (digits n l) bs n b, e) refl
+      rw (lt-leb 255 met h, le-ltb (length (digits n l ++ bs)) n (omega arith), take-at (digits n l) bs n b, drop-at (digits n l) bs n b, number-of n l k) refl
 
   join-back : (l m : ℕ) (f : Branch 2 → Tree 2) (rest : List ℕ) → T (not (bare l f)) → join l (f one) (parsed (f two) m rest) ≡ parsed (node l f) m rest
   unfolding join

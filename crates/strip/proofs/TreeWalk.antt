@@ -1,23 +1,21 @@
 -- A walk over a tree in a strip: at a place where a tree stands, what the head is and where its branches stand. Assumes nothing.
-use Prim.Native.Nat.{ℕ, zero, suc, _+_, _-_, _*_, _^_, _≤_, _<_}
+use Prim.Native.Nat.{ℕ, _+_, _*_, _^_, _≤_, _<_}
 use mathlib.Core.Path.{_≡_, refl, sym, ap, _∙_}
-use mathlib.Core.List.{List, [], _∷_, _++_, append-assoc}
-use native.Mathlib.Nat.{add-zero, mod-eq-of-lt}
-use native.Mathlib.Numerals.{add-one}
+use mathlib.Core.List.{List, _∷_, _++_, append-assoc}
+use native.Mathlib.Nat.{add-zero}
 use native.Mathlib.Omega.{arith}
-use borrow.Author.Tests.{lt-leb, le-ltb, eq-eqb, ne-eqb}
-use lib.ListN.{length, getD, take, drop, length-append, length-drop}
+use borrow.Author.Tests.{lt-leb, le-ltb, eq-eqb}
+use lib.ListN.{length, getD, take, drop, length-append}
 use lib.Seq.{getD-drop, drop-drop, take-at, drop-at, drop-append-seam}
 use Rattle.logic.specs.Meaning.{Branch}
 use Rattle.logic.specs.Tree.{Tree, empty, node}
 use Rattle.logic.specs.Two.{one, two}
 use Rattle.strip.specs.Bits.{digits, bits, number, field}
-use Rattle.strip.specs.TreeStrip.{Parsed, parsed, readTree, treeBits}
+use Rattle.strip.specs.TreeStrip.{treeBits}
 use Rattle.strip.specs.TreeAnswers.{headAt}
-use Rattle.strip.specs.declared.tree.Head.{Head}
 use Rattle.strip.specs.declared.tree.Head.the-variants.{Empty, Node}
-use Rattle.strip.proofs.Fields.{length-digits, length-bits, number-digits}
-use Rattle.strip.proofs.TreeBits.{treeBits-length}
+use Rattle.strip.proofs.Fields.{length-digits}
+use Rattle.strip.proofs.TreeBits.{treeBits-length, length-from, number-of}
 use Rattle.strip.proofs.TreeLaws.{TreeFacts, facts-tree}
 
 -- the tree t stands at bit place at
@@ -28,19 +26,16 @@ pub facts-stand : (s : List ℕ) (n : ℕ) (t : Tree 2) → TreeFacts s n t → 
 facts-stand s n t f = (_, facts-tree s n t f)
 
 module _ (s : List ℕ) (n at : ℕ) where
-  left : length (drop at (bits s)) ≡ 8 * length s - at
-  left = length-drop at (bits s) ∙ ap (λ (k : ℕ). k - at) (length-bits s)
-
   pub stands-within : (t : Tree 2) → Stands s n at t → at + length (treeBits n t) ≤ 8 * length s
   stands-within t p =
-      let l = left in
+      let l = length-from s at in
       let k = ap length (p .1) ∙ length-append (treeBits n t) (p .0) in
       let b = treeBits-length n t in
       omega arith
 
   bit-is : (b : ℕ) (bs : List ℕ) → drop at (bits s) ≡ b ∷ bs → (at < 8 * length s) × (getD (bits s) at 0 ≡ b) × (drop (at + 1) (bits s) ≡ bs)
   bit-is b bs e = (
-    let l = left in let k = ap length e in omega arith,
+    let l = length-from s at in let k = ap length e in omega arith,
     ap (λ (k : ℕ). getD (bits s) k 0) (sym (add-zero at)) ∙ sym (getD-drop at (bits s) 0 0) ∙ ap (λ (l : List ℕ). getD l 0 0) e,
     sym (drop-drop 1 at (bits s)) ∙ ap (drop 1) e,
   )
@@ -66,13 +61,13 @@ module _ (s : List ℕ) (n at : ℕ) where
     label-in : at + 1 + n ≤ 8 * length s
     label-in =
         let a = ap length (node-bit .2) ∙ length-append (digits n l) after in
-        let b = length-drop (at + 1) (bits s) in
-        omega (arith, length-digits n l, length-bits s, node-bit .0)
+        let b = length-from s (at + 1) in
+        omega (arith, length-digits n l, node-bit .0)
 
     label-is : l < 2 ^ n → field s (at + 1) n ≡ l
     label-is k =
         ap (λ (r : List ℕ). number 0 (take n r)) (node-bit .2) ∙ ap (number 0) (take-at (digits n l) after n (length-digits n l))
-        ∙ number-digits 0 n l ∙ ap (λ (v : ℕ). 0 * 2 ^ n + v) (mod-eq-of-lt k) ∙ omega arith
+        ∙ number-of n l k
 
     pub stands-node : (met : ℕ) → met < 255 → l < 2 ^ n → headAt s n met at ≡ Node l (at + 1 + n)
     unfolding headAt
@@ -84,5 +79,8 @@ module _ (s : List ℕ) (n at : ℕ) where
     stands-first = (treeBits n (f two) ++ p .0, after-label)
 
     pub stands-second : Stands s n (at + 1 + n + length (treeBits n (f one))) (f two)
-    stands-second =
-        (p .0, sym (drop-drop (length (treeBits n (f one))) (at + 1 + n) (bits s)) ∙ ap (drop (length (treeBits n (f one)))) after-label ∙ drop-append-seam (treeBits n (f one)) (treeBits n (f two) ++ p .0))
+    stands-second = (
+      p .0,
+      sym (drop-drop (length (treeBits n (f one))) (at + 1 + n) (bits s))
+          ∙ ap (drop (length (treeBits n (f one)))) after-label ∙ drop-append-seam (treeBits n (f one)) (treeBits n (f two) ++ p .0),
+    )

@@ -1,5 +1,5 @@
 -- `tree::read_tree` meets its contract. The measure: each branch meets one position more, of 255. Assumes nothing.
-use mathlib.Core.Path.{_≡_, _∙_}
+use mathlib.Core.Path.{_∙_}
 use Rattle.strip.proofs.TreeHead.{told-refused, told-empty, first-room, first-refused, second-room, told-node}
 use Prim.Native.Nat.{ℕ, _-_, _<_}
 use native.Mathlib.Omega.{arith}
@@ -79,7 +79,8 @@ read-tree-read-tree-requires-2 t c κs =
     let p = b .pre .1 in
     let r = c .before .before .before .read-tree in
     let f = c .before .first .given in
-    let q = second-room (a .s .now) (a .n) (a .met) (a .at) (g .0 .0) (g .0 .1 .0) (h .result) (h .ensures) (g .1) (f .0 .0) (f .0 .1 .0) (r .result) (r .ensures) (f .1) (p .1) (p .2) (p .3) in
+    let q = second-room (a .s .now) (a .n) (a .met) (a .at) (g .0 .0) (g .0 .1 .0) (h .result) (h .ensures) (g .1)
+    (f .0 .0) (f .0 .1 .0) (r .result) (r .ensures) (f .1) (p .1) (p .2) (p .3) in
     (omega arith, (p .0, p .1, q .1, q .2))
 
 read-tree-add-close-node : (t : ℕ) → read-tree-lts.Need-add-close-node (R t) (read-tree-at t) read-tree.Post
@@ -110,7 +111,8 @@ read-tree-returns-4 t c =
     let f = c .before .before .before .first .given in
     let r′ = c .before .read-tree2 in
     c .close-node .ensures
-    ∙ told-node (a .s .now) (a .n) (a .met) (a .at) (g .0 .0) (g .0 .1 .0) (h .result) (h .ensures) (g .1) (f .0 .0) (f .0 .1 .0) (r .result) (r .ensures) (f .1) (b .pre .1 .2) (r′ .result) (r′ .ensures)
+    ∙ told-node (a .s .now) (a .n) (a .met) (a .at) (g .0 .0) (g .0 .1 .0) (h .result) (h .ensures) (g .1)
+    (f .0 .0) (f .0 .1 .0) (r .result) (r .ensures) (f .1) (b .pre .1 .2) (r′ .result) (r′ .ensures)
 
 pub +read-tree-spec : {M : Type 1} → statement M
 +read-tree-spec = close μ-read-tree λ t. read-tree-lts.spec (R t)

@@ -64,7 +64,8 @@ returns-4 c =
     let b = c .before .before .before in
     let f = b .before .field-at in
     let g = c .before .before .field-at2 in
-    many-variables (b .before .before .before .before .args .s .now) (b .before .before .if1 .left) (f .result) (f .ensures) (b .if2 .left) (g .result) (g .ensures) (c .before .if3 .left) (c .if4 .taken)
+    many-variables (b .before .before .before .before .args .s .now) (b .before .before .if1 .left) (f .result) (f .ensures) (b .if2 .left) (g .result) (g .ensures)
+    (c .before .if3 .left) (c .if4 .taken)
 
 check-bits-requires : tie.Need-check-bits-requires
 check-bits-requires c κs = search needs

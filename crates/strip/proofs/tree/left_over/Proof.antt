@@ -1,5 +1,4 @@
 -- `tree::left_over` meets its contract. Assumes nothing.
-use native.Mathlib.Omega.{arith}
 use borrow.Author.Needs.{needs}
 use Rattle.strip.proofs.TreeEnd.{byte-left, none-left, bits-left}
 use Rattle.strip.proofs.tree.left_over.Statement.{statement}

@@ -8,7 +8,6 @@ use borrow.Author.Tests.{le-leb, lt-leb, lt-ltb, le-ltb, eq-eqb, ne-eqb}
 use lib.ListN.{length, getD}
 use Rattle.strip.specs.Bits.{bits, field}
 use Rattle.strip.specs.TreeAnswers.{headAt}
-use Rattle.strip.specs.declared.tree.Head.{Head}
 use Rattle.strip.specs.declared.tree.Head.the-variants.{Empty, Node, Refused}
 use Rattle.strip.proofs.tree.read_head.Statement.{statement}
 use Rattle.strip.proofs.tree.read_head.Tie as tie
@@ -74,8 +73,8 @@ add-t12 c = search needs
 
 returns-5 : tie.Need-returns-5
 returns-5 c =
-    is-node _ _ _ _ _ (c .before .before .before .before .before .if1 .left) (c .before .before .before .before .bit-at .ensures .0) (c .before .before .before .if2 .left) (c .before .before .if3 .left)
-    (c .before .if4 .left) (c .field-at .result) (c .field-at .ensures)
+    is-node _ _ _ _ _ (c .before .before .before .before .before .if1 .left) (c .before .before .before .before .bit-at .ensures .0) (c .before .before .before .if2 .left)
+    (c .before .before .if3 .left) (c .before .if4 .left) (c .field-at .result) (c .field-at .ensures)
 
 pub read-head-spec : {M : Type 1} → statement M
 read-head-spec =
