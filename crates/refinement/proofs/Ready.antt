@@ -61,19 +61,20 @@ module _ (n : ℕ) (some : 1 ≤ n) (few : n ≤ 8) where
       → Fits (decodedOf n (getD rs r noRecord)) r c (2 ^ n) len × Sound (decodedOf n (getD rs r noRecord)) r (2 ^ n)
   unfolding decodedOf
   ready rs acc r m c len h hm km pos top room a b =
-      let e : Record = getD rs r noRecord in
-      (record {
-        first-in = choice (eqb (e .op) 8) (e .first) (e .second) a b;
-        second-in = b;
-        here-in = omega arith;
-        ceiling = top;
-        some-state = pos;
-        some-labels = two-labels;
-        few = few-labels;
-        wx-pos = weight-pos (e .first);
-        wx-small = weight-small (e .first);
-        wy-pos = weight-pos (e .second);
-        wy-small = weight-small (e .second);
-        share = share-fits r m (2 ^ n * c * c) len hm room;
-      },
-      sound-at r (e .op) (e .first) (e .second) (good-here n rs r (acc .1) h))
+      let e : Record = getD rs r noRecord in (
+        record {
+          first-in = choice (eqb (e .op) 8) (e .first) (e .second) a b;
+          second-in = b;
+          here-in = omega arith;
+          ceiling = top;
+          some-state = pos;
+          some-labels = two-labels;
+          few = few-labels;
+          wx-pos = weight-pos (e .first);
+          wx-small = weight-small (e .first);
+          wy-pos = weight-pos (e .second);
+          wy-small = weight-small (e .second);
+          share = share-fits r m (2 ^ n * c * c) len hm room;
+        },
+        sound-at r (e .op) (e .first) (e .second) (good-here n rs r (acc .1) h),
+      )

@@ -46,3 +46,26 @@ pub fn write_tree(
     let next = write_tree(d, at + 1 + n, n, label, first, second, count, first[r]);
     write_tree(d, next, n, label, first, second, count, second[r])
 }
+
+// The strip of the tree of rank r, over the whole of out, which is as long as the strip.
+pub fn write_strip(
+    out: &mut [u8],
+    n: usize,
+    label: &[usize; 64],
+    first: &[usize; 64],
+    second: &[usize; 64],
+    count: usize,
+    r: usize,
+)
+    requires { ⌜ (n ≤ 8) × (r < count) × (count ≤ 64) ⌝ }
+    requires { ⌜ Backs count (now first) (now second) ⌝ }
+    requires { ⌜ positions (treeOfRank (now label) (now first) (now second) count r) ≤ 255 ⌝ }
+    requires { ⌜ length (now out) ≡ treeBytes n (positions (treeOfRank (now label) (now first) (now second) count r)) ⌝ }
+    ensures { λ _. ⌜ now (out .exit) ≡ treeStrip n (treeOfRank (now (label .entry)) (now (first .entry)) (now (second .entry)) count r) ⌝ }
+{
+    let len = out.len();
+    strip::bits::clear(out, len);
+    strip::bits::put_field(out, 0, 4, 1);
+    strip::bits::put_field(out, 4, 4, n as u64);
+    write_tree(out, 8, n, label, first, second, count, r);
+}

@@ -1,0 +1,87 @@
+-- `search::write::write_strip` meets its contract. Assumes nothing.
+use mathlib.Core.Path.{_≡_, refl, sym, ap, _∙_}
+use Prim.Native.Nat.{ℕ, _+_, _*_, _≤_, _<_}
+use native.Mathlib.Omega.{arith}
+use lib.ListN.{length, getD}
+use Rattle.strip.specs.Bits.{bits}
+use Rattle.search.specs.Ranks.{treeOfRank}
+use Rattle.search.proofs.StripLaws.{cleared, after-version, after-head, strip-size, strip-written}
+use borrow.Author.Needs.{needs}
+use Rattle.search.proofs.write.write_strip.Statement.{statement}
+use Rattle.search.proofs.write.write_strip.Tie as tie
+use Rattle.search.proofs.write.write_strip.Reads as reads
+use Rattle.search.proofs.write.write_strip.Lts as lts
+use Rattle.search.proofs.write.write_tree.Reads as write-tree-reads
+use Rattle.strip.proofs.bits.clear.Reads as clear-reads
+use Rattle.strip.proofs.bits.put_field.Reads as put-field-reads
+
+clear-requires : tie.Need-clear-requires
+clear-requires c κs = search needs
+
+put-field-requires : tie.Need-put-field-requires
+put-field-requires c κs =
+    let st = c .before .before .before .before .before .before in
+    let a = st .args in
+    let t = treeOfRank (a .label .now) (a .first .now) (a .second .now) (a .count) (a .r) in
+    let h = st .pre in
+    let w = c .before .before .before .clear in
+    let k = w .kept .0 in
+    let r = strip-size (a .n) t (h .0 .0) (h .1 .1 .0) in
+    let z = cleared (a .out .now) (w .last .0) (length (a .out .now)) (w .ensures) refl in
+    (omega arith, (omega arith, (omega arith, λ i l. z (0 + i) (omega arith))))
+
+put-field-requires-2 : tie.Need-put-field-requires-2
+put-field-requires-2 c κs =
+    let st = c .before .before .before .before .before .before .before .before .before .before in
+    let a = st .args in
+    let t = treeOfRank (a .label .now) (a .first .now) (a .second .now) (a .count) (a .r) in
+    let h = st .pre in
+    let w = c .before .before .before .before .before .before .before .clear in
+    let v = c .before .before .before .put-field in
+    let k = w .kept .0 in
+    let k₂ = v .kept .0 in
+    let r = strip-size (a .n) t (h .0 .0) (h .1 .1 .0) in
+    let z = after-version (a .out .now) (w .last .0) (length (a .out .now)) (w .ensures) refl (v .last .0) (v .ensures) in
+    (omega arith, (omega arith, (omega arith, λ i l. z (4 + i) (omega arith))))
+
+write-tree-requires : tie.Need-write-tree-requires
+write-tree-requires c κs =
+    let st = c .before .before .before .before .before .before .before .before .before .before .before .before .before .before in
+    let a = st .args in
+    let t = treeOfRank (a .label .now) (a .first .now) (a .second .now) (a .count) (a .r) in
+    let h = st .pre in
+    let w = c .before .before .before .before .before .before .before .before .before .before .before .clear in
+    let v = c .before .before .before .before .before .before .before .put-field in
+    let u = c .before .before .before .put-field2 in
+    let k = w .kept .0 in
+    let k₂ = v .kept .0 in
+    let k₃ = u .kept .0 in
+    let r = strip-size (a .n) t (h .0 .0) (h .1 .1 .0) in
+    let z = after-head (a .out .now) (w .last .0) (length (a .out .now)) (w .ensures) refl (v .last .0) (v .ensures) (a .n) (u .last .0) (u .ensures) in
+    ((omega arith, omega arith, omega arith, omega arith), (h .1 .0, (omega arith, z)))
+
+same-length : tie.Need-same-length
+same-length c = search needs
+
+returns : tie.Need-returns
+returns c =
+    let st = c .before .before .before .before .before .before .before .before .before .before .before .before .before .before .before .before .before in
+    let a = st .args in
+    let t = treeOfRank (a .label .now) (a .first .now) (a .second .now) (a .count) (a .r) in
+    let h = st .pre in
+    let w = c .before .before .before .before .before .before .before .before .before .before .before .before .before .before .clear in
+    let v = c .before .before .before .before .before .before .before .before .before .before .put-field in
+    let u = c .before .before .before .before .before .before .put-field2 in
+    let x = c .before .before .write-tree in
+    strip-written (a .out .now) (w .last .0) (length (a .out .now)) (w .ensures) refl (v .last .0) (v .ensures) (a .n) (u .last .0) (u .ensures) t (h .1 .1 .1) (x .last .0) (x .ensures .1) (λ i. omega (arith, c .slice-known5 .given i))
+
+pub write-strip-spec : {M : Type 1} → statement M
+write-strip-spec =
+    tie.close
+    (tie.spec
+    clear-requires
+    put-field-requires
+    put-field-requires-2
+    write-tree-requires
+    same-length
+    returns)
