@@ -244,6 +244,27 @@ module _ (k n : ℕ) (rs : List Record) (c P : ℕ) where
     unfolding decideOf
     decide-answers = conclude-right (buildAll n c rs []) (built-says k n c rs)
 
+    -- either refusal 14 applies, or every record has room
+    pub over-or-roomy : ((r : ℕ) × (decideOf k n rs c P ≡ refused14 r)) ⊎ Roomy k n rs c
+    over-or-roomy = go (buildAll n c rs []) (built-says k n c rs)
+      where
+        go : (b : Built k) → Says k n c (extend [] rs) b → ((r : ℕ) × (decideOf k n rs c P ≡ refused14 r)) ⊎ Roomy k n rs c
+        go (over r) w = inl (r, (decide-answers .refused-is r) .1 (says-first r w))
+        go (built ts) w = inr (says-roomy ts w)
+
+    -- a shown tree has as many positions as are reported, and no more than the place ceiling
+    pub shown-fits : (places states : ℕ) (t : Tree k) → decideOf k n rs c P ≡ shown places states t → (places ≡ positions t) × (positions t ≤ P)
+    shown-fits places q t e = ⊎-elim
+        (λ w. absurd (let f = sym e ∙ w .1 in let z : _≡_ {A = ℕ} 0 1 = cc in omega arith))
+        (λ R.
+        let d = decide-answers .demand3 R in
+        let v = d .shown-right places q t e in
+        let x : places ≡ positions t = v .1 .counted in
+        let m = (d .shown-is) .0 (t, e ∙ ap₂ (λ (i j : ℕ). shown i j t) x (v .0)) in
+        let a = v .1 .fewest (m .0) (m .1) (m .2) in
+        (x, let b = m .3 in omega arith))
+        over-or-roomy
+
     conclude-only : (o : Outcome k) → Answers n rs c P o → (b : Built k) → Says k n c (extend [] rs) b → o ≡ conclude n rs P b
     unfolding conclude
     conclude-only o a (over r) w = (a .refused-is r) .1 (says-first r w)

@@ -27,7 +27,7 @@ use Rattle.refinement.specs.Decode.{decodedOf}
 use Rattle.refinement.proofs.Upto.{decide-over}
 use Rattle.refinement.proofs.Bytes.{decide-bytes}
 use Rattle.solver.specs.declared.Solution.{Solution}
-use Rattle.solver.specs.Solve.{Marked, outcomeIf, outcomeOf, Solved}
+use Rattle.solver.specs.Solve.{Marked, outcomeIf, outcomeOf, Ranked, Solved}
 
 -- the loop's invariant
 pub record Marking (a : List ℕ) (w q : ℕ) : Type 0 where
@@ -113,10 +113,12 @@ module _ (records : List Decoded) (c P : ℕ) (s : Machines) (ws : List ℕ) (po
         let o = is-over (upto records c labels m) c labels m s ws h l in
         let o′ : upto records c (2 ^ n) (length rs) ≡ over (s .over) = rw (lm, ← lab) o in
         rw (e, lt-ltb (s .over) 128 l) (sym (decide-over n c pos top rs acc records dec P (s .over) o′));
-    back = λ i p k. absurd (omega arith);
-    low = omega arith;
-    high = omega arith;
-    counted = λ places states t f. absurd (let g : refused14 (v .over) ≡ shown places states t = rw (lt-ltb (v .over) 128 (omega arith)) at f in let z : _≡_ {A = ℕ} 0 1 = cc in omega arith);
+    ranks = record {
+      back = λ i p k. absurd (omega arith);
+      low = omega arith;
+      high = omega arith;
+      counted = λ places states t f. absurd (let g : refused14 (v .over) ≡ shown places states t = rw (lt-ltb (v .over) 128 (omega arith)) at f in let z : _≡_ {A = ℕ} 0 1 = cc in omega arith);
+    };
   }
 
   module _ (no : 128 ≤ s .over) (accept table : List ℕ) (kind k size : ℕ) (label first second : List ℕ) where
@@ -146,10 +148,12 @@ module _ (records : List Decoded) (c P : ℕ) (s : Machines) (ws : List ℕ) (po
     unfolding outcomeIf
     solve-decided m labels h et marks e = record {
       answer = λ n rs acc lm lab dec. subst (λ (z : ℕ). All n rs z labels) lm (subst (λ (z : ℕ). All n rs (length rs) z) (sym lab) (solve-at n rs acc dec)) h et marks e;
-      back = e .back;
-      low = e .low;
-      high = e .high;
-      counted = λ places states t f. e .counted t (sym (e .answer) ∙ reported (getD (s .counts) (m - 1) 0) (answerOf kind k label first second) places states t f);
+      ranks = record {
+        back = e .back;
+        low = e .low;
+        high = e .high;
+        counted = λ places states t f. e .counted t (sym (e .answer) ∙ reported (getD (s .counts) (m - 1) 0) (answerOf kind k label first second) places states t f);
+      };
     }
 
 -- a part that goes to the end

@@ -28,11 +28,15 @@ outcomeIf false v = report (v .states) (answerOf (v .found .kind) (v .found .n) 
 abbrev pub outcomeOf : Solution → Outcome 2
 outcomeOf v = outcomeIf (ltb (v .over) 128) v
 
--- v is decide's answer to every rule that the records are decoded from, with ranks that a writer can follow down and the tree's positions
-pub record Solved (records : List Decoded) (m c labels P : ℕ) (v : Solution) : Type 0 where
-  pub answer : (n : ℕ) (rs : List Record) → Accepted 2 n rs → length rs ≡ m → labels ≡ 2 ^ n
-      → ((r : ℕ) → r < length rs → getD records r noDecoded ≡ decodedOf n (getD rs r noRecord)) → outcomeOf v ≡ decideOf 2 n rs c P
+-- a writer can follow the solution's ranks down, and has the positions of the tree that is shown
+pub record Ranked (v : Solution) : Type 0 where
   pub back : Backs (v .found .n) (v .found .first) (v .found .second)
   pub low : 0 < v .found .n
   pub high : v .found .n ≤ 64
   pub counted : (places states : ℕ) (t : Tree 2) → outcomeOf v ≡ shown places states t → v .found .positions ≡ positions t
+
+-- v is decide's answer to every rule that the records are decoded from
+pub record Solved (records : List Decoded) (m c labels P : ℕ) (v : Solution) : Type 0 where
+  pub answer : (n : ℕ) (rs : List Record) → Accepted 2 n rs → length rs ≡ m → labels ≡ 2 ^ n
+      → ((r : ℕ) → r < length rs → getD records r noDecoded ≡ decodedOf n (getD rs r noRecord)) → outcomeOf v ≡ decideOf 2 n rs c P
+  pub ranks : Ranked v

@@ -1,1 +1,4 @@
 pub mod Decodes
+pub mod Rooms
+pub mod Deciding
+pub mod Verdicts

@@ -1,0 +1,90 @@
+-- From an accepted rule strip to decide's outcome, and from the outcome to the bytes in out. Assumes nothing.
+use Prim.Native.Nat.{ℕ, zero, suc, _+_, _-_, _*_, _^_, _≤_, _<_}
+use mathlib.Core.Path.{_≡_, refl, sym, ap, ap₂, _∙_, subst}
+use mathlib.Core.List.{List, _++_}
+use native.Mathlib.Omega.{arith}
+use lib.ListN.{length, getD, take, drop, replicate, length-drop}
+use lib.Seq.{length-take-le}
+use Rattle.logic.specs.Rule.{Record, noRecord}
+use Rattle.logic.specs.Tree.{Tree, positions}
+use Rattle.logic.specs.Claims.{Outcome, refused14, shown, none, larger}
+use Rattle.logic.specs.Decide.{decideOf}
+use Rattle.machine.specs.Rule.{Fits, Sound, noDecoded}
+use Rattle.machine.specs.declared.records.Decoded.{Decoded}
+use Rattle.refinement.specs.Decode.{decodedOf}
+use Rattle.refinement.proofs.Ready.{ready}
+use Rattle.solver.specs.Solve.{outcomeOf, Ranked, Solved}
+use Rattle.solver.proofs.Told.{treeIn, told-over, told-none, told-larger, told-shown}
+use Rattle.solver.specs.declared.Solution.{Solution}
+use Rattle.strip.specs.RuleStrip.{variablesOf, countOf, recordAt, recordsOf, ruleRefusal}
+use Rattle.strip.proofs.RuleLaws.{rule-accepted, records-at, widths-at}
+use Rattle.ws2s.specs.Decoding.{DecodesTo}
+use Rattle.ws2s.specs.Room.{roomFor, cleared}
+use Rattle.strip.specs.TreeStrip.{treeStrip, treeBytes}
+use Rattle.strip.proofs.TreeLaws.{treeStrip-length}
+use Rattle.ws2s.specs.Decide.{decidedOf, tell, outAfter, Spacious}
+use Rattle.ws2s.specs.declared.decide.Verdict.{Verdict}
+use Rattle.ws2s.specs.declared.decide.Verdict.the-variants.{Shown, None, Larger, TooManyStates}
+
+module _ (s : List ℕ) (n m c : ℕ) (ok : ruleRefusal s ≡ 0) (en : n ≡ variablesOf s) (em : m ≡ countOf s) (pos : 1 ≤ c) (top : c ≤ 64)
+    (xs : List Decoded) (dec : DecodesTo s m xs) (labels : ℕ) (el : labels ≡ 2 ^ n) where
+  -- the builder may be called on the strip's records
+  pub rule-ready : (len : ℕ) → roomFor n m c ≤ len → (r : ℕ) → r < m → Fits (getD xs r noDecoded) r c labels len × Sound (getD xs r noDecoded) r labels
+  rule-ready len room r h =
+      let f = rule-accepted s ok in
+      let w = widths-at s (16 + 18 * r) in
+      let e : getD (recordsOf s) r noRecord ≡ recordAt s (16 + 18 * r) = records-at s r (omega arith) in
+      let l = f .records-count in
+      let g = ready (variablesOf s) (f .some-variable) (f .few-variables) (recordsOf s) (f .records-accepted) r m c len (omega arith) h (let k = f .few-records in omega arith) pos top
+      (subst (λ (k : ℕ). roomFor k m c ≤ len) en room)
+      (subst (λ (x : Record). x .first < 128) (sym e) (w .1)) (subst (λ (x : Record). x .second < 128) (sym e) (w .2)) in
+      rw (dec r h, el, en) g
+
+  -- and what it answers is decide's outcome
+  pub rule-solved : (P : ℕ) (v : Solution) → Solved xs m c labels P v → outcomeOf v ≡ decidedOf s c P
+  rule-solved P v g =
+      let f = rule-accepted s ok in
+      let l = f .records-count in
+      g .answer (variablesOf s) (recordsOf s) (f .records-accepted) (omega arith) (el ∙ ap (λ (k : ℕ). 2 ^ k) en) (λ r h. dec r (omega arith))
+
+-- the workspace: the build changes nothing past the shares, and they are cleared
+pub workspace-cleared : (need need′ : ℕ) (ws built ended : List ℕ) → need′ ≡ need → drop need built ≡ drop need ws → ended ≡ replicate need′ 0 ++ drop need′ built → ended ≡ cleared need ws
+workspace-cleared need need′ ws built ended e k f = f ∙ rw (e, k)
+
+-- what a solution tells, and what stands in out then
+module _ (n : ℕ) (v : Solution) (out : List ℕ) where
+  abbrev Tells : Verdict → List ℕ → Type 0
+  Tells x end = (x ≡ tell n (outcomeOf v)) × (end ≡ outAfter n (outcomeOf v) out)
+
+  pub tells-over : v .over < 128 → Tells (TooManyStates (v .over)) out
+  unfolding tell outAfter
+  tells-over h = rw (told-over v h) (refl, refl)
+
+  module _ (h : 128 ≤ v .over) where
+    pub tells-none : v .found .kind ≡ 0 → Tells (None (v .states)) out
+    unfolding tell outAfter
+    tells-none e = rw (told-none v h e) (refl, refl)
+
+    pub tells-larger : v .found .kind ≡ 1 → Tells (Larger (v .states)) out
+    unfolding tell outAfter
+    tells-larger e = rw (told-larger v h e) (refl, refl)
+
+    module _ (a : v .found .kind ≡ 0 → ⊥) (b : v .found .kind ≡ 1 → ⊥) (r : Ranked v) (w : Spacious n (outcomeOf v) (length out)) where
+      same-size : v .found .positions ≡ positions (treeIn v)
+      same-size = r .counted (positions (treeIn v)) (v .states) (treeIn v) (told-shown v h a b)
+
+      -- the front of out holds the strip
+      pub shown-room : (v .found .positions ≡ positions (treeIn v)) × (positions (treeIn v) ≤ 255) × (treeBytes n (positions (treeIn v)) ≤ length out)
+      shown-room = let k = w (positions (treeIn v)) (v .states) (treeIn v) (told-shown v h a b) in (same-size, k .0, k .1)
+
+      pub shown-front : (len : ℕ) → len ≡ treeBytes n (v .found .positions) → length (take len out) ≡ treeBytes n (positions (treeIn v))
+      shown-front len e =
+          let k = shown-room in let z : len ≡ treeBytes n (positions (treeIn v)) = e ∙ ap (treeBytes n) same-size in
+          length-take-le len out (let y = k .2 in omega arith) ∙ z
+
+      pub tells-shown : (len : ℕ) → len ≡ treeBytes n (v .found .positions) → (front : List ℕ) → front ≡ treeStrip n (treeIn v)
+          → Tells (Shown (v .found .positions) (v .states) len) (front ++ drop len out)
+      unfolding tell outAfter
+      tells-shown len e front f =
+          let z : len ≡ length (treeStrip n (treeIn v)) = e ∙ ap (treeBytes n) same-size ∙ sym (treeStrip-length n (treeIn v)) in
+          rw (told-shown v h a b, f, z, same-size) (refl, refl)

@@ -1,0 +1,80 @@
+-- `ws2s::decide::conclude` meets its contract. Assumes nothing.
+use mathlib.Core.Path.{_≡_, refl, sym, ap, _∙_}
+use native.Mathlib.Omega.{arith}
+use lib.ListN.{length}
+use lib.Seq.{length-take-le}
+use Rattle.ws2s.proofs.Deciding.{tells-over, tells-none, tells-larger, shown-room, shown-front, tells-shown}
+use borrow.Author.Needs.{needs}
+use Rattle.ws2s.proofs.decide.conclude.Statement.{statement}
+use Rattle.ws2s.proofs.decide.conclude.Tie as tie
+use Rattle.ws2s.proofs.decide.conclude.Reads as reads
+use Rattle.ws2s.proofs.decide.conclude.Lts as lts
+use Rattle.search.proofs.write.write_strip.Reads as write-strip-reads
+use Rattle.ws2s.proofs.room.strip_bytes.Reads as strip-bytes-reads
+
+returns : tie.Need-returns
+returns c = tells-over _ _ _ (c .if1 .taken)
+
+returns-2 : tie.Need-returns-2
+returns-2 c = tells-none _ (c .before .before .before .before .args .v) _ (search needs) (c .if2 .taken)
+
+returns-3 : tie.Need-returns-3
+returns-3 c = tells-larger _ (c .before .before .before .before .before .args .v) _ (search needs) (c .if3 .taken)
+
+strip-bytes-requires : tie.Need-strip-bytes-requires
+strip-bytes-requires c κs =
+    let st = c .before .before .before .before .before .before .before .before in
+    let k = shown-room (st .args .n) (st .args .v) (st .args .out .now) (search needs) (search needs) (search needs) (st .pre .1) (st .pre .2) in
+    (st .pre .0, omega (arith, k .0, k .1))
+
+slice-relend-prefix-write-strip : tie.Need-slice-relend-prefix-write-strip
+slice-relend-prefix-write-strip c =
+    let st = c .before .before .before .before .before .before .before .before .before in
+    let k = shown-room (st .args .n) (st .args .v) (st .args .out .now) (search needs) (search needs) (search needs) (st .pre .1) (st .pre .2) in
+    rw (c .strip-bytes .ensures, k .0) (k .2)
+
+slice-aggregate-write-strip : tie.Need-slice-aggregate-write-strip
+slice-aggregate-write-strip c =
+    let st = c .before .before .before .before .before .before .before .before .before .before in
+    let k = shown-room (st .args .n) (st .args .v) (st .args .out .now) (search needs) (search needs) (search needs) (st .pre .1) (st .pre .2) in
+    sym (length-take-le (c .before .strip-bytes .result) (st .args .out .now) (rw (c .before .strip-bytes .ensures, k .0) (k .2)))
+
+sub-write-strip : tie.Need-sub-write-strip
+sub-write-strip c = search needs
+
+write-strip-requires : tie.Need-write-strip-requires
+write-strip-requires c κs =
+    let st = c .before .before .before .before .before .before .before .before .before .before .before .before .before in
+    let k = shown-room (st .args .n) (st .args .v) (st .args .out .now) (search needs) (search needs) (search needs) (st .pre .1) (st .pre .2) in (
+      (st .pre .0, omega (arith, st .pre .1 .low), st .pre .1 .high),
+      (
+        st .pre .1 .back,
+        (
+          k .1,
+          shown-front (st .args .n) (st .args .v) (st .args .out .now) (search needs) (search needs) (search needs) (st .pre .1) (st .pre .2) (c .before .before .before .before .strip-bytes .result) (c .before .before .before .before .strip-bytes .ensures),
+        ),
+      ),
+    )
+
+same-length : tie.Need-same-length
+same-length c = search needs
+
+returns-4 : tie.Need-returns-4
+returns-4 c =
+    let st = c .before .before .before .before .before .before .before .before .before .before .before .before .before .before .before .before in
+    tells-shown (st .args .n) (st .args .v) (st .args .out .now) (search needs) (search needs) (search needs) (st .pre .1) (st .pre .2) (c .before .before .before .before .before .before .before .strip-bytes .result) (c .before .before .before .before .before .before .before .strip-bytes .ensures) _ (c .before .before .write-strip .ensures)
+
+pub conclude-spec : {M : Type 1} → statement M
+conclude-spec =
+    tie.close
+    (tie.spec
+    returns
+    returns-2
+    returns-3
+    strip-bytes-requires
+    slice-relend-prefix-write-strip
+    slice-aggregate-write-strip
+    sub-write-strip
+    write-strip-requires
+    same-length
+    returns-4)

@@ -1,0 +1,57 @@
+-- `ws2s::decide::decide` meets its contract. Assumes nothing.
+use mathlib.Core.Path.{_≡_, refl, sym, ap, _∙_}
+use Rattle.strip.proofs.RuleLaws.{checked-accepted, checked-refused}
+use Rattle.ws2s.proofs.Verdicts.{ends-refused, claim}
+use borrow.Author.Needs.{needs}
+use Rattle.ws2s.proofs.decide.decide.Statement.{statement}
+use Rattle.ws2s.proofs.decide.decide.Tie as tie
+use Rattle.ws2s.proofs.decide.decide.Reads as reads
+use Rattle.ws2s.proofs.decide.decide.Lts as lts
+use Rattle.strip.proofs.rule.check_rule.Reads as check-rule-reads
+use Rattle.ws2s.proofs.decide.decide_accepted.Reads as decide-accepted-reads
+
+check-rule-requires : tie.Need-check-rule-requires
+check-rule-requires c κs = search needs
+
+enum-known-k : tie.Need-enum-known-k
+enum-known-k c = search needs
+
+enum-known-variables : tie.Need-enum-known-variables
+enum-known-variables c = search needs
+
+decide-accepted-requires : tie.Need-decide-accepted-requires
+decide-accepted-requires c κs =
+    let a = c .before .before .before .before .before .before .before .before .before .args in
+    checked-accepted (a .rule .now) _ _ (sym (c .before .before .before .before .before .check-rule .ensures) ∙ c .before .before .before .variables .given .1)
+
+returns : tie.Need-returns
+returns c =
+    let a = c .before .before .before .before .before .before .before .args in
+    let w = checked-refused (a .rule .now) _ (sym (c .before .before .before .check-rule .ensures) ∙ c .before .k .given .1) in
+    let e = ends-refused (a .rule .now) (a .c) (a .p) (a .ws .now) (a .out .now) _ (w .0) (w .1) in
+    (e .0, (e .1, (e .2, claim (a .rule .now) (a .c) (a .p) (a .ws .now) (a .out .now) _ (e .0) _ (e .2))))
+
+same-length : tie.Need-same-length
+same-length c = search needs
+
+same-length-2 : tie.Need-same-length-2
+same-length-2 c = search needs
+
+returns-2 : tie.Need-returns-2
+returns-2 c =
+    let a = c .before .before .before .before .before .before .before .before .before .before .before .before .before .before .args in
+    let e = c .before .before .before .before .decide-accepted .ensures in
+    (e .0, (e .1 .0, (e .1 .1, claim (a .rule .now) (a .c) (a .p) (a .ws .now) (a .out .now) _ (e .0) _ (e .1 .1))))
+
+pub decide-spec : {M : Type 1} → statement M
+decide-spec =
+    tie.close
+    (tie.spec
+    check-rule-requires
+    enum-known-k
+    enum-known-variables
+    decide-accepted-requires
+    returns
+    same-length
+    same-length-2
+    returns-2)
