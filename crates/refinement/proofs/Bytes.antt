@@ -1,21 +1,23 @@
 -- From the bytes that the builder leaves to decide's answer by the search over them.
 -- Assumes nothing.
-use Prim.Native.Nat.{ℕ, zero, suc, _+_, _-_, _*_, _^_, _≤_, _<_}
+use Prim.Native.Nat.{ℕ, zero, suc, _+_, _-_, _*_, _/_, _^_, _≤_, _<_}
 use mathlib.Core.Path.{_≡_, refl, sym, ap, subst, _∙_}
-use mathlib.Core.Bool.{Bool, true, false}
+use mathlib.Core.Bool.{Bool, true, false, not}
 use mathlib.Core.List.{List, [], _∷_}
 use native.Mathlib.Omega.{arith}
+use lib.Dec.{eqb}
 use lib.ListN.{length, getD, drop, length-drop}
 use lib.Seq.{getD-drop}
-use Rattle.logic.specs.Meaning.{Branch}
+use Rattle.logic.specs.Meaning.{Branch, Assignment}
+use Rattle.logic.specs.Tree.{Tree, TreeOf}
 use Rattle.logic.specs.Rule.{noRecord, Record, formulaAt, lastOf, Accepted}
-use Rattle.logic.specs.Machine.{Machine}
+use Rattle.logic.specs.Machine.{Machine, run}
 use Rattle.logic.specs.Search.{search}
 use Rattle.logic.specs.Alike.{Bounded, Full, Agrees, MachineOf}
-use Rattle.logic.specs.Two.{one, two}
+use Rattle.logic.specs.Two.{one, two, binary}
 use Rattle.logic.specs.Claims.{refused14, Roomy}
-use Rattle.logic.specs.Decide.{report, decideOf}
-use Rattle.logic.proofs.Builders.{of-agrees, full-agrees, decide-any}
+use Rattle.logic.specs.Decide.{report, decideOf, say, judgeOf}
+use Rattle.logic.proofs.Builders.{of-agrees, full-agrees, decide-any, judge-any}
 use Rattle.machine.specs.Word.{mem}
 use Rattle.machine.specs.Table.{addr}
 use Rattle.machine.specs.Succ.{entry}
@@ -42,8 +44,7 @@ module _ (n c : ℕ) (pos : 0 < c) (top : c ≤ 64) (rs : List Record) (acc : Ac
   abbrev count : ℕ
   count = getD (s .counts) last 0
 
-  module _ (ms : List Mach) (e : upto xs c (2 ^ n) (length rs) ≡ built ms) (made : Made (built ms) c (2 ^ n) (length rs) s ws)
-      (accept : List ℕ) (marks : (q : ℕ) → q < count → acceptsOf accept q ≡ mem q (getD (s .accepts) last 0)) where
+  module _ (ms : List Mach) (e : upto xs c (2 ^ n) (length rs) ≡ built ms) (made : Made (built ms) c (2 ^ n) (length rs) s ws) where
     m : Mach
     m = getD ms last noMach
 
@@ -64,34 +65,54 @@ module _ (n c : ℕ) (pos : 0 < c) (top : c ≤ 64) (rs : List Record) (acc : Ac
         let h = at-last .holds l i j hl hi hj in
         (sym (h .0) ∙ sym (getD-drop (last * share) ws ((l * c + i) * c + j) 0), h .1)
 
-    agrees : Agrees n (length (m .codes)) (machOf m) (machineIn table c accept)
-    agrees = record {
+    -- the machine in the share, with the states that the word holds for accepting ones
+    abbrev pub wordMachine : Machine 2 ℕ
+    wordMachine = binary (λ l a b. getD table ((l * c + a) * c + b) 0) (λ q. mem q (getD (s .accepts) last 0))
+
+    word-agrees : Agrees n (length (m .codes)) (machOf m) wordMachine
+    word-agrees = record {
       starts = refl;
       steps = λ l h z u. (cell-is l (z one) (z two) h (u one) (u two)) .0;
-      accepts = λ q h. ap (mem q) (sym (at-last .accept)) ∙ sym (marks q (let f = at-last .count in omega arith));
+      accepts = λ q h. ap (mem q) (sym (at-last .accept));
     }
 
-    -- the search may be called
-    pub whole-made : (P : ℕ) → P ≤ 255 → 2 ^ n * c * c ≤ length table → Whole (2 ^ n) table c count P
-    whole-made P h l =
-        let e : count ≡ length (m .codes) = at-last .count in
-        record {
-          few = top;
-          whole = l;
-          steps = λ l i j hl hi hj. let w = cell-is l i j hl (omega arith) (omega arith) in let a = w .0 in let b = w .1 in omega arith;
-          some-state = let a = at-last .some-state in omega arith;
-          within = let a = at-last .few in omega arith;
-          small = h;
-        }
-
-    -- and what it finds is decide's answer
-    pub decide-bytes : (P : ℕ) → report count (search (2 ^ n) (tableIn table c accept count) P) ≡ decideOf 2 n rs c P
+    -- judging by it is judge's answer
+    pub judge-bytes : (t : Tree 2) (A : Assignment 2) → TreeOf n A t → say (mem (run wordMachine t) (getD (s .accepts) last 0)) ≡ judgeOf n rs c t
     unfolding Linked
-    decide-bytes P =
-        let k : ℕ = length (m .codes) in
-        let f : count ≡ k = at-last .count in
-        let B : Bounded n k (machOf m) = good-last .full .0 in
-        let M : MachineOf n (formulaAt rs last) (machineIn table c accept) = of-agrees n k (machOf m) (machineIn table c accept) B agrees (formulaAt rs last) (good-last .machine) in
-        let F : Full n k (machineIn table c accept) = full-agrees n k (machOf m) (machineIn table c accept) B agrees (good-last .full .1) in
-        subst (λ (z : ℕ). report z (search (2 ^ n) (tableIn table c accept z) P) ≡ decideOf 2 n rs c P) (sym f)
-        (decide-any 2 n rs acc c P (few-states n c pos top rs acc xs decoded (length rs) ms (omega arith) (all-linked .1)) (machineIn table c accept) M k F)
+    judge-bytes t A o =
+        judge-any 2 n rs acc c (few-states n c pos top rs acc xs decoded (length rs) ms (omega arith) (all-linked .1)) wordMachine
+        (of-agrees n (length (m .codes)) (machOf m) wordMachine (good-last .full .0) word-agrees (formulaAt rs last) (good-last .machine)) t A o
+
+    -- the same with a byte for each state that accepts, as the search is given it
+    module _ (accept : List ℕ) (marks : (q : ℕ) → q < count → acceptsOf accept q ≡ mem q (getD (s .accepts) last 0)) where
+      agrees : Agrees n (length (m .codes)) (machOf m) (machineIn table c accept)
+      agrees = record {
+        starts = refl;
+        steps = λ l h z u. (cell-is l (z one) (z two) h (u one) (u two)) .0;
+        accepts = λ q h. ap (mem q) (sym (at-last .accept)) ∙ sym (marks q (let f = at-last .count in omega arith));
+      }
+
+      -- the search may be called
+      pub whole-made : (P : ℕ) → P ≤ 255 → 2 ^ n * c * c ≤ length table → Whole (2 ^ n) table c count P
+      whole-made P h l =
+          let e : count ≡ length (m .codes) = at-last .count in
+          record {
+            few = top;
+            whole = l;
+            steps = λ l i j hl hi hj. let w = cell-is l i j hl (omega arith) (omega arith) in let a = w .0 in let b = w .1 in omega arith;
+            some-state = let a = at-last .some-state in omega arith;
+            within = let a = at-last .few in omega arith;
+            small = h;
+          }
+
+      -- and what it finds is decide's answer
+      pub decide-bytes : (P : ℕ) → report count (search (2 ^ n) (tableIn table c accept count) P) ≡ decideOf 2 n rs c P
+      unfolding Linked
+      decide-bytes P =
+          let k : ℕ = length (m .codes) in
+          let f : count ≡ k = at-last .count in
+          let B : Bounded n k (machOf m) = good-last .full .0 in
+          let M : MachineOf n (formulaAt rs last) (machineIn table c accept) = of-agrees n k (machOf m) (machineIn table c accept) B agrees (formulaAt rs last) (good-last .machine) in
+          let F : Full n k (machineIn table c accept) = full-agrees n k (machOf m) (machineIn table c accept) B agrees (good-last .full .1) in
+          subst (λ (z : ℕ). report z (search (2 ^ n) (tableIn table c accept z) P) ≡ decideOf 2 n rs c P) (sym f)
+          (decide-any 2 n rs acc c P (few-states n c pos top rs acc xs decoded (length rs) ms (omega arith) (all-linked .1)) (machineIn table c accept) M k F)

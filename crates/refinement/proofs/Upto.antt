@@ -20,15 +20,15 @@ use Rattle.logic.specs.Reach.{below, Reached, started, stepped}
 use Rattle.logic.specs.Search.{search}
 use Rattle.logic.specs.Alike.{Bounded, Full, Alike, MachineOf}
 use Rattle.logic.specs.Two.{one, two, pairOf}
-use Rattle.logic.specs.Claims.{Outcome as Result, refused14, statesAt, FirstOver, Roomy}
-use Rattle.logic.specs.Decide.{report, decideOf}
+use Rattle.logic.specs.Claims.{Outcome as Result, refused14, unbuilt, statesAt, FirstOver, Roomy}
+use Rattle.logic.specs.Decide.{report, decideOf, judgeOf}
 use Rattle.logic.proofs.Branches.{branch-same}
 use Rattle.logic.proofs.Connectives.{and-iff}
 use Rattle.logic.proofs.Reach.{elem-below}
 use Rattle.logic.proofs.Satisfiable.{tree-reached}
 use Rattle.logic.proofs.Tables.{Valid}
 use Rattle.logic.proofs.Rules.{record-valid, record-formula, getD-snoc}
-use Rattle.logic.proofs.Answers.{decide-answers}
+use Rattle.logic.proofs.Answers.{decide-answers, judge-judges}
 use Rattle.logic.proofs.Builders.{of-alike, states-any, over-index, decide-any}
 use Rattle.machine.specs.Explore.{explore, place}
 use Rattle.machine.proofs.Found.{Reach, at-start, by-step, Codes, Ok, Closed, explore-ok, explore-closed, too-many}
@@ -254,6 +254,10 @@ module _ (n c : ℕ) (pos : 0 < c) (top : c ≤ 64) where
     pub decide-over : (P r : ℕ) → upto xs c labels (length rs) ≡ over r → decideOf 2 n rs c P ≡ refused14 r
     unfolding Linked
     decide-over P r e = ((decide-answers 2 n rs c P acc) .refused-is r) .1 (subst (Linked (length rs)) e (linked (length rs) (omega arith)))
+
+    pub judge-over : (t : Tree 2) (r : ℕ) → upto xs c labels (length rs) ≡ over r → judgeOf n rs c t ≡ unbuilt r
+    unfolding Linked
+    judge-over t r e = ((judge-judges 2 n rs c 0 acc t) .unbuilt-is r) .1 (subst (Linked (length rs)) e (linked (length rs) (omega arith)))
 
     pub decide-built : (P : ℕ) (ms : List Mach) → upto xs c labels (length rs) ≡ built ms
         → report (length (getD ms (lastOf rs) noMach .codes)) (search (2 ^ n) (record { count = length (getD ms (lastOf rs) noMach .codes); machine = machOf (getD ms (lastOf rs) noMach) }) P) ≡ decideOf 2 n rs c P

@@ -52,7 +52,7 @@ fn wide(x: u8) -> usize
 }
 
 // The step: of c × c states to a label.
-fn cell(labels: usize, table: &[u8], c: usize, l: usize, a: usize, b: usize) -> usize
+pub fn cell(labels: usize, table: &[u8], c: usize, l: usize, a: usize, b: usize) -> usize
     requires { do ⌜ labels * c * c ≤ (← ⟦table.len()⟧) ⌝ }
     requires { ⌜ (l < labels) × (a < c) × (b < c) ⌝ }
     ensures { λ r. ⌜ r ≡ getD (now (table .entry)) ((l * c + a) * c + b) 0 ⌝ }

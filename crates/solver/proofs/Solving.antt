@@ -14,7 +14,17 @@ use mathlib.Core.Bool.{Bool, true, false, not}
 use Rattle.logic.specs.Rule.{noRecord, Record, Accepted, lastOf}
 use Rattle.logic.specs.Claims.{Outcome, refused14, shown}
 use Rattle.logic.specs.Tree.{Tree}
-use Rattle.logic.specs.Decide.{report, decideOf}
+use Rattle.logic.specs.Machine.{Machine, run}
+use Rattle.logic.specs.Two.{binary}
+use Rattle.logic.proofs.Answers.{trimmed-iff}
+use Rattle.strip.specs.TreeStrip.{readTree}
+use Rattle.strip.proofs.TreeLaws.{TreeFacts, tree-accepted}
+use Rattle.strip.proofs.TreeWalk.{facts-stand}
+use Rattle.solver.specs.declared.Ruling.{Ruling}
+use Rattle.solver.specs.declared.run.Ran.{Ran}
+use Rattle.solver.specs.Run.{walk}
+use Rattle.solver.proofs.Walks.{walk-tree}
+use Rattle.logic.specs.Decide.{report, decideOf, say, judgeOf}
 use Rattle.machine.specs.Word.{mem}
 use Rattle.machine.specs.Succ.{entry}
 use Rattle.machine.specs.Table.{addr}
@@ -24,10 +34,10 @@ use Rattle.machine.specs.declared.records.Decoded.{Decoded}
 use Rattle.search.specs.Arrays.{acceptsOf, tableIn, answerOf, Whole, Ended}
 use Rattle.logic.specs.Search.{Sought, tree, large, absent, search}
 use Rattle.refinement.specs.Decode.{decodedOf}
-use Rattle.refinement.proofs.Upto.{decide-over}
-use Rattle.refinement.proofs.Bytes.{decide-bytes}
+use Rattle.refinement.proofs.Upto.{decide-over, judge-over}
+use Rattle.refinement.proofs.Bytes.{decide-bytes, wordMachine, judge-bytes}
 use Rattle.solver.specs.declared.Solution.{Solution}
-use Rattle.solver.specs.Solve.{Marked, outcomeIf, outcomeOf, Ranked, Solved}
+use Rattle.solver.specs.Solve.{Marked, outcomeIf, outcomeOf, Ranked, Solved, judgementIf, Judged}
 
 -- the loop's invariant
 pub record Marking (a : List ℕ) (w q : ℕ) : Type 0 where
@@ -155,6 +165,39 @@ module _ (records : List Decoded) (c P : ℕ) (s : Machines) (ws : List ℕ) (po
         counted = λ places states t f. e .counted t (sym (e .answer) ∙ reported (getD (s .counts) (m - 1) 0) (answerOf kind k label first second) places states t f);
       };
     }
+
+-- judging a tree
+module _ (records : List Decoded) (c : ℕ) (s : Machines) (ws : List ℕ) (pos : 0 < c) (top : c ≤ 64) (n m : ℕ) (strip : List ℕ) where
+  pub judge-refused : Made (upto records c (2 ^ n) m) c (2 ^ n) m s ws → s .over < 128 → (v : Ruling) → v .over ≡ s .over → Judged records m c n strip v
+  unfolding judgementIf
+  judge-refused h l v e rs acc lm dec t met rest et en =
+      let o = is-over (upto records c (2 ^ n) m) c (2 ^ n) m s ws h l in
+      let o′ : upto records c (2 ^ n) (length rs) ≡ over (s .over) = rw lm o in
+      rw (e, lt-ltb (s .over) 128 l) (sym (judge-over n c pos top rs acc records dec t (s .over) o′))
+
+  module _ (no : 128 ≤ s .over) (table : List ℕ) (r : Ran) (yes : Bool) where
+    abbrev Rules : ℕ → List Record → Tree 2 → Type 0
+    Rules k rs t = Made (upto records c (2 ^ n) k) c (2 ^ n) k s ws → table ≡ drop ((k - 1) * (2 ^ n * c * c)) ws
+        → r ≡ walk strip n table c 256 8 → yes ≡ mem (r .state) (getD (s .accepts) (k - 1) 0) → say yes ≡ judgeOf n rs c t
+
+    judge-at : (rs : List Record) → Accepted 2 n rs → ((r : ℕ) → r < length rs → getD records r noDecoded ≡ decodedOf n (getD rs r noRecord))
+        → (t : Tree 2) → TreeFacts strip n t → Rules (length rs) rs t
+    judge-at rs acc dec t f h et w y =
+        let o = no-over (upto records c (2 ^ n) (length rs)) c (2 ^ n) (length rs) s ws h no in
+        let A = (trimmed-iff n t (f .proper)) .0 (f .trimmed) in
+        let M : Machine 2 ℕ = wordMachine n c pos top rs acc records dec s ws (o .0) (o .1) (o .2) in
+        let j = judge-bytes n c pos top rs acc records dec s ws (o .0) (o .1) (o .2) t (A .0) (A .1) in
+        let z = walk-tree strip n table c (M .accepting) t 256 8 (let k = f .few in omega arith) (f .proper) (facts-stand strip n t f) in
+        let q : r .state ≡ run (binary (λ l a b. getD table ((l * c + a) * c + b) 0) (M .accepting)) t = ap (λ (x : Ran). x .state) (w ∙ z) in
+        ap say (y ∙ ap (λ (k : ℕ). mem k (getD (s .accepts) (lastOf rs) 0)) (q ∙ ap (λ (l : List ℕ). run (binary (λ x a b. getD l ((x * c + a) * c + b) 0) (M .accepting)) t) et)) ∙ j
+
+    pub judge-ruled : Made (upto records c (2 ^ n) m) c (2 ^ n) m s ws → table ≡ drop ((m - 1) * (2 ^ n * c * c)) ws
+        → r ≡ walk strip n table c 256 8 → yes ≡ mem (r .state) (getD (s .accepts) (m - 1) 0)
+        → Judged records m c n strip (record { over = 128; yes = yes })
+    unfolding judgementIf
+    judge-ruled h et w y rs acc lm dec t met rest er en =
+        let f : TreeFacts strip n t = subst (λ (k : ℕ). TreeFacts strip k t) en (tree-accepted strip t met rest er .1) in
+        subst (λ (k : ℕ). Rules k rs t) lm (judge-at rs acc dec t f) h et w y
 
 -- a part that goes to the end
 pub part-all : (n : ℕ) (ws : List ℕ) → take (length ws - n) (drop n ws) ≡ drop n ws

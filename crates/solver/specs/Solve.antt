@@ -7,14 +7,17 @@ use lib.Dec.{ltb}
 use lib.ListN.{length, getD}
 use Rattle.logic.specs.Rule.{Record, noRecord, Accepted}
 use Rattle.logic.specs.Tree.{Tree, positions}
-use Rattle.logic.specs.Claims.{Outcome, refused14, shown}
-use Rattle.logic.specs.Decide.{report, decideOf}
+use Rattle.logic.specs.Claims.{Outcome, refused14, shown, Judgement, unbuilt}
+use Rattle.logic.specs.Decide.{report, decideOf, say, judgeOf}
 use Rattle.machine.specs.Word.{mem}
 use Rattle.machine.specs.Rule.{noDecoded}
 use Rattle.machine.specs.declared.records.Decoded.{Decoded}
 use Rattle.search.specs.Arrays.{acceptsOf, answerOf, Backs}
 use Rattle.refinement.specs.Decode.{decodedOf}
+use Rattle.strip.specs.Bits.{field}
+use Rattle.strip.specs.TreeStrip.{parsed, readTree}
 use Rattle.solver.specs.declared.Solution.{Solution}
+use Rattle.solver.specs.declared.Ruling.{Ruling}
 
 -- the bytes of a mark the members of w below m
 abbrev pub Marked : List ℕ → ℕ → ℕ → Type 0
@@ -40,3 +43,17 @@ pub record Solved (records : List Decoded) (m c labels P : ℕ) (v : Solution) :
   pub answer : (n : ℕ) (rs : List Record) → Accepted 2 n rs → length rs ≡ m → labels ≡ 2 ^ n
       → ((r : ℕ) → r < length rs → getD records r noDecoded ≡ decodedOf n (getD rs r noRecord)) → outcomeOf v ≡ decideOf 2 n rs c P
   pub ranks : Ranked v
+
+-- the judgement that a ruling stands for
+unfoldable pub judgementIf : Bool → Ruling → Judgement
+judgementIf true v = unbuilt (v .over)
+judgementIf false v = say (v .yes)
+
+abbrev pub judgementOf : Ruling → Judgement
+judgementOf v = judgementIf (ltb (v .over) 128) v
+
+-- v is judge's answer to every rule over n variables that the records are decoded from, and the tree in the strip
+abbrev pub Judged : List Decoded → ℕ → ℕ → ℕ → List ℕ → Ruling → Type 0
+Judged records m c n strip v = (rs : List Record) → Accepted 2 n rs → length rs ≡ m
+    → ((r : ℕ) → r < length rs → getD records r noDecoded ≡ decodedOf n (getD rs r noRecord))
+    → (t : Tree 2) (met : ℕ) (rest : List ℕ) → readTree strip ≡ parsed t met rest → field strip 4 4 ≡ n → judgementOf v ≡ judgeOf n rs c t

@@ -1,11 +1,13 @@
 // Build and search together, over decoded records.
+pub mod run; // a machine run over the tree in a strip
+
 ghost use mathlib.Core.Path.{_≡_};
 ghost use Prim.Native.Nat.{ℕ, _+_, _*_, _^_, _<_, _≤_};
 ghost use lib.ListN.{length, getD, drop};
 ghost use Rattle.machine.specs.Word.{mem};
 ghost use Rattle.machine.specs.Rule.{Fits, Sound, noDecoded};
 ghost use Rattle.search.specs.Arrays.{acceptsOf};
-ghost use Rattle.solver.specs.Solve.{Marked, Solved};
+ghost use Rattle.solver.specs.Solve.{Marked, Solved, Judged};
 use machine::records::Decoded;
 use search::Found;
 
@@ -74,5 +76,46 @@ pub fn solve(
         over: 128,
         states: count,
         found: f,
+    }
+}
+
+// over: the record with too many states, 128 where there is none; and whether the rule holds of the tree.
+pub struct Ruling {
+    pub over: usize,
+    pub yes: bool,
+}
+
+// Judge's answer to the rule that the records are decoded from and the tree in a strip.
+pub fn judge(
+    ws: &mut [u8],
+    records: [Decoded; 128],
+    m: usize,
+    c: usize,
+    labels: usize,
+    n: usize,
+    tree: &[u8],
+) -> Ruling
+    requires { ⌜ (0 < m) × (m ≤ 128) × (0 < c) × (c ≤ 64) × (labels ≤ 256) × (m * (labels * c * c) ≤ length (now ws)) ⌝ }
+    requires { ⌜ ((r : ℕ) → r < m → Fits (getD records r noDecoded) r c labels (length (now ws)) × Sound (getD records r noDecoded) r labels) ⌝ }
+    requires { ⌜ (1 ≤ n) × (n ≤ 8) × (labels ≡ 2 ^ n) × (1 ≤ length (now tree)) × (length (now tree) ≤ 4096) ⌝ }
+    ensures { λ r. ⌜ Judged records m c n (now (tree .entry)) r ⌝ }
+    ensures { λ r. ⌜ drop (m * (labels * c * c)) (now (ws .exit)) ≡ drop (m * (labels * c * c)) (now (ws .entry)) ⌝ }
+{
+    let t = machine::records::build_all(ws, records, m, c, labels);
+    let over = t.over;
+    let counts = t.counts;
+    let accepts = t.accepts;
+    let last = m - 1;
+    let count = counts[last];
+    let accept = accepts[last];
+    if over < 128 {
+        return Ruling { over, yes: false };
+    }
+    let base = last * (labels * c * c);
+    let r = run::run(tree, n, labels, &ws[base..], c, count, 256, 8);
+    let state = r.state;
+    Ruling {
+        over: 128,
+        yes: machine::words::has(accept, state),
     }
 }
