@@ -2,3 +2,4 @@ pub mod Decodes
 pub mod Rooms
 pub mod Deciding
 pub mod Verdicts
+pub mod Judging

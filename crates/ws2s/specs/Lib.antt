@@ -1,3 +1,5 @@
 pub mod Decoding
 pub mod Room
 pub mod Decide
+pub mod Judge
+pub mod Numbers

@@ -1,0 +1,53 @@
+-- `ws2s::judge::judge` meets its contract. Assumes nothing.
+use mathlib.Core.Path.{_≡_, refl, sym, ap, _∙_}
+use Rattle.strip.proofs.RuleLaws.{checked-accepted, checked-refused}
+use Rattle.ws2s.proofs.Judging.{ends-refused, claim}
+use borrow.Author.Needs.{needs}
+use Rattle.ws2s.proofs.judge.judge.Statement.{statement}
+use Rattle.ws2s.proofs.judge.judge.Tie as tie
+use Rattle.ws2s.proofs.judge.judge.Reads as reads
+use Rattle.ws2s.proofs.judge.judge.Lts as lts
+use Rattle.strip.proofs.rule.check_rule.Reads as check-rule-reads
+use Rattle.ws2s.proofs.judge.judge_accepted.Reads as judge-accepted-reads
+
+check-rule-requires : tie.Need-check-rule-requires
+check-rule-requires c κs = search needs
+
+enum-known-k : tie.Need-enum-known-k
+enum-known-k c = search needs
+
+enum-known-variables : tie.Need-enum-known-variables
+enum-known-variables c = search needs
+
+judge-accepted-requires : tie.Need-judge-accepted-requires
+judge-accepted-requires c κs =
+    let a = c .before .before .before .before .before .before .before .before .args in
+    checked-accepted (a .rule .now) _ _ (sym (c .before .before .before .before .check-rule .ensures) ∙ c .before .before .variables .given .1)
+
+returns : tie.Need-returns
+returns c =
+    let a = c .before .before .before .before .before .before .before .args in
+    let w = checked-refused (a .rule .now) _ (sym (c .before .before .before .check-rule .ensures) ∙ c .before .k .given .1) in
+    let e = ends-refused (a .rule .now) (a .c) (a .ws .now) (a .tree .now) _ (w .0) (w .1) in
+    (e .0, (e .1, claim (a .rule .now) (a .c) (a .ws .now) (a .tree .now) _ (e .0)))
+
+same-length : tie.Need-same-length
+same-length c = search needs
+
+returns-2 : tie.Need-returns-2
+returns-2 c =
+    let a = c .before .before .before .before .before .before .before .before .before .before .before .args in
+    let e = c .before .before .judge-accepted .ensures in
+    (e .0, (e .1, claim (a .rule .now) (a .c) (a .ws .now) (a .tree .now) _ (e .0)))
+
+pub judge-spec : {M : Type 1} → statement M
+judge-spec =
+    tie.close
+    (tie.spec
+    check-rule-requires
+    enum-known-k
+    enum-known-variables
+    judge-accepted-requires
+    returns
+    same-length
+    returns-2)

@@ -1,0 +1,22 @@
+-- `ws2s::judge::ruled` meets its contract. Assumes nothing.
+use borrow.Author.Needs.{needs}
+use Rattle.ws2s.proofs.Judging.{ruled-over, ruled-yes, ruled-no}
+use Rattle.ws2s.proofs.judge.ruled.Statement.{statement}
+use Rattle.ws2s.proofs.judge.ruled.Tie as tie
+use Rattle.ws2s.proofs.judge.ruled.Reads as reads
+use Rattle.ws2s.proofs.judge.ruled.Lts as lts
+
+returns : tie.Need-returns
+returns c =
+    ruled-over _ (c .if1 .taken)
+
+returns-2 : tie.Need-returns-2
+returns-2 c =
+    ruled-yes (c .before .before .args .v) (search needs) (c .if2 .taken)
+
+returns-3 : tie.Need-returns-3
+returns-3 c =
+    ruled-no (c .before .before .args .v) (search needs) (c .if2 .left)
+
+pub ruled-spec : {M : Type 1} → statement M
+ruled-spec = tie.close (tie.spec returns returns-2 returns-3)

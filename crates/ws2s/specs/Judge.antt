@@ -1,0 +1,66 @@
+-- Judge, on bytes: document 01, "Judge", and demand 2's last sentence. Assumes nothing.
+use Prim.Native.Nat.{ℕ, _≤_, _<_}
+use mathlib.Core.Path.{_≡_}
+use mathlib.Core.Bool.{Bool}
+use mathlib.Core.List.{List}
+use lib.Dec.{eqb}
+use lib.ListN.{length}
+use Rattle.logic.specs.Tree.{Tree, empty}
+use Rattle.logic.specs.Claims.{Judgement as Ruled, unbuilt, yes, no, Judges}
+use Rattle.logic.specs.Decide.{judgeOf}
+use Rattle.strip.specs.Bits.{field}
+use Rattle.strip.specs.RuleStrip.{orElse, variablesOf, countOf, recordsOf, ruleRefusal}
+use Rattle.strip.specs.TreeStrip.{Parsed, parsed, refused, readTree}
+use Rattle.ws2s.specs.Room.{roomFor, cleared, workRefusal}
+use Rattle.ws2s.specs.declared.judge.Judgement.{Judgement}
+use Rattle.ws2s.specs.declared.judge.Judgement.the-variants.{No, Yes, Refused, TooManyStates}
+
+-- "15 to 21 in that operation's order"; else 0
+abbrev pub refusalIn : Parsed → ℕ
+refusalIn (parsed t met rest) = 0
+refusalIn (refused r) = r
+
+unfoldable pub treeRefusal : List ℕ → ℕ
+treeRefusal tree = refusalIn (readTree tree)
+
+-- the tree of an accepted strip
+abbrev pub treeIn : Parsed → Tree 2
+treeIn (parsed t met rest) = t
+treeIn (refused r) = empty
+
+-- the strip holds a tree over n variables
+abbrev pub Readable : List ℕ → ℕ → Type 0
+Readable tree n = (t : Tree 2) × (met : ℕ) × (rest : List ℕ) × (readTree tree ≡ parsed t met rest) × (field tree 4 4 ≡ n)
+
+-- "In order: 1 to 10; 11 for c alone; 12; 15 to 21 in that operation's order; 22 the two n differ"; else 0
+unfoldable pub lateRefusal : List ℕ → ℕ → ℕ
+lateRefusal tree n = orElse (eqb (treeRefusal tree) 0) (orElse (eqb (field tree 4 4) n) 0 22) (treeRefusal tree)
+
+unfoldable pub refusalBefore : List ℕ → ℕ → ℕ → List ℕ → ℕ
+refusalBefore rule c room tree =
+  orElse (eqb (ruleRefusal rule) 0)
+  (orElse (eqb (workRefusal (variablesOf rule) (countOf rule) c room) 0) (lateRefusal tree (variablesOf rule)) (workRefusal (variablesOf rule) (countOf rule) c room))
+  (ruleRefusal rule)
+
+-- this paper's answers: "14. Otherwise yes or no"
+abbrev pub tell : Ruled → Judgement
+tell (unbuilt r) = TooManyStates r
+tell yes = Yes
+tell no = No
+
+unfoldable pub judgedOf : List ℕ → ℕ → List ℕ → Ruled
+judgedOf rule c tree = judgeOf (variablesOf rule) (recordsOf rule) c (treeIn (readTree tree))
+
+-- judge's result
+unfoldable pub judgementFor : List ℕ → ℕ → ℕ → List ℕ → Judgement
+judgementFor rule c room tree = orElse (eqb (refusalBefore rule c room tree) 0) (tell (judgedOf rule c tree)) (Refused (refusalBefore rule c room tree))
+
+-- the workspace at the end
+unfoldable pub workspaceFor : List ℕ → ℕ → List ℕ → List ℕ → List ℕ
+workspaceFor rule c ws tree = orElse (eqb (refusalBefore rule c (length ws) tree) 0) (cleared (roomFor (variablesOf rule) (countOf rule) c) ws) ws
+
+-- "For a tree I hand in, yes or no agrees with the same meaning": where no refusal before the build applies, the strip holds a tree, and v
+-- tells a judgement of it
+pub record JudgeClaim (rule : List ℕ) (c room : ℕ) (tree : List ℕ) (v : Judgement) : Type 0 where
+  pub judged : (e : refusalBefore rule c room tree ≡ 0) → (t : Tree 2) × (met : ℕ) × (rest : List ℕ) × (readTree tree ≡ parsed t met rest)
+    × ((j : Ruled) × Judges (variablesOf rule) (recordsOf rule) c t j × (v ≡ tell j))

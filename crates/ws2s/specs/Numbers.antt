@@ -1,0 +1,37 @@
+-- The numbers that C is given for each answer: document 01's number and values for each case, and 0 where a field does not apply.
+-- Assumes nothing.
+use Rattle.strip.specs.declared.rule.RuleCheck.{RuleCheck}
+use Rattle.strip.specs.declared.rule.RuleCheck.the-variants as rule
+use Rattle.strip.specs.declared.tree.TreeCheck.{TreeCheck}
+use Rattle.strip.specs.declared.tree.TreeCheck.the-variants as tree
+use Rattle.ws2s.specs.declared.judge.Judgement.{Judgement}
+use Rattle.ws2s.specs.declared.judge.Judgement.the-variants as judgement
+use Rattle.ws2s.specs.declared.decide.Verdict.{Verdict}
+use Rattle.ws2s.specs.declared.decide.Verdict.the-variants as verdict
+use Rattle.ws2s.specs.declared.exports.RuleNumbers.{RuleNumbers}
+use Rattle.ws2s.specs.declared.exports.TreeNumbers.{TreeNumbers}
+use Rattle.ws2s.specs.declared.exports.JudgementNumbers.{JudgementNumbers}
+use Rattle.ws2s.specs.declared.exports.VerdictNumbers.{VerdictNumbers}
+
+abbrev pub ruleNumbers : RuleCheck → RuleNumbers
+ruleNumbers (rule.Accepted n m) = record { refusal = 0; variables = n; records = m }
+ruleNumbers (rule.Refused k) = record { refusal = k; variables = 0; records = 0 }
+
+abbrev pub treeNumbers : TreeCheck → TreeNumbers
+treeNumbers (tree.Accepted n N) = record { refusal = 0; variables = n; positions = N }
+treeNumbers (tree.Refused k) = record { refusal = k; variables = 0; positions = 0 }
+
+-- kind: 0 no, 1 yes, 3 refused
+abbrev pub judgementNumbers : Judgement → JudgementNumbers
+judgementNumbers judgement.No = record { kind = 0; refusal = 0; recordnumber = 0 }
+judgementNumbers judgement.Yes = record { kind = 1; refusal = 0; recordnumber = 0 }
+judgementNumbers (judgement.Refused k) = record { kind = 3; refusal = k; recordnumber = 0 }
+judgementNumbers (judgement.TooManyStates r) = record { kind = 3; refusal = 14; recordnumber = r }
+
+-- kind: 0 shown, 1 none, 2 larger, 3 refused
+abbrev pub verdictNumbers : Verdict → VerdictNumbers
+verdictNumbers (verdict.Shown p q l) = record { kind = 0; refusal = 0; recordnumber = 0; positions = p; states = q; length = l }
+verdictNumbers (verdict.None q) = record { kind = 1; refusal = 0; recordnumber = 0; positions = 0; states = q; length = 0 }
+verdictNumbers (verdict.Larger q) = record { kind = 2; refusal = 0; recordnumber = 0; positions = 0; states = q; length = 0 }
+verdictNumbers (verdict.Refused k) = record { kind = 3; refusal = k; recordnumber = 0; positions = 0; states = 0; length = 0 }
+verdictNumbers (verdict.TooManyStates r) = record { kind = 3; refusal = 14; recordnumber = r; positions = 0; states = 0; length = 0 }

@@ -1,0 +1,162 @@
+// The C interface, include/ws2s.h: the entry points over numbers and byte slices. Fields that do not apply are 0.
+ghost use mathlib.Core.Path.{_≡_};
+ghost use lib.ListN.{length};
+ghost use Rattle.strip.specs.RuleAnswers.{checkedRule};
+ghost use Rattle.strip.specs.TreeAnswers.{checkedTree};
+ghost use Rattle.ws2s.specs.Decide.{verdictOf, workspaceOf, outOf, Claim};
+ghost use Rattle.ws2s.specs.Judge.{judgementFor, workspaceFor, JudgeClaim};
+ghost use Rattle.ws2s.specs.Numbers.{ruleNumbers, treeNumbers, judgementNumbers, verdictNumbers};
+use crate::decide::Verdict;
+use crate::judge::Judgement;
+use strip::rule::RuleCheck;
+use strip::tree::TreeCheck;
+
+#[repr(C)]
+pub struct RuleNumbers {
+    pub refusal: u64,
+    pub variables: u64,
+    pub records: u64,
+}
+
+#[repr(C)]
+pub struct TreeNumbers {
+    pub refusal: u64,
+    pub variables: u64,
+    pub positions: u64,
+}
+
+// kind: 0 no, 1 yes, 3 refused.
+#[repr(C)]
+pub struct JudgementNumbers {
+    pub kind: u64,
+    pub refusal: u64,
+    pub recordnumber: u64,
+}
+
+// kind: 0 shown, 1 none, 2 larger, 3 refused.
+#[repr(C)]
+pub struct VerdictNumbers {
+    pub kind: u64,
+    pub refusal: u64,
+    pub recordnumber: u64,
+    pub positions: u64,
+    pub states: u64,
+    pub length: u64,
+}
+
+fn rule_numbers(r: RuleCheck) -> RuleNumbers
+    ensures { λ x. ⌜ x ≡ ruleNumbers r ⌝ }
+{
+    match r {
+        RuleCheck::Accepted { variables, records } => RuleNumbers {
+            refusal: 0,
+            variables: variables as u64,
+            records: records as u64,
+        },
+        RuleCheck::Refused(k) => RuleNumbers {
+            refusal: k,
+            variables: 0,
+            records: 0,
+        },
+    }
+}
+
+fn tree_numbers(r: TreeCheck) -> TreeNumbers
+    ensures { λ x. ⌜ x ≡ treeNumbers r ⌝ }
+{
+    match r {
+        TreeCheck::Accepted {
+            variables,
+            positions,
+        } => TreeNumbers {
+            refusal: 0,
+            variables: variables as u64,
+            positions: positions as u64,
+        },
+        TreeCheck::Refused(k) => TreeNumbers {
+            refusal: k,
+            variables: 0,
+            positions: 0,
+        },
+    }
+}
+
+fn judgement_numbers(j: Judgement) -> JudgementNumbers
+    ensures { λ x. ⌜ x ≡ judgementNumbers j ⌝ }
+{
+    match j {
+        Judgement::No => JudgementNumbers {
+            kind: 0,
+            refusal: 0,
+            recordnumber: 0,
+        },
+        Judgement::Yes => JudgementNumbers {
+            kind: 1,
+            refusal: 0,
+            recordnumber: 0,
+        },
+        Judgement::Refused(k) => JudgementNumbers {
+            kind: 3,
+            refusal: k,
+            recordnumber: 0,
+        },
+        Judgement::TooManyStates(r) => JudgementNumbers {
+            kind: 3,
+            refusal: 14,
+            recordnumber: r,
+        },
+    }
+}
+
+// The numbers of a verdict that shows no tree.
+fn plain(kind: u64, refusal: u64, recordnumber: u64, states: u64) -> VerdictNumbers
+    ensures { λ x. ⌜ x ≡ record { kind = kind; refusal = refusal; recordnumber = recordnumber; positions = 0; states = states; length = 0 } ⌝ }
+{
+    VerdictNumbers {
+        kind,
+        refusal,
+        recordnumber,
+        positions: 0,
+        states,
+        length: 0,
+    }
+}
+
+fn verdict_numbers(v: Verdict) -> VerdictNumbers
+    ensures { λ x. ⌜ x ≡ verdictNumbers v ⌝ }
+{
+    match v {
+        Verdict::Shown {
+            positions,
+            states,
+            length,
+        } => VerdictNumbers {
+            kind: 0,
+            refusal: 0,
+            recordnumber: 0,
+            positions,
+            states,
+            length,
+        },
+        Verdict::None(states) => plain(1, 0, 0, states),
+        Verdict::Larger(states) => plain(2, 0, 0, states),
+        Verdict::Refused(k) => plain(3, k, 0, 0),
+        Verdict::TooManyStates(r) => plain(3, 14, r, 0),
+    }
+}
+
+// Whether any bytes are a rule strip.
+#[no_mangle]
+pub extern "C" fn ws2s_check_rule(rule: &[u8]) -> RuleNumbers
+    ensures { λ r. ⌜ r ≡ ruleNumbers (checkedRule (now (rule .entry))) ⌝ }
+{
+    rule_numbers(strip::rule::check_rule(rule))
+}
+
+// Whether any bytes are a tree strip.
+#[no_mangle]
+pub extern "C" fn ws2s_check_tree(tree: &[u8]) -> TreeNumbers
+    ensures { λ r. ⌜ r ≡ treeNumbers (checkedTree (now (tree .entry))) ⌝ }
+{
+    tree_numbers(strip::tree::check_tree(tree))
+}
