@@ -38,9 +38,9 @@ lateRefusal tree n = orElse (eqb (treeRefusal tree) 0) (orElse (eqb (field tree 
 
 unfoldable pub refusalBefore : List ℕ → ℕ → ℕ → List ℕ → ℕ
 refusalBefore rule c room tree =
-  orElse (eqb (ruleRefusal rule) 0)
-  (orElse (eqb (workRefusal (variablesOf rule) (countOf rule) c room) 0) (lateRefusal tree (variablesOf rule)) (workRefusal (variablesOf rule) (countOf rule) c room))
-  (ruleRefusal rule)
+    orElse (eqb (ruleRefusal rule) 0)
+    (orElse (eqb (workRefusal (variablesOf rule) (countOf rule) c room) 0) (lateRefusal tree (variablesOf rule)) (workRefusal (variablesOf rule) (countOf rule) c room))
+    (ruleRefusal rule)
 
 -- this paper's answers: "14. Otherwise yes or no"
 abbrev pub tell : Ruled → Judgement
@@ -63,4 +63,4 @@ workspaceFor rule c ws tree = orElse (eqb (refusalBefore rule c (length ws) tree
 -- tells a judgement of it
 pub record JudgeClaim (rule : List ℕ) (c room : ℕ) (tree : List ℕ) (v : Judgement) : Type 0 where
   pub judged : (e : refusalBefore rule c room tree ≡ 0) → (t : Tree 2) × (met : ℕ) × (rest : List ℕ) × (readTree tree ≡ parsed t met rest)
-    × ((j : Ruled) × Judges (variablesOf rule) (recordsOf rule) c t j × (v ≡ tell j))
+      × ((j : Ruled) × Judges (variablesOf rule) (recordsOf rule) c t j × (v ≡ tell j))

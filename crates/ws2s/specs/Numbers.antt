@@ -1,5 +1,8 @@
 -- The numbers that C is given for each answer: document 01's number and values for each case, and 0 where a field does not apply.
 -- Assumes nothing.
+use Prim.Native.Nat.{ℕ}
+use mathlib.Core.Path.{_≡_}
+use mathlib.Core.List.{List}
 use Rattle.strip.specs.declared.rule.RuleCheck.{RuleCheck}
 use Rattle.strip.specs.declared.rule.RuleCheck.the-variants as rule
 use Rattle.strip.specs.declared.tree.TreeCheck.{TreeCheck}
@@ -8,6 +11,8 @@ use Rattle.ws2s.specs.declared.judge.Judgement.{Judgement}
 use Rattle.ws2s.specs.declared.judge.Judgement.the-variants as judgement
 use Rattle.ws2s.specs.declared.decide.Verdict.{Verdict}
 use Rattle.ws2s.specs.declared.decide.Verdict.the-variants as verdict
+use Rattle.ws2s.specs.Judge.{JudgeClaim}
+use Rattle.ws2s.specs.Decide.{Claim}
 use Rattle.ws2s.specs.declared.exports.RuleNumbers.{RuleNumbers}
 use Rattle.ws2s.specs.declared.exports.TreeNumbers.{TreeNumbers}
 use Rattle.ws2s.specs.declared.exports.JudgementNumbers.{JudgementNumbers}
@@ -35,3 +40,11 @@ verdictNumbers (verdict.None q) = record { kind = 1; refusal = 0; recordnumber =
 verdictNumbers (verdict.Larger q) = record { kind = 2; refusal = 0; recordnumber = 0; positions = 0; states = q; length = 0 }
 verdictNumbers (verdict.Refused k) = record { kind = 3; refusal = k; recordnumber = 0; positions = 0; states = 0; length = 0 }
 verdictNumbers (verdict.TooManyStates r) = record { kind = 3; refusal = 14; recordnumber = r; positions = 0; states = 0; length = 0 }
+
+-- the numbers are those of a judgement that meets judge's claim
+abbrev pub JudgedInNumbers : List ℕ → ℕ → ℕ → List ℕ → JudgementNumbers → Type 0
+JudgedInNumbers rule c room tree r = (j : Judgement) × JudgeClaim rule c room tree j × (r ≡ judgementNumbers j)
+
+-- the numbers are those of a verdict that meets demands 2 and 3
+abbrev pub DecidedInNumbers : List ℕ → ℕ → ℕ → ℕ → ℕ → VerdictNumbers → List ℕ → Type 0
+DecidedInNumbers rule c P room outRoom r out = (v : Verdict) × Claim rule c P room outRoom v out × (r ≡ verdictNumbers v)

@@ -3,9 +3,9 @@ ghost use mathlib.Core.Path.{_≡_};
 ghost use lib.ListN.{length};
 ghost use Rattle.strip.specs.RuleAnswers.{checkedRule};
 ghost use Rattle.strip.specs.TreeAnswers.{checkedTree};
-ghost use Rattle.ws2s.specs.Decide.{verdictOf, workspaceOf, outOf, Claim};
-ghost use Rattle.ws2s.specs.Judge.{judgementFor, workspaceFor, JudgeClaim};
-ghost use Rattle.ws2s.specs.Numbers.{ruleNumbers, treeNumbers, judgementNumbers, verdictNumbers};
+ghost use Rattle.ws2s.specs.Decide.{verdictOf, workspaceOf, outOf};
+ghost use Rattle.ws2s.specs.Judge.{judgementFor, workspaceFor};
+ghost use Rattle.ws2s.specs.Numbers.{ruleNumbers, treeNumbers, judgementNumbers, verdictNumbers, JudgedInNumbers, DecidedInNumbers};
 use crate::decide::Verdict;
 use crate::judge::Judgement;
 use strip::rule::RuleCheck;
@@ -159,4 +159,36 @@ pub extern "C" fn ws2s_check_tree(tree: &[u8]) -> TreeNumbers
     ensures { λ r. ⌜ r ≡ treeNumbers (checkedTree (now (tree .entry))) ⌝ }
 {
     tree_numbers(strip::tree::check_tree(tree))
+}
+
+// Whether the sets of a tree satisfy a rule, with the state ceiling c.
+#[no_mangle]
+pub extern "C" fn ws2s_judge(
+    rule: &[u8],
+    c: u64,
+    workspace: &mut [u8],
+    tree: &[u8],
+) -> JudgementNumbers
+    ensures { λ r. ⌜ r ≡ judgementNumbers (judgementFor (now (rule .entry)) c (length (now (workspace .entry))) (now (tree .entry))) ⌝ }
+    ensures { λ _. ⌜ now (workspace .exit) ≡ workspaceFor (now (rule .entry)) c (now (workspace .entry)) (now (tree .entry)) ⌝ }
+    ensures { λ r. ⌜ JudgedInNumbers (now (rule .entry)) c (length (now (workspace .entry))) (now (tree .entry)) r ⌝ }
+{
+    judgement_numbers(crate::judge::judge(rule, c, workspace, tree))
+}
+
+// Decide a rule, with the state ceiling c and the place ceiling p.
+#[no_mangle]
+pub extern "C" fn ws2s_decide(
+    rule: &[u8],
+    c: u64,
+    p: u64,
+    workspace: &mut [u8],
+    out: &mut [u8],
+) -> VerdictNumbers
+    ensures { λ r. ⌜ r ≡ verdictNumbers (verdictOf (now (rule .entry)) c p (length (now (workspace .entry))) (length (now (out .entry)))) ⌝ }
+    ensures { λ _. ⌜ now (workspace .exit) ≡ workspaceOf (now (rule .entry)) c p (now (workspace .entry)) (length (now (out .entry))) ⌝ }
+    ensures { λ _. ⌜ now (out .exit) ≡ outOf (now (rule .entry)) c p (length (now (workspace .entry))) (now (out .entry)) ⌝ }
+    ensures { λ r. ⌜ DecidedInNumbers (now (rule .entry)) c p (length (now (workspace .entry))) (length (now (out .entry))) r (now (out .exit)) ⌝ }
+{
+    verdict_numbers(crate::decide::decide(rule, c, p, workspace, out))
 }

@@ -80,6 +80,13 @@ pub fn judge(rule: &[u8], c: u64, ws: &mut [u8], tree: &[u8]) -> Judgement
 {
     match strip::rule::check_rule(rule) {
         RuleCheck::Refused(k) => Judgement::Refused(k),
-        RuleCheck::Accepted { variables, records } => judge_accepted(rule, variables, records, c, ws, tree),
+        RuleCheck::Accepted { variables, records } => judge_accepted(
+            rule,
+            variables,
+            records,
+            c,
+            ws,
+            tree,
+        ),
     }
 }

@@ -88,10 +88,11 @@ run-requires c κs =
     let e = solve-share (a .args .m) share (a .pre .0 .0) in
     let l = a .pre .0 .5 in
     let q : (a .args .m - 1) * share + share ≤ length ws = omega arith in
-    let k = a .pre .1 .1 in
-    ((k .0, k .1, k .2, k .4, omega (arith, k .3)),
-    solve-whole (upto (a .args .records) (a .args .c) (a .args .labels) (a .args .m)) (a .args .c) (a .args .labels) (a .args .m) (b .result) ws (b .ensures .0) (search needs) (a .pre .0 .0) (a .pre .0 .3) 0 (omega arith) _
-    (part-all ((a .args .m - 1) * share) ws) (part-long ((a .args .m - 1) * share) share ws q))
+    let k = a .pre .1 .1 in (
+      (k .0, k .1, k .2, k .4, omega (arith, k .3)),
+      solve-whole (upto (a .args .records) (a .args .c) (a .args .labels) (a .args .m)) (a .args .c) (a .args .labels) (a .args .m) (b .result) ws (b .ensures .0) (search needs) (a .pre .0 .0) (a .pre .0 .3) 0 (omega arith) _
+          (part-all ((a .args .m - 1) * share) ws) (part-long ((a .args .m - 1) * share) share ws q),
+    )
 
 has-requires : tie.Need-has-requires
 has-requires c κs =
@@ -103,7 +104,7 @@ has-requires c κs =
     let l = a .pre .0 .5 in
     let q : (a .args .m - 1) * share + share ≤ length ws = omega arith in
     let w = solve-whole (upto (a .args .records) (a .args .c) (a .args .labels) (a .args .m)) (a .args .c) (a .args .labels) (a .args .m) (b .result) ws (b .ensures .0) (search needs) (a .pre .0 .0) (a .pre .0 .3) 0 (omega arith) _
-        (part-all ((a .args .m - 1) * share) ws) (part-long ((a .args .m - 1) * share) share ws q) in
+    (part-all ((a .args .m - 1) * share) ws) (part-long ((a .args .m - 1) * share) share ws q) in
     omega (arith, c .run .ensures .1 .0, w .within, w .few)
 
 same-length-2 : tie.Need-same-length-2
@@ -115,9 +116,11 @@ returns-2 c =
     let b = c .before .before .before .before .before .before .before .before .before .build-all in
     let ws = b .last .0 in
     let share = a .args .labels * a .args .c * a .args .c in
-    let k = a .pre .1 .1 in
-    (judge-ruled (a .args .records) (a .args .c) (b .result) ws (a .pre .0 .2) (a .pre .0 .3) (a .args .n) (a .args .m) (a .args .tree .now) (search needs) _ (c .before .run .result) _
-    (rw (k .2) at (b .ensures .0)) (rw (← k .2) (part-all ((a .args .m - 1) * share) ws)) (c .before .run .ensures .0) (c .has .ensures), b .ensures .1)
+    let k = a .pre .1 .1 in (
+      judge-ruled (a .args .records) (a .args .c) (b .result) ws (a .pre .0 .2) (a .pre .0 .3) (a .args .n) (a .args .m) (a .args .tree .now) (search needs) _ (c .before .run .result) _
+          (rw (k .2) at (b .ensures .0)) (rw (← k .2) (part-all ((a .args .m - 1) * share) ws)) (c .before .run .ensures .0) (c .has .ensures),
+      b .ensures .1,
+    )
 
 pub judge-spec : {M : Type 1} → statement M
 judge-spec =

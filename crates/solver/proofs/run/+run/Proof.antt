@@ -130,10 +130,11 @@ run-returns-4 t c =
     let g = c .before .before .before .before .label .given in
     let l = head-label (a .s .now) (a .n) 0 (a .at) (g .0 .0) (g .0 .1 .0) (sym (r .ensures) ∙ g .1) in
     let x = c .before .before .run in
-    let y = c .before .run2 in
-    (walk-node (a .s .now) (a .n) (a .table .now) (a .c) (a .d) (a .at) (g .0 .0) (g .0 .1 .0) _ (x .result) (y .result) (x .ensures .0) (y .ensures .0) (c .cell .ensures)
-    ∙ sym (walk-step (a .s .now) (a .n) (a .table .now) (a .c) (a .d) (a .at) (c .before .before .before .before .before .before .before .if1 .left) _ _ (r .ensures) (g .1)),
-    (rw (c .cell .ensures) (wh .steps (g .0 .0) (x .result .state) (y .result .state) (rw (p .2) l) (x .ensures .1 .0) (y .ensures .1 .0)), y .ensures .1 .1))
+    let y = c .before .run2 in (
+      walk-node (a .s .now) (a .n) (a .table .now) (a .c) (a .d) (a .at) (g .0 .0) (g .0 .1 .0) _ (x .result) (y .result) (x .ensures .0) (y .ensures .0) (c .cell .ensures)
+          ∙ sym (walk-step (a .s .now) (a .n) (a .table .now) (a .c) (a .d) (a .at) (c .before .before .before .before .before .before .before .if1 .left) _ _ (r .ensures) (g .1)),
+      (rw (c .cell .ensures) (wh .steps (g .0 .0) (x .result .state) (y .result .state) (rw (p .2) l) (x .ensures .1 .0) (y .ensures .1 .0)), y .ensures .1 .1),
+    )
 
 pub +run-spec : {M : Type 1} → statement M
 +run-spec = close μ-run λ t. run-lts.spec (R t)

@@ -1,3 +1,6 @@
+-- `ws2s::exports::ws2s_check_tree` meets its contract. Assumes nothing.
+use mathlib.Core.Path.{_∙_, ap}
+use Rattle.ws2s.specs.Numbers.{treeNumbers}
 use borrow.Author.Needs.{needs}
 use Rattle.ws2s.proofs.exports.ws2s_check_tree.Statement.{statement}
 use Rattle.ws2s.proofs.exports.ws2s_check_tree.Tie as tie
@@ -6,17 +9,14 @@ use Rattle.ws2s.proofs.exports.ws2s_check_tree.Lts as lts
 use Rattle.strip.proofs.tree.check_tree.Reads as check-tree-reads
 use Rattle.ws2s.proofs.exports.tree_numbers.Reads as tree-numbers-reads
 
--- src/exports.rt:161:18
 check-tree-requires : tie.Need-check-tree-requires
 check-tree-requires c κs = search needs
 
--- src/exports.rt:161:5
 tree-numbers-requires : tie.Need-tree-numbers-requires
 tree-numbers-requires c κs = search needs
 
--- src/exports.rt:157:1
 returns : tie.Need-returns
-returns c = ?
+returns c = c .tree-numbers .ensures ∙ ap treeNumbers (c .before .check-tree .ensures)
 
 pub ws2s-check-tree-spec : {M : Type 1} → statement M
 ws2s-check-tree-spec = tie.close (tie.spec check-tree-requires tree-numbers-requires returns)

@@ -33,10 +33,13 @@ judge-requires c κs =
     let h = st .pre in
     let f = rule-accepted (a .rule .now) (h .0 .0) in
     let l = c .labels .ensures in
-    let t = readable-size (a .tree .now) (a .n) (h .1 .1) in
-    ((omega (arith, f .some-record, h .0 .2), omega (arith, f .few-records, h .0 .2), h .1 .0 .0, h .1 .0 .1, l .1, rw (l .0) (h .1 .0 .2)),
-    (rule-ready (a .rule .now) (a .n) (a .m) (a .c) (h .0 .0) (h .0 .1) (h .0 .2) (h .1 .0 .0) (h .1 .0 .1) (c .before .before .decode .result) (c .before .before .decode .ensures) (c .labels .result) (l .0) _ (h .1 .0 .2),
-    (omega (arith, f .some-variable, h .0 .1), omega (arith, f .few-variables, h .0 .1), l .0, t .0, t .1)))
+    let t = readable-size (a .tree .now) (a .n) (h .1 .1) in (
+      (omega (arith, f .some-record, h .0 .2), omega (arith, f .few-records, h .0 .2), h .1 .0 .0, h .1 .0 .1, l .1, rw (l .0) (h .1 .0 .2)),
+      (
+        rule-ready (a .rule .now) (a .n) (a .m) (a .c) (h .0 .0) (h .0 .1) (h .0 .2) (h .1 .0 .0) (h .1 .0 .1) (c .before .before .decode .result) (c .before .before .decode .ensures) (c .labels .result) (l .0) _ (h .1 .0 .2),
+        (omega (arith, f .some-variable, h .0 .1), omega (arith, f .few-variables, h .0 .1), l .0, t .0, t .1),
+      ),
+    )
 
 needed-requires : tie.Need-needed-requires
 needed-requires c κs =
@@ -60,9 +63,10 @@ returns c =
     let f = rule-accepted (a .rule .now) (h .0 .0) in
     let l = c .before .before .before .before .before .before .before .before .labels .ensures in
     let v = c .before .before .before .before .before .before .before .judge in
-    let d = c .before .before .before .before .before .before .before .before .before .before .decode in
-    (rule-judged (a .rule .now) (a .n) (a .m) (a .c) (h .0 .0) (h .0 .1) (h .0 .2) (d .result) (d .ensures) (a .tree .now) (h .1 .1) (v .result) (v .ensures .0),
-    workspace-cleared _ _ (a .ws .now) (v .last .0) _ (c .before .before .before .needed .ensures .0) (rw (l .0) at (v .ensures .1)) (c .before .before .clear .ensures))
+    let d = c .before .before .before .before .before .before .before .before .before .before .decode in (
+      rule-judged (a .rule .now) (a .n) (a .m) (a .c) (h .0 .0) (h .0 .1) (h .0 .2) (d .result) (d .ensures) (a .tree .now) (h .1 .1) (v .result) (v .ensures .0),
+      workspace-cleared _ _ (a .ws .now) (v .last .0) _ (c .before .before .before .needed .ensures .0) (rw (l .0) at (v .ensures .1)) (c .before .before .clear .ensures),
+    )
 
 pub judge-rule-spec : {M : Type 1} → statement M
 judge-rule-spec =

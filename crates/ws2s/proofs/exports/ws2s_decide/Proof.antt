@@ -1,0 +1,33 @@
+-- `ws2s::exports::ws2s_decide` meets its contract. Assumes nothing.
+use mathlib.Core.Path.{_∙_, ap}
+use Rattle.ws2s.specs.Numbers.{verdictNumbers}
+use borrow.Author.Needs.{needs}
+use Rattle.ws2s.proofs.exports.ws2s_decide.Statement.{statement}
+use Rattle.ws2s.proofs.exports.ws2s_decide.Tie as tie
+use Rattle.ws2s.proofs.exports.ws2s_decide.Reads as reads
+use Rattle.ws2s.proofs.exports.ws2s_decide.Lts as lts
+use Rattle.ws2s.proofs.decide.decide.Reads as decide-reads
+use Rattle.ws2s.proofs.exports.verdict_numbers.Reads as verdict-numbers-reads
+
+decide-requires : tie.Need-decide-requires
+decide-requires c κs = search needs
+
+verdict-numbers-requires : tie.Need-verdict-numbers-requires
+verdict-numbers-requires c κs = search needs
+
+same-length : tie.Need-same-length
+same-length c = search needs
+
+same-length-2 : tie.Need-same-length-2
+same-length-2 c = search needs
+
+returns : tie.Need-returns
+returns c =
+    let d = c .before .before .before .before .before .decide in
+    let e = d .ensures in
+    let n = c .verdict-numbers .ensures in
+    (n ∙ ap verdictNumbers (e .0), (e .1 .0, (e .1 .1 .0, (d .result, e .1 .1 .1, n))))
+
+pub ws2s-decide-spec : {M : Type 1} → statement M
+ws2s-decide-spec =
+    tie.close (tie.spec decide-requires verdict-numbers-requires same-length same-length-2 returns)
