@@ -1,0 +1,587 @@
+#include "oracle.h"
+
+#include <stdbool.h>
+#include <string.h>
+
+enum { SUBSET, SING, FIRST, SECOND, ROOT, NOT, OR, AND, EXISTS, OPS };
+enum { MOST_STATES = 64, MOST_RECORDS = 128, MOST_POSITIONS = 255 };
+enum { SHOWN = 0, NONE = 1, LARGER = 2, REFUSED = 3 };
+
+#define BIT(state) (UINT64_C(1) << (state))
+
+/* Calls the loop body with "member" running through a set of states. */
+#define EACH(member, set) \
+    for (uint64_t left_ = (set), member; \
+         left_ && (member = (uint64_t)__builtin_ctzll(left_), true); left_ &= left_ - 1)
+
+/* ---- Rule strips ---- */
+
+struct record {
+    unsigned op, first, second;
+};
+
+struct rule {
+    unsigned variables, records;
+    struct record record[MOST_RECORDS];
+};
+
+static unsigned field(const uint8_t *strip, size_t at, unsigned bits)
+{
+    unsigned value = 0;
+    for (; bits; bits--, at++)
+        value = value << 1 | (strip[at / 8] >> (7 - at % 8) & 1u);
+    return value;
+}
+
+static bool names_variable_first(unsigned op)
+{
+    return op <= ROOT || op == EXISTS;
+}
+
+static bool names_variable_second(unsigned op)
+{
+    return op == SUBSET || op == FIRST || op == SECOND;
+}
+
+static unsigned refuse_record(const struct record *r, unsigned number, unsigned variables)
+{
+    bool unary = r->op == SING || r->op == ROOT || r->op == NOT;
+    if (r->op >= OPS)
+        return 7;
+    if ((names_variable_first(r->op) && r->first >= variables)
+        || (names_variable_second(r->op) && r->second >= variables))
+        return 8;
+    if ((!names_variable_first(r->op) && r->first >= number)
+        || (!names_variable_second(r->op) && !unary && r->second >= number))
+        return 9;
+    if (unary && r->second != 0)
+        return 10;
+    return 0;
+}
+
+/* Reads a rule strip and returns its refusal, 0 if it has none. */
+static unsigned read_rule(struct rule *rule, const uint8_t *strip, size_t length)
+{
+    if (length < 2)
+        return 1;
+    if (strip[0] >> 4 != 1)
+        return 2;
+    rule->variables = strip[0] & 15;
+    if (rule->variables < 1 || rule->variables > 8)
+        return 3;
+    rule->records = strip[1];
+    if (rule->records < 1 || rule->records > MOST_RECORDS)
+        return 4;
+    size_t bits = 16 + 18 * (size_t)rule->records;
+    if (length != (bits + 7) / 8)
+        return 5;
+    if (field(strip, bits, (unsigned)(length * 8 - bits)) != 0)
+        return 6;
+    for (unsigned i = 0; i < rule->records; i++) {
+        size_t at = 16 + 18 * (size_t)i;
+        struct record *r = &rule->record[i];
+        *r = (struct record){ field(strip, at, 4), field(strip, at + 4, 7),
+                              field(strip, at + 11, 7) };
+        unsigned refusal = refuse_record(r, i, rule->variables);
+        if (refusal)
+            return refusal;
+    }
+    return 0;
+}
+
+/* ---- Machines ---- */
+
+/* The table has one byte for each label and pair of states, c states to a row.
+ * Labels that agree on the bits of the mask share their entries. */
+struct machine {
+    uint8_t *table;
+    unsigned states, mask;
+    uint64_t accepting;
+};
+
+/* What one call builds: the records' machines side by side in the workspace. */
+struct build {
+    struct rule rule;
+    unsigned c, labels;
+    size_t share; /* bytes of one machine's table */
+    struct machine machine[MOST_RECORDS];
+};
+
+static const uint8_t *row(const struct build *b, const struct machine *m, unsigned label,
+                          uint64_t state)
+{
+    return m->table + ((size_t)label * b->c + state) * b->c;
+}
+
+/* The label with this variable's bit alone; variable 0 is most significant. */
+static unsigned label_bit(const struct build *b, unsigned variable)
+{
+    return 1u << (b->rule.variables - 1 - variable);
+}
+
+/* States found so far: an atom's own number, a pair of states or a set of
+ * states, whichever the record's machine runs. */
+struct found {
+    unsigned count, ceiling;
+    uint64_t value[MOST_STATES];
+    uint8_t slot[256]; /* one more than the state with a value, by its hash */
+};
+
+/* The state with this value, a new one if need be; -1 if there is no room. */
+static int number(struct found *f, uint64_t value)
+{
+    unsigned at = (unsigned)(value * UINT64_C(0x9E3779B97F4A7C15) >> 56);
+    for (; f->slot[at]; at = (at + 1) % 256)
+        if (f->value[f->slot[at] - 1] == value)
+            return f->slot[at] - 1;
+    if (f->count == f->ceiling)
+        return -1;
+    f->value[f->count] = value;
+    f->slot[at] = (uint8_t)++f->count;
+    return (int)f->count - 1;
+}
+
+static unsigned atom_step(unsigned op, bool x, bool y, unsigned first, unsigned second)
+{
+    unsigned sum = first + second + x;
+    switch (op) {
+    case SUBSET:
+        return first == 1 || second == 1 || (x && !y);
+    case SING:
+        return sum < 2 ? sum : 2;
+    case ROOT:
+        return first == 0 && second == 0 ? x : 2;
+    }
+    unsigned branch = op == FIRST ? first : second, other = op == FIRST ? second : first;
+    if (!x && !y && first == 0 && second == 0)
+        return 0;
+    if (!x && !y && ((first == 2 && second == 0) || (first == 0 && second == 2)))
+        return 2;
+    if (x && !y && first == 0 && second == 0)
+        return 1;
+    if (!x && y && branch == 1 && other == 0)
+        return 2;
+    return 3;
+}
+
+static uint64_t atom_accepting(unsigned op)
+{
+    return op == SUBSET ? BIT(0) : op == FIRST || op == SECOND ? BIT(2) : BIT(1);
+}
+
+/* The smallest set that contains 0 and is closed under nodes whose label is 0
+ * except, freely, for the bound variable. */
+static uint64_t closed_start(const struct build *b, const struct machine *part, unsigned bound)
+{
+    uint64_t set = BIT(0), before;
+    do {
+        before = set;
+        EACH(first, before) {
+            const uint8_t *without = row(b, part, 0, first), *with = row(b, part, bound, first);
+            EACH(second, before)
+                set |= BIT(without[second]) | BIT(with[second]);
+        }
+    } while (set != before);
+    return set;
+}
+
+/* For a state s, a label and all states j up to s: the values of a node with
+ * branches s, j and of one with branches j, s. */
+static void atom_rows(const struct build *b, const struct record *r, const struct found *f,
+                      unsigned s, unsigned label, uint64_t *with_first, uint64_t *with_second)
+{
+    bool x = label & label_bit(b, r->first);
+    bool y = names_variable_second(r->op) && (label & label_bit(b, r->second));
+    for (unsigned j = 0; j <= s; j++) {
+        unsigned mine = (unsigned)f->value[s], other = (unsigned)f->value[j];
+        with_first[j] = atom_step(r->op, x, y, mine, other);
+        with_second[j] = atom_step(r->op, x, y, other, mine);
+    }
+}
+
+static void pair_rows(const struct build *b, const struct record *r, const struct found *f,
+                      unsigned s, unsigned label, uint64_t *with_first, uint64_t *with_second)
+{
+    const struct machine *one = &b->machine[r->first], *two = &b->machine[r->second];
+    uint64_t p = f->value[s] / MOST_STATES, q = f->value[s] % MOST_STATES;
+    const uint8_t *row_p = row(b, one, label, p), *row_q = row(b, two, label, q);
+    const uint8_t *col_p = row(b, one, label, 0) + p, *col_q = row(b, two, label, 0) + q;
+    for (unsigned j = 0; j <= s; j++) {
+        uint64_t t = f->value[j] / MOST_STATES, u = f->value[j] % MOST_STATES;
+        with_first[j] = (uint64_t)row_p[t] * MOST_STATES + row_q[u];
+        with_second[j] = (uint64_t)col_p[t * b->c] * MOST_STATES + col_q[u * b->c];
+    }
+}
+
+static void set_rows(const struct build *b, const struct record *r, const struct found *f,
+                     unsigned s, unsigned label, uint64_t *with_first, uint64_t *with_second)
+{
+    const struct machine *part = &b->machine[r->second];
+    uint64_t one_first[MOST_STATES] = { 0 }, one_second[MOST_STATES] = { 0 };
+    for (unsigned step = 0; step < 2; step++) { /* the bound bit 0, then 1 */
+        unsigned at = step ? label | label_bit(b, r->first) : label;
+        EACH(member, f->value[s]) {
+            const uint8_t *across = row(b, part, at, member);
+            const uint8_t *down = row(b, part, at, 0) + member;
+            for (unsigned q = 0; q < part->states; q++) {
+                one_first[q] |= BIT(across[q]);
+                one_second[q] |= BIT(down[q * b->c]);
+            }
+        }
+    }
+    for (unsigned j = 0; j <= s; j++) {
+        uint64_t first = 0, second = 0;
+        EACH(q, f->value[j]) {
+            first |= one_first[q];
+            second |= one_second[q];
+        }
+        with_first[j] = first;
+        with_second[j] = second;
+    }
+}
+
+static bool is_atom(const struct record *r)
+{
+    return r->op <= ROOT;
+}
+
+static bool accepts(const struct build *b, const struct record *r, uint64_t value)
+{
+    if (is_atom(r))
+        return atom_accepting(r->op) >> value & 1;
+    if (r->op == EXISTS)
+        return (value & b->machine[r->second].accepting) != 0;
+    bool one = b->machine[r->first].accepting >> (value / MOST_STATES) & 1;
+    bool two = b->machine[r->second].accepting >> (value % MOST_STATES) & 1;
+    return r->op == OR ? one || two : one && two;
+}
+
+/* The variables, as label bits, that a record looks at. */
+static unsigned record_mask(const struct build *b, const struct record *r)
+{
+    if (is_atom(r))
+        return label_bit(b, r->first)
+             | (names_variable_second(r->op) ? label_bit(b, r->second) : 0);
+    if (r->op == EXISTS)
+        return b->machine[r->second].mask & ~label_bit(b, r->first);
+    return b->machine[r->first].mask | b->machine[r->second].mask;
+}
+
+static uint64_t start(const struct build *b, const struct record *r)
+{
+    if (r->op == EXISTS)
+        return closed_start(b, &b->machine[r->second], label_bit(b, r->first));
+    return 0;
+}
+
+/* Finds all states of an atom's, a pair's or a set's machine and fills its
+ * table; false if there are more than c. */
+static bool explore(const struct build *b, const struct record *r, struct machine *m)
+{
+    struct found f = { .ceiling = b->c };
+    number(&f, start(b, r));
+    m->mask = record_mask(b, r);
+    for (unsigned s = 0; s < f.count; s++) {
+        for (unsigned label = 0; label < b->labels; label++) {
+            uint64_t with_first[MOST_STATES], with_second[MOST_STATES];
+            if (label & ~m->mask)
+                continue;
+            if (is_atom(r))
+                atom_rows(b, r, &f, s, label, with_first, with_second);
+            else if (r->op == EXISTS)
+                set_rows(b, r, &f, s, label, with_first, with_second);
+            else
+                pair_rows(b, r, &f, s, label, with_first, with_second);
+            uint8_t *at = m->table + (size_t)label * b->c * b->c;
+            for (unsigned j = 0; j <= s; j++) {
+                int one = number(&f, with_first[j]), two = number(&f, with_second[j]);
+                if (one < 0 || two < 0)
+                    return false;
+                at[s * b->c + j] = (uint8_t)one;
+                at[j * b->c + s] = (uint8_t)two;
+            }
+        }
+    }
+    m->states = f.count;
+    m->accepting = 0;
+    for (unsigned s = 0; s < f.count; s++)
+        if (accepts(b, r, f.value[s]))
+            m->accepting |= BIT(s);
+    for (unsigned label = 0; label < b->labels; label++)
+        if (label & ~m->mask)
+            memcpy(m->table + (size_t)label * b->c * b->c,
+                   m->table + (size_t)(label & m->mask) * b->c * b->c,
+                   (size_t)f.count * b->c);
+    return true;
+}
+
+/* Builds all records in strip order; the number of the first with more than c
+ * states, or the number of records if none has. */
+static unsigned build_all(struct build *b, uint8_t *workspace)
+{
+    for (unsigned i = 0; i < b->rule.records; i++) {
+        const struct record *r = &b->rule.record[i];
+        struct machine *m = &b->machine[i];
+        m->table = workspace + i * b->share;
+        if (r->op == NOT) {
+            const struct machine *part = &b->machine[r->first];
+            memcpy(m->table, part->table, b->share);
+            m->states = part->states;
+            m->mask = part->mask;
+            m->accepting = part->accepting ^ (~UINT64_C(0) >> (MOST_STATES - part->states));
+        } else if (!explore(b, r, m)) {
+            return i;
+        }
+    }
+    return b->rule.records;
+}
+
+/* Sets the ceiling and sizes; the number of workspace bytes asked for. */
+static size_t size_up(struct build *b, uint64_t c)
+{
+    b->c = (unsigned)c;
+    b->labels = 1u << b->rule.variables;
+    b->share = (size_t)b->labels * b->c * b->c;
+    return b->rule.records * b->share;
+}
+
+/* ---- Trees ---- */
+
+struct walk {
+    const uint8_t *strip;
+    size_t length, at; /* bytes, bits */
+    unsigned variables, positions, refusal;
+    const struct build *build; /* NULL if the tree is only checked */
+    const struct machine *machine;
+};
+
+static unsigned take(struct walk *w, unsigned bits)
+{
+    unsigned value = 0;
+    for (; bits; bits--, w->at++) {
+        if (w->at / 8 >= w->length) {
+            w->refusal = 18;
+            return 0;
+        }
+        value = value << 1 | field(w->strip, w->at, 1);
+    }
+    return value;
+}
+
+/* Reads one tree and returns the machine's state for it, if there is one. It
+ * goes no deeper than there are positions. */
+static unsigned walk_tree(struct walk *w)
+{
+    if (!take(w, 1) || w->refusal)
+        return 0;
+    if (w->positions == MOST_POSITIONS) {
+        w->refusal = 20;
+        return 0;
+    }
+    unsigned so_far = ++w->positions, first = 0, second = 0;
+    unsigned label = take(w, w->variables);
+    if (!w->refusal)
+        first = walk_tree(w);
+    if (!w->refusal)
+        second = walk_tree(w);
+    if (!w->refusal && label == 0 && w->positions == so_far)
+        w->refusal = 19;
+    if (w->refusal || !w->machine)
+        return 0;
+    return row(w->build, w->machine, label, first)[second];
+}
+
+static ws2s_tree read_tree(const uint8_t *strip, size_t length)
+{
+    if (length < 1)
+        return (ws2s_tree){ .refusal = 15 };
+    if (strip[0] >> 4 != 1)
+        return (ws2s_tree){ .refusal = 16 };
+    unsigned n = strip[0] & 15;
+    if (n < 1 || n > 8)
+        return (ws2s_tree){ .refusal = 17 };
+    struct walk w = { .strip = strip, .length = length, .at = 8, .variables = n };
+    walk_tree(&w);
+    if (!w.refusal) {
+        size_t whole = (w.at + 7) / 8;
+        if (field(strip, w.at, (unsigned)(whole * 8 - w.at)) != 0 || length != whole)
+            w.refusal = 21;
+    }
+    if (w.refusal)
+        return (ws2s_tree){ .refusal = w.refusal };
+    return (ws2s_tree){ .variables = n, .positions = w.positions };
+}
+
+/* ---- Search ---- */
+
+/* States are settled in the order of their earliest trees; a state's rank is its
+ * place in that order. The tree of a rank is packed into one number that orders
+ * as trees do: positions, root label, ranks of both branches. */
+struct search {
+    unsigned count;
+    unsigned state[MOST_STATES];
+    uint64_t tree[MOST_STATES];
+};
+
+static uint64_t positions_of(uint64_t tree)
+{
+    return tree >> 24;
+}
+
+static void offer(const struct build *b, const struct machine *m, const struct search *s,
+                  uint64_t *best, unsigned label, uint64_t first, uint64_t second)
+{
+    unsigned target = row(b, m, label, s->state[first])[s->state[second]];
+    uint64_t size = positions_of(s->tree[first]) + positions_of(s->tree[second]) + 1;
+    uint64_t tree = size << 24 | (uint64_t)label << 16 | first << 8 | second;
+    if (tree < best[target])
+        best[target] = tree;
+}
+
+/* Settles states until one accepts, whose rank is the last; false if none does
+ * with at most p positions. A node of label 0 above two empty branches is in
+ * state 0, which the empty tree has settled, so it never becomes part of a tree;
+ * and any label is preceded by the one without the bits outside the mask. */
+static bool settle(const struct build *b, const struct machine *m, uint64_t p, struct search *s)
+{
+    uint64_t best[MOST_STATES], settled = 0;
+    for (unsigned q = 0; q < MOST_STATES; q++)
+        best[q] = UINT64_MAX;
+    best[0] = 0;
+    for (s->count = 0; s->count < m->states;) {
+        unsigned next = MOST_STATES;
+        for (unsigned q = 0; q < m->states; q++)
+            if (!(settled >> q & 1) && (next == MOST_STATES || best[q] < best[next]))
+                next = q;
+        if (positions_of(best[next]) > p)
+            return false;
+        unsigned rank = s->count++;
+        s->state[rank] = next;
+        s->tree[rank] = best[next];
+        settled |= BIT(next);
+        if (m->accepting >> next & 1)
+            return true;
+        for (unsigned label = 0; label < b->labels; label++) {
+            if (label & ~m->mask)
+                continue;
+            for (unsigned other = 0; other <= rank; other++) {
+                offer(b, m, s, best, label, rank, other);
+                offer(b, m, s, best, label, other, rank);
+            }
+        }
+    }
+    return false;
+}
+
+static size_t put(uint8_t *out, size_t at, unsigned bits, unsigned value)
+{
+    for (; bits; bits--, at++) {
+        if (at % 8 == 0)
+            out[at / 8] = 0;
+        out[at / 8] |= (uint8_t)((value >> (bits - 1) & 1) << (7 - at % 8));
+    }
+    return at;
+}
+
+static size_t put_tree(uint8_t *out, size_t at, unsigned variables, const struct search *s,
+                       uint64_t rank)
+{
+    if (rank == 0)
+        return put(out, at, 1, 0);
+    at = put(out, at, 1, 1);
+    at = put(out, at, variables, (unsigned)(s->tree[rank] >> 16 & 255));
+    at = put_tree(out, at, variables, s, s->tree[rank] >> 8 & 255);
+    return put_tree(out, at, variables, s, s->tree[rank] & 255);
+}
+
+/* ---- The four operations ---- */
+
+ws2s_rule oracle_check_rule(const uint8_t *rule, size_t rule_len)
+{
+    struct rule r;
+    unsigned refusal = read_rule(&r, rule, rule_len);
+    if (refusal)
+        return (ws2s_rule){ .refusal = refusal };
+    return (ws2s_rule){ .variables = r.variables, .records = r.records };
+}
+
+ws2s_tree oracle_check_tree(const uint8_t *tree, size_t tree_len)
+{
+    return read_tree(tree, tree_len);
+}
+
+static ws2s_judgement refuse_tree(unsigned refusal)
+{
+    return (ws2s_judgement){ .kind = REFUSED, .refusal = refusal };
+}
+
+ws2s_judgement oracle_judge(const uint8_t *rule, size_t rule_len, uint64_t c,
+                            uint8_t *workspace, size_t workspace_len,
+                            const uint8_t *tree, size_t tree_len)
+{
+    struct build b;
+    unsigned refusal = read_rule(&b.rule, rule, rule_len);
+    if (refusal)
+        return refuse_tree(refusal);
+    if (c < 1 || c > MOST_STATES)
+        return refuse_tree(11);
+    size_t asked = size_up(&b, c);
+    if (workspace_len < asked)
+        return refuse_tree(12);
+    ws2s_tree checked = read_tree(tree, tree_len);
+    if (checked.refusal)
+        return refuse_tree((unsigned)checked.refusal);
+    if (checked.variables != b.rule.variables)
+        return refuse_tree(22);
+    unsigned over = build_all(&b, workspace);
+    ws2s_judgement answer = { .kind = REFUSED, .refusal = 14, .record = over };
+    if (over == b.rule.records) {
+        const struct machine *last = &b.machine[b.rule.records - 1];
+        struct walk w = { .strip = tree, .length = tree_len, .at = 8,
+                          .variables = b.rule.variables, .build = &b, .machine = last };
+        answer = (ws2s_judgement){ .kind = last->accepting >> walk_tree(&w) & 1 };
+    }
+    memset(workspace, 0, asked);
+    return answer;
+}
+
+static ws2s_verdict refuse(unsigned refusal)
+{
+    return (ws2s_verdict){ .kind = REFUSED, .refusal = refusal };
+}
+
+ws2s_verdict oracle_decide(const uint8_t *rule, size_t rule_len, uint64_t c, uint64_t p,
+                           uint8_t *workspace, size_t workspace_len,
+                           uint8_t *out, size_t out_len)
+{
+    struct build b;
+    unsigned refusal = read_rule(&b.rule, rule, rule_len);
+    if (refusal)
+        return refuse(refusal);
+    if (c < 1 || c > MOST_STATES || p > MOST_POSITIONS)
+        return refuse(11);
+    size_t asked = size_up(&b, c);
+    if (workspace_len < asked)
+        return refuse(12);
+    if (out_len < (8 + p * (b.rule.variables + 1) + p + 1 + 7) / 8)
+        return refuse(13);
+    unsigned over = build_all(&b, workspace);
+    ws2s_verdict answer = { .kind = REFUSED, .refusal = 14, .record = over };
+    if (over == b.rule.records) {
+        const struct machine *last = &b.machine[b.rule.records - 1];
+        struct search s;
+        answer = (ws2s_verdict){ .kind = NONE, .states = last->states };
+        if (last->accepting && settle(&b, last, p, &s)) {
+            size_t bits = put(out, 0, 4, 1);
+            bits = put(out, bits, 4, b.rule.variables);
+            bits = put_tree(out, bits, b.rule.variables, &s, s.count - 1);
+            answer.kind = SHOWN;
+            answer.positions = positions_of(s.tree[s.count - 1]);
+            answer.length = (bits + 7) / 8;
+        } else if (last->accepting) {
+            answer.kind = LARGER;
+        }
+    }
+    memset(workspace, 0, asked);
+    return answer;
+}
