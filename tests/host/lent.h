@@ -1,0 +1,110 @@
+/* Buffers to lend to the library. Each lies between two pages that nobody may
+ * touch, at the end or the beginning of what is between them or apart from
+ * both, and is filled, with the bytes around it, with a pattern of bytes none of
+ * which is zero. */
+#ifndef LENT_H
+#define LENT_H
+
+#include <stdbool.h>
+#include <stdint.h>
+#include <stdio.h>
+#include <stdlib.h>
+#include <string.h>
+#include <sys/mman.h>
+#include <unistd.h>
+
+enum lent_place { LENT_AT_END, LENT_AT_BEGINNING, LENT_APART, LENT_PLACES };
+enum { LENT_GUARD = 96, LENT_PERIOD = 255 };
+
+struct lent {
+    uint8_t *span; /* what may be touched, with its length */
+    size_t room;
+    uint8_t *guarded, *at, *end, *guarded_end; /* what is lent, and what is watched */
+};
+
+/* The pattern over and over; a byte's phase is its place after l->guarded. */
+static const uint8_t *lent_pattern(size_t phase)
+{
+    static uint8_t pattern[LENT_PERIOD * 257];
+    if (pattern[0] == 0)
+        for (size_t i = 0; i < sizeof pattern; i++)
+            pattern[i] = (uint8_t)(1 + i % LENT_PERIOD * 7 % LENT_PERIOD);
+    return pattern + phase % LENT_PERIOD;
+}
+
+enum { LENT_CHUNK = LENT_PERIOD * 256 };
+
+static void lent_open(struct lent *l, size_t most)
+{
+    size_t page = (size_t)sysconf(_SC_PAGESIZE);
+    l->room = (most + 2 * LENT_GUARD + page - 1) / page * page;
+    uint8_t *all = mmap(NULL, l->room + 2 * page, PROT_NONE,
+                        MAP_PRIVATE | MAP_ANONYMOUS | MAP_NORESERVE, -1, 0);
+    if (all == MAP_FAILED || mprotect(all + page, l->room, PROT_READ | PROT_WRITE) != 0) {
+        perror("lent_open");
+        exit(2);
+    }
+    l->span = all + page;
+}
+
+/* Lends that many bytes, no more than l was opened for. */
+static uint8_t *lend(struct lent *l, size_t length, enum lent_place place)
+{
+    size_t before = place == LENT_AT_BEGINNING ? 0
+                  : place == LENT_AT_END ? l->room - length : LENT_GUARD;
+    l->at = l->span + before;
+    l->end = l->at + length;
+    l->guarded = before < LENT_GUARD ? l->span : l->at - LENT_GUARD;
+    size_t after = (size_t)(l->span + l->room - l->end);
+    l->guarded_end = l->end + (after < LENT_GUARD ? after : LENT_GUARD);
+    for (uint8_t *p = l->guarded; p < l->guarded_end; p += LENT_CHUNK) {
+        size_t left = (size_t)(l->guarded_end - p);
+        memcpy(p, lent_pattern(0), left < LENT_CHUNK ? left : LENT_CHUNK);
+    }
+    return l->at;
+}
+
+/* Lends a copy of these bytes. */
+static uint8_t *lend_bytes(struct lent *l, const uint8_t *bytes, size_t length,
+                           enum lent_place place)
+{
+    lend(l, length, place);
+    if (length)
+        memcpy(l->at, bytes, length);
+    return l->at;
+}
+
+static bool lent_kept_between(const struct lent *l, const uint8_t *from, const uint8_t *to)
+{
+    while (from < to) {
+        size_t left = (size_t)(to - from), length = left < LENT_CHUNK ? left : LENT_CHUNK;
+        if (memcmp(from, lent_pattern((size_t)(from - l->guarded)), length) != 0)
+            return false;
+        from += length;
+    }
+    return true;
+}
+
+/* Whether everything watched is as it was but, perhaps, the first bytes of what
+ * is lent. */
+static bool lent_kept_after(const struct lent *l, size_t first)
+{
+    return lent_kept_between(l, l->guarded, l->at)
+        && lent_kept_between(l, l->at + first, l->guarded_end);
+}
+
+/* The same, and those first bytes are these. */
+static bool lent_holds(const struct lent *l, const uint8_t *bytes, size_t length)
+{
+    return length <= (size_t)(l->end - l->at) && lent_kept_after(l, length)
+        && (length == 0 || memcmp(l->at, bytes, length) == 0);
+}
+
+/* The same, and those first bytes are zero. */
+static bool lent_zero(const struct lent *l, size_t length)
+{
+    return length <= (size_t)(l->end - l->at) && lent_kept_after(l, length)
+        && (length == 0 || (l->at[0] == 0 && memcmp(l->at, l->at + 1, length - 1) == 0));
+}
+
+#endif
