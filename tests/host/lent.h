@@ -5,6 +5,7 @@
 #ifndef LENT_H
 #define LENT_H
 
+#include <signal.h>
 #include <stdbool.h>
 #include <stdint.h>
 #include <stdio.h>
@@ -23,7 +24,7 @@ struct lent {
 };
 
 /* The pattern over and over; a byte's phase is its place after l->guarded. */
-static const uint8_t *lent_pattern(size_t phase)
+static inline const uint8_t *lent_pattern(size_t phase)
 {
     static uint8_t pattern[LENT_PERIOD * 257];
     if (pattern[0] == 0)
@@ -34,7 +35,7 @@ static const uint8_t *lent_pattern(size_t phase)
 
 enum { LENT_CHUNK = LENT_PERIOD * 256 };
 
-static void lent_open(struct lent *l, size_t most)
+static inline void lent_open(struct lent *l, size_t most)
 {
     size_t page = (size_t)sysconf(_SC_PAGESIZE);
     l->room = (most + 2 * LENT_GUARD + page - 1) / page * page;
@@ -48,7 +49,7 @@ static void lent_open(struct lent *l, size_t most)
 }
 
 /* Lends that many bytes, no more than l was opened for. */
-static uint8_t *lend(struct lent *l, size_t length, enum lent_place place)
+static inline uint8_t *lend(struct lent *l, size_t length, enum lent_place place)
 {
     size_t before = place == LENT_AT_BEGINNING ? 0
                   : place == LENT_AT_END ? l->room - length : LENT_GUARD;
@@ -65,7 +66,7 @@ static uint8_t *lend(struct lent *l, size_t length, enum lent_place place)
 }
 
 /* Lends a copy of these bytes. */
-static uint8_t *lend_bytes(struct lent *l, const uint8_t *bytes, size_t length,
+static inline uint8_t *lend_bytes(struct lent *l, const uint8_t *bytes, size_t length,
                            enum lent_place place)
 {
     lend(l, length, place);
@@ -74,7 +75,7 @@ static uint8_t *lend_bytes(struct lent *l, const uint8_t *bytes, size_t length,
     return l->at;
 }
 
-static bool lent_kept_between(const struct lent *l, const uint8_t *from, const uint8_t *to)
+static inline bool lent_kept_between(const struct lent *l, const uint8_t *from, const uint8_t *to)
 {
     while (from < to) {
         size_t left = (size_t)(to - from), length = left < LENT_CHUNK ? left : LENT_CHUNK;
@@ -87,24 +88,46 @@ static bool lent_kept_between(const struct lent *l, const uint8_t *from, const u
 
 /* Whether everything watched is as it was but, perhaps, the first bytes of what
  * is lent. */
-static bool lent_kept_after(const struct lent *l, size_t first)
+static inline bool lent_kept_after(const struct lent *l, size_t first)
 {
     return lent_kept_between(l, l->guarded, l->at)
         && lent_kept_between(l, l->at + first, l->guarded_end);
 }
 
 /* The same, and those first bytes are these. */
-static bool lent_holds(const struct lent *l, const uint8_t *bytes, size_t length)
+static inline bool lent_holds(const struct lent *l, const uint8_t *bytes, size_t length)
 {
     return length <= (size_t)(l->end - l->at) && lent_kept_after(l, length)
         && (length == 0 || memcmp(l->at, bytes, length) == 0);
 }
 
 /* The same, and those first bytes are zero. */
-static bool lent_zero(const struct lent *l, size_t length)
+static inline bool lent_zero(const struct lent *l, size_t length)
 {
     return length <= (size_t)(l->end - l->at) && lent_kept_after(l, length)
         && (length == 0 || (l->at[0] == 0 && memcmp(l->at, l->at + 1, length - 1) == 0));
+}
+
+/* What is being done, told if a call breaks off or takes too long. */
+static char lent_doing[256];
+
+static inline void lent_broken(int sign)
+{
+    dprintf(STDOUT_FILENO, "%s: %s\n", lent_doing,
+            sign == SIGALRM ? "no answer" : "ended by a signal");
+    _exit(3);
+}
+
+/* Watches for calls that end the program, a stack run over included. */
+static inline void lent_watch(void)
+{
+    static const int signs[] = { SIGSEGV, SIGBUS, SIGILL, SIGFPE, SIGABRT, SIGALRM };
+    static uint8_t other[1 << 16];
+    stack_t stack = { .ss_sp = other, .ss_size = sizeof other };
+    struct sigaction action = { .sa_handler = lent_broken, .sa_flags = SA_ONSTACK };
+    sigaltstack(&stack, NULL);
+    for (size_t i = 0; i < sizeof signs / sizeof signs[0]; i++)
+        sigaction(signs[i], &action, NULL);
 }
 
 #endif

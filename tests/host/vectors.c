@@ -12,7 +12,7 @@
 
 #include <inttypes.h>
 
-enum { MOST_LINE = 4096, MOST_STRIP = MOST_LINE / 2, MOST_OUT = 1 << 16 };
+enum { MOST_LINE = 4096, MOST_STRIP = MOST_LINE / 2, MOST_OUT = 1 << 16, MOST_SECONDS = 600 };
 enum { VERDICT_INPUT = 300, VERDICT_C = 16, VERDICT_P = 60, VERDICT_WORKSPACE = 32768,
        VERDICT_OUT = 77 };
 static const size_t MOST_WORKSPACE = (size_t)128 << 20, SMALL_WORKSPACE = (size_t)1 << 20;
@@ -238,6 +238,7 @@ int main(int argc, char **argv)
 {
     static char line[MOST_LINE], copy[MOST_LINE];
     unsigned long passed = 0, failed = 0;
+    lent_watch();
     lent_open(&lent_rule, MOST_STRIP);
     lent_open(&lent_tree, MOST_STRIP);
     lent_open(&lent_workspace, MOST_WORKSPACE);
@@ -253,6 +254,8 @@ int main(int argc, char **argv)
             number++;
             line[strcspn(line, "\r\n")] = 0;
             strcpy(copy, line);
+            snprintf(lent_doing, sizeof lent_doing, "%s:%lu", argv[i], number);
+            alarm(MOST_SECONDS);
             if (run_line(line)) {
                 passed++;
                 continue;

@@ -1,0 +1,534 @@
+/* Compares the library with the oracle on requests made at random:
+ *
+ *     attack [SEED [CALLS]]
+ *
+ * Strips are made from valid records and trees or from bytes, and damaged, cut
+ * and extended; ceilings are in and out of range; buffers fit, are a byte short,
+ * have room to spare or are not there. Both get the same buffers, with the same
+ * bytes in and around them; their results and all these bytes must agree after
+ * the call, and whatever is shown must check and be judged as satisfying the
+ * rule. The same seed makes the same requests. Differences are printed as vector
+ * lines; the status is then 1. */
+#define _DEFAULT_SOURCE
+#include "lent.h"
+#include "oracle.h"
+#include "ws2s.h"
+
+#include <inttypes.h>
+
+enum { MOST_STRIP = 512, MOST_OUT = 1024, MOST_SECONDS = 120, MOST_DIFFERENCES = 10 };
+enum { SMALL_SPACE = 1 << 16, MIDDLE_SPACE = 1 << 21, LARGE_SPACE = 1 << 24 };
+
+/* ---- Chance ---- */
+
+static uint64_t chance_state;
+
+static uint64_t any(void)
+{
+    uint64_t z = chance_state += UINT64_C(0x9E3779B97F4A7C15);
+    z = (z ^ z >> 30) * UINT64_C(0xBF58476D1CE4E5B9);
+    z = (z ^ z >> 27) * UINT64_C(0x94D049BB133111EB);
+    return z ^ z >> 31;
+}
+
+static unsigned below(uint64_t bound)
+{
+    return (unsigned)(any() % bound);
+}
+
+static bool once_in(unsigned times)
+{
+    return below(times) == 0;
+}
+
+/* ---- Strips ---- */
+
+struct strip {
+    uint8_t byte[MOST_STRIP];
+    size_t length;
+};
+
+static void put(struct strip *s, size_t *at, unsigned bits, unsigned value)
+{
+    for (; bits && *at < 8 * MOST_STRIP; bits--, ++*at) {
+        if (*at % 8 == 0)
+            s->byte[*at / 8] = 0;
+        s->byte[*at / 8] |= (uint8_t)((value >> (bits - 1) & 1) << (7 - *at % 8));
+    }
+    s->length = (*at + 7) / 8;
+}
+
+static unsigned some_variables(void)
+{
+    return once_in(6) ? 1 + below(8) : 1 + below(3);
+}
+
+static unsigned some_records(void)
+{
+    return once_in(60) ? 1 + below(128) : once_in(3) ? 1 + below(32) : 1 + below(10);
+}
+
+/* One of the records below this one, late ones more often. */
+static unsigned some_record(unsigned below_this)
+{
+    return once_in(2) ? below(below_this) : below_this - 1 - below(below_this < 3 ? below_this : 3);
+}
+
+static bool names_second_variable(unsigned op)
+{
+    return op == 0 || op == 2 || op == 3;
+}
+
+static void put_heading(struct strip *s, size_t *at, unsigned n, unsigned m)
+{
+    *at = 0;
+    put(s, at, 4, 1);
+    put(s, at, 4, n);
+    put(s, at, 8, m);
+}
+
+static void put_record(struct strip *s, size_t *at, unsigned op, unsigned first, unsigned second)
+{
+    put(s, at, 4, op);
+    put(s, at, 7, first);
+    put(s, at, 7, second);
+}
+
+/* A rule strip of valid records; at times one record has fields of any kind. */
+static void make_rule(struct strip *s)
+{
+    size_t at;
+    unsigned n = some_variables(), m = some_records();
+    unsigned odd = once_in(8) ? below(m) : m;
+    put_heading(s, &at, n, m);
+    for (unsigned i = 0; i < m; i++) {
+        unsigned op = i == 0 || below(100) < 35 ? below(5) : 5 + below(4);
+        if (op == 5 && once_in(2))
+            op = 6 + below(3);
+        unsigned first = op <= 4 || op == 8 ? below(n) : some_record(i);
+        unsigned second = names_second_variable(op) ? below(n) : op >= 6 ? some_record(i) : 0;
+        if (i == odd) {
+            if (once_in(3))
+                op = below(16);
+            if (once_in(2))
+                first = once_in(2) ? below(128) : below(2 * n + 1);
+            if (once_in(2))
+                second = once_in(2) ? below(128) : i + below(2);
+        }
+        put_record(s, &at, op, first, second);
+    }
+}
+
+/* A rule strip with many states: several atoms joined one after the other, at
+ * times under a "not" or "exists". */
+static void make_broad_rule(struct strip *s)
+{
+    size_t at;
+    unsigned n = 2 + below(4), atoms = 2 + below(5), more = below(3), m = 2 * atoms - 1 + more;
+    unsigned kind = below(8); /* 5 and above: mixed atoms */
+    put_heading(s, &at, n, m);
+    for (unsigned i = 0; i < atoms; i++) {
+        unsigned op = kind < 5 ? kind : below(5);
+        unsigned first = (i + below(2)) % n, second = (first + 1 + below(n - 1)) % n;
+        put_record(s, &at, op, first, names_second_variable(op) ? second : 0);
+    }
+    for (unsigned i = 1; i < atoms; i++)
+        put_record(s, &at, 6 + below(2), i == 1 ? 0 : atoms + i - 2, i);
+    for (unsigned i = m - more; i < m; i++)
+        if (once_in(3))
+            put_record(s, &at, 5, i - 1, 0);
+        else
+            put_record(s, &at, 8, below(n), i - 1);
+}
+
+/* How many node bits a tree has so far, and where the one too many stands. */
+static unsigned node_bits;
+static size_t too_many;
+
+static void put_tree(struct strip *s, size_t *at, unsigned n, unsigned nodes, unsigned lean,
+                     unsigned bare)
+{
+    if (nodes == 0) {
+        put(s, at, 1, 0);
+        return;
+    }
+    if (++node_bits == 256)
+        too_many = *at;
+    unsigned label = below(UINT64_C(1) << n);
+    if (once_in(3))
+        label &= below(UINT64_C(1) << n);
+    if (nodes == 1 && label == 0 && !once_in(bare))
+        label = 1 + below((1u << n) - 1);
+    unsigned rest = nodes - 1;
+    unsigned first = lean == 0 ? below(rest + 1) : lean == 1 ? rest : lean == 2 ? 0
+                   : once_in(2) ? rest : 0;
+    put(s, at, 1, 1);
+    put(s, at, n, label);
+    put_tree(s, at, n, first, lean, bare);
+    put_tree(s, at, n, rest - first, lean, bare);
+}
+
+/* A tree strip; at times it has bare leaves or too many nodes, and may then end
+ * in the byte with the node bit that is one too many, or just before it. */
+static void make_tree(struct strip *s, unsigned n)
+{
+    size_t at = 0;
+    unsigned nodes = once_in(12) ? 250 + below(10) : once_in(5) ? below(256) : below(9);
+    put(s, &at, 4, 1);
+    put(s, &at, 4, n);
+    node_bits = 0;
+    put_tree(s, &at, n, nodes, below(4), once_in(8) ? 4 : 1u << 20);
+    if (nodes > 255 && once_in(2))
+        s->length = too_many / 8 + !once_in(3);
+}
+
+/* Bytes of any kind, at times with a heading and length that fit. */
+static void make_bytes(struct strip *s)
+{
+    s->length = once_in(4) ? below(330) : below(24);
+    for (size_t i = 0; i < s->length; i++)
+        s->byte[i] = (uint8_t)(once_in(8) ? 0 : once_in(8) ? 255 : any());
+    if (s->length >= 1 && !once_in(4))
+        s->byte[0] = (uint8_t)(16 + below(10));
+    if (s->length >= 2 && !once_in(4)) {
+        s->byte[1] = (uint8_t)below(12);
+        if (!once_in(4))
+            s->length = (16 + 18 * (size_t)s->byte[1] + 7) / 8;
+        if (!once_in(4))
+            s->byte[s->length - 1] &= 0xC0;
+    }
+}
+
+static void damage(struct strip *s)
+{
+    switch (below(6)) {
+    case 0:
+        for (unsigned times = 1 + below(4); times && s->length; times--)
+            s->byte[below(s->length)] ^= (uint8_t)(1u << below(8));
+        break;
+    case 1:
+        if (s->length)
+            s->byte[below(s->length < 3 ? s->length : 3)] = (uint8_t)any();
+        break;
+    case 2:
+        s->length = below(s->length + 1);
+        break;
+    case 3:
+        s->length -= s->length > 0;
+        break;
+    case 4:
+        for (unsigned times = 1 + below(4); times && s->length < MOST_STRIP; times--)
+            s->byte[s->length++] = (uint8_t)(once_in(2) ? 0 : any());
+        break;
+    case 5:
+        if (s->length)
+            s->byte[s->length - 1] |= (uint8_t)(1u << below(8));
+        break;
+    }
+}
+
+/* ---- Requests ---- */
+
+struct request {
+    enum { CHECK_RULE, CHECK_TREE, DECIDE, JUDGE, KINDS } kind;
+    struct strip rule, tree;
+    bool same; /* the rule's bytes are lent as the tree too */
+    uint64_t c, p;
+    size_t workspace, out;
+    enum lent_place place;
+    bool null; /* buffers of no bytes come as NULL */
+};
+
+/* The last rule that a tree was shown for, with that tree. */
+static struct {
+    bool there;
+    struct strip rule, tree;
+    uint64_t c, states;
+} kept;
+
+/* Rule strips that were accepted have their n and m at the front. */
+static unsigned variables(const struct strip *s)
+{
+    return s->byte[0] & 15;
+}
+
+static size_t space_asked(const struct strip *rule, uint64_t c)
+{
+    return ((size_t)rule->byte[1] << variables(rule)) * c * c;
+}
+
+static uint64_t huge(uint64_t small)
+{
+    switch (below(4)) {
+    case 0:
+        return UINT64_MAX;
+    case 1:
+        return (UINT64_C(1) << (8 + below(56))) + small;
+    case 2:
+        return 0 - small;
+    default:
+        return any();
+    }
+}
+
+/* A state ceiling for which an accepted rule needs no more than this space. */
+static uint64_t some_states(const struct strip *rule, bool accepted, size_t most)
+{
+    uint64_t c = once_in(3) ? 64 : once_in(3) ? 1 + below(64) : 1 + below(16);
+    while (accepted && c > 1 && space_asked(rule, c) > most)
+        c -= (c + 3) / 4;
+    if (once_in(30))
+        return once_in(3) ? 0 : once_in(2) ? 65 + below(3) : huge(c);
+    return c;
+}
+
+static uint64_t some_places(void)
+{
+    if (once_in(30))
+        return once_in(2) ? 256 + below(2) : huge(below(256));
+    return once_in(3) ? 255 : once_in(3) ? below(256) : below(8);
+}
+
+static size_t some_length(size_t asked, size_t most)
+{
+    size_t length = asked;
+    switch (below(16)) {
+    case 0:
+        length -= length > 0;
+        break;
+    case 1:
+        length = below(length + 1);
+        break;
+    case 2:
+        length = 0;
+        break;
+    case 3:
+    case 4:
+    case 5:
+        length += 1 + below(300);
+        break;
+    }
+    return length < most ? length : most;
+}
+
+static void make_request(struct request *r)
+{
+    r->kind = once_in(8) ? below(2) : DECIDE + below(2);
+    r->place = below(LENT_PLACES);
+    r->null = once_in(2);
+    r->same = once_in(200);
+    bool again = kept.there && once_in(4);
+    if (again)
+        r->rule = kept.rule;
+    else if (once_in(12))
+        make_bytes(&r->rule);
+    else if (once_in(4))
+        make_broad_rule(&r->rule);
+    else
+        make_rule(&r->rule);
+    if (once_in(12))
+        damage(&r->rule);
+    bool accepted = oracle_check_rule(r->rule.byte, r->rule.length).refusal == 0;
+    r->c = again && !once_in(4) ? (once_in(3) ? kept.states - below(2) : kept.c)
+         : some_states(&r->rule, accepted, once_in(2000) ? LARGE_SPACE
+                                         : once_in(20) ? MIDDLE_SPACE : SMALL_SPACE);
+    r->p = some_places();
+    bool sized = accepted && r->c <= 64;
+    r->workspace = some_length(sized ? space_asked(&r->rule, r->c) : below(2000), LARGE_SPACE);
+    r->out = some_length(sized && r->p <= 255
+                         ? (8 + r->p * (variables(&r->rule) + 1) + r->p + 1 + 7) / 8 : below(400),
+                         MOST_OUT);
+    unsigned n = accepted && !once_in(16) ? variables(&r->rule) : 1 + below(8);
+    if (again && once_in(2))
+        r->tree = kept.tree;
+    else if (once_in(16))
+        make_bytes(&r->tree);
+    else
+        make_tree(&r->tree, n);
+    if (once_in(12))
+        damage(&r->tree);
+    if (r->same)
+        r->tree = r->rule;
+}
+
+/* ---- Calls ---- */
+
+static struct lents {
+    struct lent rule, tree, workspace, out;
+} ours, theirs;
+
+union result {
+    ws2s_rule rule;
+    ws2s_tree tree;
+    ws2s_judgement judgement;
+    ws2s_verdict verdict;
+    uint64_t field[6];
+};
+
+static void open_all(struct lents *l)
+{
+    lent_open(&l->rule, MOST_STRIP);
+    lent_open(&l->tree, MOST_STRIP);
+    lent_open(&l->workspace, LARGE_SPACE);
+    lent_open(&l->out, MOST_OUT);
+}
+
+static uint8_t *handed(const struct lent *l, const struct request *r)
+{
+    return l->at == l->end && r->null ? NULL : l->at;
+}
+
+static union result run(const struct request *r, struct lents *l, bool library)
+{
+    uint8_t *rule, *tree, *workspace, *out;
+    union result result = { .field = { 0 } };
+    lend_bytes(&l->rule, r->rule.byte, r->rule.length, r->place);
+    lend_bytes(&l->tree, r->tree.byte, r->tree.length, r->place);
+    lend(&l->workspace, r->workspace, r->place);
+    lend(&l->out, r->out, r->place);
+    rule = handed(&l->rule, r);
+    tree = r->same ? rule : handed(&l->tree, r);
+    workspace = handed(&l->workspace, r);
+    out = handed(&l->out, r);
+    switch (r->kind) {
+    case CHECK_RULE:
+        result.rule = (library ? ws2s_check_rule : oracle_check_rule)(rule, r->rule.length);
+        break;
+    case CHECK_TREE:
+        result.tree = (library ? ws2s_check_tree : oracle_check_tree)(tree, r->tree.length);
+        break;
+    case JUDGE:
+        result.judgement = (library ? ws2s_judge : oracle_judge)(
+            rule, r->rule.length, r->c, workspace, r->workspace, tree, r->tree.length);
+        break;
+    default:
+        result.verdict = (library ? ws2s_decide : oracle_decide)(
+            rule, r->rule.length, r->c, r->p, workspace, r->workspace, out, r->out);
+    }
+    return result;
+}
+
+static const char *differs(const struct request *r, const union result *one, const union result *two)
+{
+    const struct lent *mine[] = { &ours.workspace, &ours.out };
+    const struct lent *other[] = { &theirs.workspace, &theirs.out };
+    for (int i = 0; i < 6; i++)
+        if (one->field[i] != two->field[i])
+            return "another result";
+    for (int i = 0; i < 2; i++) {
+        size_t length = (size_t)(mine[i]->guarded_end - mine[i]->guarded);
+        if (memcmp(mine[i]->guarded, other[i]->guarded, length) != 0)
+            return i == 0 ? "another workspace" : "another out";
+    }
+    if (!lent_holds(&ours.rule, r->rule.byte, r->rule.length)
+        || !lent_holds(&ours.tree, r->tree.byte, r->tree.length))
+        return "a strip altered";
+    return NULL;
+}
+
+/* What is shown checks, and is judged as satisfying the rule; it is kept. */
+static const char *shown_wrong(const struct request *r, const ws2s_verdict *v)
+{
+    kept.there = true;
+    kept.rule = r->rule;
+    kept.c = r->c;
+    kept.states = v->states;
+    kept.tree.length = v->length;
+    memcpy(kept.tree.byte, ours.out.at, v->length);
+    ws2s_tree t = ws2s_check_tree(kept.tree.byte, kept.tree.length);
+    if (t.refusal || t.variables != variables(&r->rule) || t.positions != v->positions
+        || t.positions > r->p)
+        return "shown tree does not check";
+    ws2s_judgement j = ws2s_judge(r->rule.byte, r->rule.length, r->c, ours.workspace.at,
+                                  r->workspace, kept.tree.byte, kept.tree.length);
+    return j.kind == 1 ? NULL : "shown tree is not judged to satisfy the rule";
+}
+
+/* ---- Telling ---- */
+
+static void say_bytes(const struct strip *s)
+{
+    putchar(' ');
+    if (s->length == 0)
+        putchar('-');
+    for (size_t i = 0; i < s->length; i++)
+        printf("%02X", s->byte[i]);
+}
+
+static void say(const struct request *r, const char *what, const union result *one,
+                const union result *two)
+{
+    static const char *const names[] = { "check_rule", "check_tree", "decide", "judge" };
+    printf("%s: %s\n  %s", lent_doing, what, names[r->kind]);
+    if (r->kind != CHECK_TREE)
+        say_bytes(&r->rule);
+    if (r->kind == DECIDE)
+        printf(" %" PRIu64 " %" PRIu64 " %zu %zu", r->c, r->p, r->workspace, r->out);
+    if (r->kind == JUDGE)
+        printf(" %" PRIu64 " %zu", r->c, r->workspace);
+    if (r->kind == CHECK_TREE || r->kind == JUDGE)
+        say_bytes(&r->tree);
+    for (int who = 0; who < 2; who++) {
+        printf("\n  %s", who ? "oracle " : "library");
+        for (int i = 0; i < (r->kind == DECIDE ? 6 : 3); i++)
+            printf(" %" PRIu64, (who ? two : one)->field[i]);
+    }
+    printf("\n");
+}
+
+/* How often each answer came: 0 for a check that accepts; 0 to 2 for the kinds
+ * of decide and judge; refusals from 3 on. */
+static unsigned long answers[KINDS][3 + 23];
+
+static void count_answer(const struct request *r, const union result *o)
+{
+    bool check = r->kind < DECIDE;
+    uint64_t refusal = check ? o->field[0] : o->field[1];
+    uint64_t at = refusal ? 3 + refusal : check ? 0 : o->field[0];
+    if (at < 3 + 23)
+        answers[r->kind][at]++;
+}
+
+static void say_answers(void)
+{
+    static const char *const names[KINDS][4] = {
+        { "check_rule", "ok", "", "" }, { "check_tree", "ok", "", "" },
+        { "decide", "shown", "none", "larger" }, { "judge", "no", "yes", "" } };
+    for (int kind = 0; kind < KINDS; kind++) {
+        printf("%s:", names[kind][0]);
+        for (int i = 0; i < 3 + 23; i++)
+            if (answers[kind][i] && i < 3)
+                printf(" %s %lu", names[kind][1 + i], answers[kind][i]);
+            else if (answers[kind][i])
+                printf(" %d: %lu", i - 3, answers[kind][i]);
+        printf("\n");
+    }
+}
+
+int main(int argc, char **argv)
+{
+    static struct request r;
+    uint64_t seed = argc > 1 ? strtoull(argv[1], NULL, 10) : 1;
+    unsigned long calls = argc > 2 ? strtoul(argv[2], NULL, 10) : 200000, failed = 0, done = 0;
+    chance_state = seed;
+    lent_watch();
+    open_all(&ours);
+    open_all(&theirs);
+    while (done < calls && failed < MOST_DIFFERENCES) {
+        snprintf(lent_doing, sizeof lent_doing, "seed %" PRIu64 " call %lu", seed, done++);
+        alarm(MOST_SECONDS);
+        make_request(&r);
+        union result one = run(&r, &ours, true), two = run(&r, &theirs, false);
+        const char *what = differs(&r, &one, &two);
+        if (!what && r.kind == DECIDE && two.verdict.kind == 0)
+            what = shown_wrong(&r, &one.verdict);
+        if (what) {
+            failed++;
+            say(&r, what, &one, &two);
+        }
+        count_answer(&r, &two);
+    }
+    say_answers();
+    printf("seed %" PRIu64 ": %lu passed, %lu failed\n", seed, done - failed, failed);
+    return failed || !done;
+}
