@@ -1,0 +1,291 @@
+/* Times the library beside the oracle, an unproved C implementation of the same
+ * ideas:
+ *
+ *     bench [-c C] [-p P] [-t SECONDS] [-v VECTORS] [-l VECTORS] [RULE...]
+ *
+ * Each RULE, a file with one rule strip, is decided with the ceilings C (64) and
+ * P (255) and makes a row of the table. -v makes one row of all decide and judge
+ * lines of a vector file together, -l a row of each such line. Options and rules
+ * count from left to right. A row is run until SECONDS (0.3) have passed for
+ * each side, three times at least; the shortest time counts. Both sides must
+ * answer alike.
+ *
+ *     bench -o library|oracle [-c C] [-p P] NAME
+ *
+ * makes one call for a single row, a rule file or a vector line given as
+ * FILE:LINE, and prints nothing: a program to count instructions of. */
+#define _DEFAULT_SOURCE
+#include "oracle.h"
+#include "ws2s.h"
+
+#include <errno.h>
+#include <inttypes.h>
+#include <stdbool.h>
+#include <stdio.h>
+#include <stdlib.h>
+#include <string.h>
+#include <sys/mman.h>
+#include <time.h>
+#include <unistd.h>
+
+enum { MOST_LINE = 4096, MOST_STRIP = 1024, MOST_REQUESTS = 4096, MOST_OUT = 65536,
+       LEAST_RUNS = 3 };
+static const size_t MOST_WORKSPACE = (size_t)128 << 20;
+static const double LEAST_TIMED = 1e-3;
+
+struct request {
+    bool judge;
+    uint8_t rule[MOST_STRIP], tree[MOST_STRIP];
+    size_t rule_length, tree_length;
+    uint64_t c, p;
+    size_t workspace, out;
+};
+
+/* The result of a request, as numbers, and the strip in out. */
+struct answer {
+    uint64_t field[6];
+    uint8_t out[400];
+};
+
+struct implementation {
+    const char *name;
+    ws2s_judgement (*judge)(const uint8_t *, size_t, uint64_t, uint8_t *, size_t,
+                            const uint8_t *, size_t);
+    ws2s_verdict (*decide)(const uint8_t *, size_t, uint64_t, uint64_t, uint8_t *, size_t,
+                           uint8_t *, size_t);
+};
+
+static const struct implementation sides[] = {
+    { "library", ws2s_judge, ws2s_decide },
+    { "oracle", oracle_judge, oracle_decide },
+};
+
+static struct request requests[MOST_REQUESTS];
+static uint8_t *workspace, out[MOST_OUT];
+static uint64_t c_given = 64, p_given = 255;
+static double seconds_given = 0.3;
+static bool apart; /* some row's answers differed */
+
+static void stop(const char *what, const char *why)
+{
+    fprintf(stderr, "bench: %s: %s\n", what, why);
+    exit(2);
+}
+
+static double now(void)
+{
+    struct timespec t;
+    clock_gettime(CLOCK_MONOTONIC, &t);
+    return (double)t.tv_sec + 1e-9 * (double)t.tv_nsec;
+}
+
+/* ---- Requests ---- */
+
+static size_t read_hex(const char *word, uint8_t *bytes)
+{
+    size_t length = 0;
+    unsigned byte;
+    if (!word || strcmp(word, "-") == 0)
+        return 0;
+    for (; length < MOST_STRIP && sscanf(word + 2 * length, "%2x", &byte) == 1; length++)
+        bytes[length] = (uint8_t)byte;
+    return length;
+}
+
+static uint64_t read_number(const char *word)
+{
+    return word ? strtoull(word, NULL, 10) : 0;
+}
+
+/* Whether a line is a decide or judge request, which it then becomes. */
+static bool read_line(char *line, struct request *r)
+{
+    char *word = strtok(line, " ");
+    if (!word || (strcmp(word, "decide") != 0 && strcmp(word, "judge") != 0))
+        return false;
+    r->judge = word[0] == 'j';
+    r->rule_length = read_hex(strtok(NULL, " "), r->rule);
+    r->c = read_number(strtok(NULL, " "));
+    r->p = r->judge ? 0 : read_number(strtok(NULL, " "));
+    r->workspace = read_number(strtok(NULL, " "));
+    r->tree_length = r->judge ? read_hex(strtok(NULL, " "), r->tree) : 0;
+    r->out = r->judge ? 0 : read_number(strtok(NULL, " "));
+    return r->workspace <= MOST_WORKSPACE && r->out <= MOST_OUT;
+}
+
+/* The requests of a vector file, or of one line if it is not 0. */
+static size_t read_vectors(const char *name, unsigned long only)
+{
+    static char line[MOST_LINE];
+    size_t count = 0;
+    FILE *file = fopen(name, "r");
+    if (!file)
+        stop(name, strerror(errno));
+    for (unsigned long number = 1; fgets(line, sizeof line, file); number++)
+        if ((only == 0 || number == only) && count < MOST_REQUESTS && read_line(line, &requests[count]))
+            count++;
+    fclose(file);
+    return count;
+}
+
+static size_t read_rule(const char *name)
+{
+    struct request *r = &requests[0];
+    FILE *file = fopen(name, "rb");
+    if (!file)
+        stop(name, strerror(errno));
+    *r = (struct request){ .c = c_given, .p = p_given, .workspace = MOST_WORKSPACE, .out = 400 };
+    r->rule_length = fread(r->rule, 1, sizeof r->rule, file);
+    fclose(file);
+    return 1;
+}
+
+/* ---- Rows ---- */
+
+static void call(const struct implementation *side, const struct request *r, struct answer *a)
+{
+    memset(a, 0, sizeof *a);
+    if (r->judge) {
+        ws2s_judgement j = side->judge(r->rule, r->rule_length, r->c, workspace, r->workspace,
+                                       r->tree, r->tree_length);
+        memcpy(a->field, &j, sizeof j);
+    } else {
+        ws2s_verdict v = side->decide(r->rule, r->rule_length, r->c, r->p, workspace,
+                                      r->workspace, out, r->out);
+        memcpy(a->field, &v, sizeof v);
+        if (v.kind == 0 && v.length <= sizeof a->out)
+            memcpy(a->out, out, v.length);
+    }
+}
+
+/* The seconds that all requests take, so many times over. */
+static double time_all(const struct implementation *side, size_t count, unsigned times)
+{
+    struct answer answer;
+    double begin = now();
+    for (unsigned k = 0; k < times; k++)
+        for (size_t i = 0; i < count; i++)
+            call(side, &requests[i], &answer);
+    return now() - begin;
+}
+
+static void run_row(const char *name, size_t count)
+{
+    double best[2];
+    bool alike = true;
+    struct answer answer[2];
+    for (int side = 0; side < 2; side++) {
+        unsigned times = 1; /* so many that the clock's steps do not show */
+        double spent = 0;
+        while ((best[side] = time_all(&sides[side], count, times) / times) * times < LEAST_TIMED)
+            times *= 2;
+        for (int runs = 1; runs < LEAST_RUNS || spent < seconds_given; runs++) {
+            double taken = time_all(&sides[side], count, times);
+            spent += taken;
+            if (taken / times < best[side])
+                best[side] = taken / times;
+        }
+    }
+    for (size_t i = 0; i < count; i++) {
+        call(&sides[0], &requests[i], &answer[0]);
+        call(&sides[1], &requests[i], &answer[1]);
+        alike = alike && memcmp(&answer[0], &answer[1], sizeof answer[0]) == 0;
+    }
+    const char *slash = strrchr(name, '/');
+    printf("%-28s %6zu %14.1f %14.1f %8.2f%s\n", slash ? slash + 1 : name, count, 1e6 * best[0],
+           1e6 * best[1], best[0] / best[1], alike ? "" : "  ANSWERS DIFFER");
+    fflush(stdout);
+    apart = apart || !alike;
+}
+
+static void run_lines(const char *file)
+{
+    static char line[MOST_LINE], name[MOST_LINE];
+    unsigned long lines = 0;
+    FILE *f = fopen(file, "r");
+    if (!f)
+        stop(file, strerror(errno));
+    while (fgets(line, sizeof line, f))
+        lines++;
+    fclose(f);
+    for (unsigned long number = 1; number <= lines; number++) {
+        size_t count = read_vectors(file, number);
+        snprintf(name, sizeof name, "%.*s:%lu", MOST_LINE - 32, file, number);
+        if (count)
+            run_row(name, count);
+    }
+}
+
+/* One call for a rule file or a vector line. */
+static int run_once(const char *who, const char *name)
+{
+    char file[MOST_LINE];
+    struct answer answer;
+    const char *colon = strrchr(name, ':');
+    size_t count;
+    if (colon) {
+        snprintf(file, sizeof file, "%.*s", (int)(colon - name), name);
+        count = read_vectors(file, strtoul(colon + 1, NULL, 10));
+    } else {
+        count = read_rule(name);
+    }
+    if (count != 1)
+        stop(name, "not one decide or judge line");
+    for (size_t i = 0; i < 2; i++)
+        if (strcmp(who, sides[i].name) == 0) {
+            call(&sides[i], &requests[0], &answer);
+            return 0;
+        }
+    stop(who, "neither library nor oracle");
+    return 2;
+}
+
+int main(int argc, char **argv)
+{
+    const char *once = NULL;
+    bool heading = false;
+    /* Touched beforehand, so that no row pays for its pages. */
+    workspace = mmap(NULL, MOST_WORKSPACE, PROT_READ | PROT_WRITE, MAP_PRIVATE | MAP_ANONYMOUS, -1, 0);
+    if (workspace == MAP_FAILED)
+        stop("workspace", strerror(errno));
+    for (int i = 1; i < argc; i++) {
+        const char *option = argv[i];
+        if (option[0] == '-') {
+            if (!option[1] || option[2] || ++i == argc)
+                stop(option, "not an option with its value");
+            switch (option[1]) {
+            case 'c':
+                c_given = read_number(argv[i]);
+                continue;
+            case 'p':
+                p_given = read_number(argv[i]);
+                continue;
+            case 't':
+                seconds_given = strtod(argv[i], NULL);
+                continue;
+            case 'o':
+                once = argv[i];
+                continue;
+            case 'v':
+            case 'l':
+                break;
+            default:
+                stop(option, "no such option");
+            }
+        }
+        if (once)
+            return run_once(once, argv[i]);
+        if (!heading) {
+            memset(workspace, 1, MOST_WORKSPACE);
+            printf("%-28s %6s %14s %14s %8s\n", "", "calls", "library us", "oracle us", "ratio");
+            heading = true;
+        }
+        if (option[0] != '-')
+            run_row(option, read_rule(option));
+        else if (option[1] == 'v')
+            run_row(argv[i], read_vectors(argv[i], 0));
+        else
+            run_lines(argv[i]);
+    }
+    return apart;
+}

@@ -1,0 +1,117 @@
+#!/usr/bin/env python3
+"""Writes rule strips as MONA text and compares MONA's verdicts with ours.
+
+    mona.py RULE               print the text for a strip in hex, or in a file
+    mona.py --compare FILE...  run MONA on the decide and verdict lines of vector
+                               files whose answer is shown, larger or none: the
+                               first two must be satisfiable, the last not
+"""
+
+import argparse
+import os
+import subprocess
+import sys
+import tempfile
+import time
+
+
+def read_strip(strip):
+    """The number of variables and the records of a valid rule strip."""
+    bits = "".join(f"{byte:08b}" for byte in strip)
+    cut = lambda at, length: int(bits[at:at + length], 2)
+    starts = [16 + 18 * i for i in range(strip[1])]
+    return strip[0] & 15, [(cut(at, 4), cut(at + 4, 7), cut(at + 11, 7)) for at in starts]
+
+
+def to_mona(strip):
+    """MONA text that is satisfiable exactly if the rule is."""
+    n, records = read_strip(strip)
+    names = [f"X{i}" for i in range(n)]
+
+    def call(record, bound=None):
+        handed = ["B" if i == bound else name for i, name in enumerate(names)]
+        return f"r{record}({', '.join(handed)})"
+
+    def body(op, first, second):
+        x, y = f"X{first}", f"X{second}"
+        return {
+            0: lambda: f"{x} sub {y}",
+            1: lambda: f"ex1 s: {x} = {{s}}",
+            2: lambda: f"ex1 s: {y} = {{s}} & {x} = {{s.0}}",
+            3: lambda: f"ex1 s: {y} = {{s}} & {x} = {{s.1}}",
+            4: lambda: f"{x} = {{root}}",
+            5: lambda: f"~{call(first)}",
+            6: lambda: f"{call(first)} | {call(second)}",
+            7: lambda: f"{call(first)} & {call(second)}",
+            8: lambda: f"ex2 B: {call(second, first)}",
+        }[op]()
+
+    head = ", ".join(f"var2 {name}" for name in names)
+    lines = ["ws2s;"]
+    lines += [f"pred r{i}({head}) = {body(*record)};" for i, record in enumerate(records)]
+    lines += [f"var2 {', '.join(names)};", call(len(records) - 1) + ";"]
+    return "\n".join(lines) + "\n"
+
+
+def run_mona(text, limit):
+    """Whether MONA finds the text satisfiable (None if it gives up), and its time."""
+    with tempfile.NamedTemporaryFile("w", suffix=".mona", delete=False) as file:
+        file.write(text)
+    begin = time.monotonic()
+    try:
+        done = subprocess.run(["mona", "-q", file.name], capture_output=True, text=True,
+                              timeout=limit)
+        said = done.stdout
+        if done.returncode != 0:
+            sys.exit(f"MONA failed on\n{text}{said}{done.stderr}")
+    except subprocess.TimeoutExpired:
+        said = ""
+    finally:
+        os.unlink(file.name)
+    taken = time.monotonic() - begin
+    if "unsatisfiable" in said:
+        return False, taken
+    if "valid" in said or "satisfying example" in said:
+        return True, taken
+    return None, taken
+
+
+def compare(files, limit):
+    asked = agreed = gave_up = 0
+    total = 0.0
+    for name in files:
+        for number, line in enumerate(open(name), 1):
+            request, _, answer = line.strip().partition(" = ")
+            words, kind = request.split(), answer.split()[0]
+            if words[0] not in ("decide", "verdict") or kind not in ("shown", "larger", "none"):
+                continue
+            asked += 1
+            found, taken = run_mona(to_mona(bytes.fromhex(words[1])), limit)
+            total += taken
+            if found is None:
+                gave_up += 1
+                print(f"{name}:{number}: no verdict after {taken:.1f} s, expected {kind}")
+            elif found == (kind != "none"):
+                agreed += 1
+            else:
+                print(f"{name}:{number}: MONA says {'' if found else 'un'}satisfiable, expected {kind}")
+    print(f"{asked} rules, {agreed} agree, {gave_up} without verdict, {total:.1f} s in MONA")
+    return agreed + gave_up == asked and agreed > 0
+
+
+def main():
+    parser = argparse.ArgumentParser(description=__doc__,
+                                     formatter_class=argparse.RawDescriptionHelpFormatter)
+    parser.add_argument("--compare", action="store_true", help="compare vector files")
+    parser.add_argument("--limit", type=float, default=60, help="seconds for one rule (60)")
+    parser.add_argument("argument", nargs="+")
+    options = parser.parse_args()
+    if options.compare:
+        sys.exit(0 if compare(options.argument, options.limit) else 1)
+    for rule in options.argument:
+        strip = open(rule, "rb").read() if os.path.exists(rule) else bytes.fromhex(rule)
+        sys.stdout.write(to_mona(strip))
+
+
+if __name__ == "__main__":
+    main()
