@@ -171,28 +171,27 @@ static double time_all(const struct implementation *side, size_t count, unsigned
 
 static void run_row(const char *name, size_t count)
 {
-    double best[2];
+    double best[2], spent[2] = { 0, 0 };
+    unsigned times[2] = { 1, 1 }; /* so many that the clock's steps do not show */
     bool alike = true;
     struct answer answer[2];
-    for (int side = 0; side < 2; side++) {
-        unsigned times = 1; /* so many that the clock's steps do not show */
-        double spent = 0;
-        while ((best[side] = time_all(&sides[side], count, times) / times) * times < LEAST_TIMED)
-            times *= 2;
-        for (int runs = 1; runs < LEAST_RUNS || spent < seconds_given; runs++) {
-            double taken = time_all(&sides[side], count, times);
-            spent += taken;
-            if (taken / times < best[side])
-                best[side] = taken / times;
+    for (int i = 0; i < 2; i++)
+        while ((best[i] = time_all(&sides[i], count, times[i]) / times[i]) * times[i] < LEAST_TIMED)
+            times[i] *= 2;
+    for (int runs = 1; runs < LEAST_RUNS || spent[0] < seconds_given || spent[1] < seconds_given; runs++)
+        for (int i = 0; i < 2; i++) {
+            double taken = time_all(&sides[i], count, times[i]);
+            spent[i] += taken;
+            if (taken / times[i] < best[i])
+                best[i] = taken / times[i];
         }
-    }
     for (size_t i = 0; i < count; i++) {
         call(&sides[0], &requests[i], &answer[0]);
         call(&sides[1], &requests[i], &answer[1]);
         alike = alike && memcmp(&answer[0], &answer[1], sizeof answer[0]) == 0;
     }
     const char *slash = strrchr(name, '/');
-    printf("%-28s %6zu %14.1f %14.1f %8.2f%s\n", slash ? slash + 1 : name, count, 1e6 * best[0],
+    printf("%-28s %6zu %14.2f %14.2f %8.2f%s\n", slash ? slash + 1 : name, count, 1e6 * best[0],
            1e6 * best[1], best[0] / best[1], alike ? "" : "  ANSWERS DIFFER");
     fflush(stdout);
     apart = apart || !alike;
