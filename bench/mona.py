@@ -2,9 +2,12 @@
 """Writes rule strips as MONA text and compares MONA's verdicts with ours.
 
     mona.py RULE               print the text for a strip in hex, or in a file
-    mona.py --compare FILE...  run MONA on the decide and verdict lines of vector
-                               files whose answer is shown, larger or none: the
-                               first two must be satisfiable, the last not
+    mona.py --compare FILE...  run MONA on lines of vector files. Rules whose
+                               answer is shown, larger or none: the first two must
+                               be satisfiable, the last not. Trees that are shown
+                               or judged: the rule must be satisfiable with just
+                               their sets if the answer is shown or yes, and not
+                               if it is no
 """
 
 import argparse
@@ -23,8 +26,25 @@ def read_strip(strip):
     return strip[0] & 15, [(cut(at, 4), cut(at + 4, 7), cut(at + 11, 7)) for at in starts]
 
 
-def to_mona(strip):
-    """MONA text that is satisfiable exactly if the rule is."""
+def read_tree(strip):
+    """The sets of an accepted tree strip, as MONA writes their members."""
+    n = strip[0] & 15
+    bits = iter("".join(f"{byte:08b}" for byte in strip[1:]))
+    sets = [[] for _ in range(n)]
+    waiting = ["root"]
+    while waiting:
+        place = waiting.pop()
+        if next(bits) == "1":
+            for members in sets:
+                if next(bits) == "1":
+                    members.append(place)
+            waiting += [place + ".1", place + ".0"]
+    return sets
+
+
+def to_mona(strip, tree=None):
+    """MONA text that is satisfiable exactly if the rule is, with a tree's sets alone
+    if there is one."""
     n, records = read_strip(strip)
     names = [f"X{i}" for i in range(n)]
 
@@ -50,6 +70,8 @@ def to_mona(strip):
     lines = ["ws2s;"]
     lines += [f"pred r{i}({head}) = {body(*record)};" for i, record in enumerate(records)]
     lines += [f"var2 {', '.join(names)};", call(len(records) - 1) + ";"]
+    for name, members in zip(names, read_tree(tree) if tree else []):
+        lines.append(f"{name} = {{{', '.join(members)}}};" if members else f"empty({name});")
     return "\n".join(lines) + "\n"
 
 
@@ -76,26 +98,35 @@ def run_mona(text, limit):
     return None, taken
 
 
+def questions(line):
+    """What to ask MONA about a vector line: text and whether it is satisfiable."""
+    request, _, answer = line.strip().partition(" = ")
+    words, said = request.split(), answer.split()
+    if words[0] in ("decide", "verdict") and said[0] in ("shown", "larger", "none"):
+        rule = bytes.fromhex(words[1])
+        yield to_mona(rule), said[0] != "none"
+        if said[0] == "shown":
+            yield to_mona(rule, bytes.fromhex(said[3])), True
+    elif words[0] == "judge" and said[0] in ("yes", "no"):
+        yield to_mona(bytes.fromhex(words[1]), bytes.fromhex(words[4])), said[0] == "yes"
+
+
 def compare(files, limit):
     asked = agreed = gave_up = 0
     total = 0.0
     for name in files:
         for number, line in enumerate(open(name), 1):
-            request, _, answer = line.strip().partition(" = ")
-            words, kind = request.split(), answer.split()[0]
-            if words[0] not in ("decide", "verdict") or kind not in ("shown", "larger", "none"):
-                continue
-            asked += 1
-            found, taken = run_mona(to_mona(bytes.fromhex(words[1])), limit)
-            total += taken
-            if found is None:
-                gave_up += 1
-                print(f"{name}:{number}: no verdict after {taken:.1f} s, expected {kind}")
-            elif found == (kind != "none"):
-                agreed += 1
-            else:
-                print(f"{name}:{number}: MONA says {'' if found else 'un'}satisfiable, expected {kind}")
-    print(f"{asked} rules, {agreed} agree, {gave_up} without verdict, {total:.1f} s in MONA")
+            for text, expected in questions(line):
+                asked += 1
+                found, taken = run_mona(text, limit)
+                total += taken
+                agreed += found == expected
+                gave_up += found is None
+                if found is None:
+                    print(f"{name}:{number}: no verdict from MONA in {limit:g} s")
+                elif found != expected:
+                    print(f"{name}:{number}: satisfiable: MONA {found}, here {expected}\n{text}")
+    print(f"{asked} questions, {agreed} agree, {gave_up} without verdict, {total:.1f} s in MONA")
     return agreed + gave_up == asked and agreed > 0
 
 
