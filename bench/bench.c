@@ -243,7 +243,6 @@ int main(int argc, char **argv)
 {
     const char *once = NULL;
     bool heading = false;
-    /* Touched beforehand, so that no row pays for its pages. */
     workspace = mmap(NULL, MOST_WORKSPACE, PROT_READ | PROT_WRITE, MAP_PRIVATE | MAP_ANONYMOUS, -1, 0);
     if (workspace == MAP_FAILED)
         stop("workspace", strerror(errno));
@@ -275,7 +274,7 @@ int main(int argc, char **argv)
         if (once)
             return run_once(once, argv[i]);
         if (!heading) {
-            memset(workspace, 1, MOST_WORKSPACE);
+            memset(workspace, 1, MOST_WORKSPACE); /* so that no row pays for its pages */
             printf("%-28s %6s %14s %14s %8s\n", "", "calls", "library us", "oracle us", "ratio");
             heading = true;
         }
