@@ -20,7 +20,6 @@ pub mod Depth
 pub mod Rules
 pub mod Assignments
 pub mod Answers
-pub mod Examples
 pub mod Alike
 pub mod Builders
 pub mod Two

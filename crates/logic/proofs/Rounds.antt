@@ -230,3 +230,30 @@ module _ {k : ℕ} (M : Machine k ℕ) (ls : List ℕ) where
     pub reach-all : (q : ℕ) → Reached M ls q → T (elem q (reach M ls d))
     reach-all q started = reach-start
     reach-all q (stepped l t s h) = reach-closed l t s (λ b. reach-all (s b) (h b))
+
+-- ---- the start is state 0
+add-front : (q : ℕ) (qs L : List ℕ) → (R : List ℕ) × (add qs (q ∷ L) ≡ q ∷ R)
+unfolding add
+add-front q [] L = (L, refl)
+add-front q (r ∷ qs) L = go (elem r (q ∷ L)) (add-front q qs L) (add-front q qs (L ++ (r ∷ [])))
+  where
+    go : (v : Bool) → (R : List ℕ) × (add qs (q ∷ L) ≡ q ∷ R) → (R : List ℕ) × (add qs (q ∷ (L ++ (r ∷ []))) ≡ q ∷ R)
+        → (R : List ℕ) × (add qs (cond v (q ∷ L) ((q ∷ L) ++ (r ∷ []))) ≡ q ∷ R)
+    go true a b = a
+    go false a b = b
+
+closure-front : (F : List ℕ → List ℕ) (d q : ℕ) (L : List ℕ) → (R : List ℕ) × (closure F d (q ∷ L) ≡ q ∷ R)
+unfolding closure
+closure-front F zero q L = (L, refl)
+closure-front F (suc d) q L =
+    let w = add-front q (F (q ∷ L)) L in
+    let x = closure-front F d q (w .0) in
+    go (eqb (length (add (F (q ∷ L)) (q ∷ L))) (length (q ∷ L))) (x .0, ap (closure F d) (w .1) ∙ x .1)
+  where
+    go : (v : Bool) → (R : List ℕ) × (closure F d (add (F (q ∷ L)) (q ∷ L)) ≡ q ∷ R) → (R : List ℕ) × (cond v (q ∷ L) (closure F d (add (F (q ∷ L)) (q ∷ L))) ≡ q ∷ R)
+    go true r = (L, refl)
+    go false r = r
+
+pub reach-front : {k : ℕ} (M : Machine k ℕ) (ls : List ℕ) (d : ℕ) → (R : List ℕ) × (reach M ls d ≡ M .start ∷ R)
+unfolding reach
+reach-front M ls d = closure-front (λ L. successors M ls (λ b. L)) d (M .start) []

@@ -8,17 +8,19 @@ use native.Mathlib.Omega.{arith}
 use native.Mathlib.Nat.{div-lt-iff-lt-mul, mod-lt}
 use lib.Arith.{digits-lt, digits-div, digits-mod}
 use lib.Dec.{T}
+use borrow.Author.Tests.{eq-eqb}
 use Rattle.logic.specs.Meaning.{Branch, Formula, subset, singleton, successor, root, negation, disjunction, conjunction, exists, Holds}
 use Rattle.logic.specs.Tree.{branches, bit}
 use Rattle.logic.specs.Machine.{Machine, Decides, complement, product, Simulates, bitOf, anyOf}
 use Rattle.logic.specs.Atom.{subsetMachine, singletonMachine, successorMachine, rootMachine, successorStep, idle, alone}
-use Rattle.logic.specs.Reach.{projection, below, Reached, started, stepped}
+use Rattle.logic.specs.Reach.{projection, below, Reached, started, stepped, position, numbered}
 use Rattle.logic.specs.Table.{Table, codedProduct, build, productTable, projectionTable, complementTable, table}
 use Rattle.logic.proofs.Bits.{bitOf-small}
 use Rattle.logic.proofs.Connectives.{decides-negation, decides-disjunction, decides-conjunction, decides-simulated}
 use Rattle.logic.proofs.Atoms.{decides-subset, decides-singleton, decides-successor, decides-root}
 use Rattle.logic.proofs.Exists.{decides-exists}
 use Rattle.logic.specs.Alike.{Bounded}
+use Rattle.logic.proofs.Rounds.{reach-front}
 use Rattle.logic.proofs.Numbered.{build-bounded, build-decides}
 use Rattle.logic.proofs.Counts.{build-states}
 use Rattle.logic.proofs.Projection.{In, projection-bounded, projection-projects}
@@ -129,3 +131,21 @@ module _ {k : ℕ} (n : ℕ) where
       let r = table-right f (v .0) in let q = table-right g (v .1) in
       pair-right _&&_ (conjunction f g) (table n f) (table n g) (r .0) (q .0) (decides-conjunction n ((table n f) .machine) f (r .1) ((table n g) .machine) g (q .1))
   table-right (exists x f) v = projection-right x f (table n f) (v .0) (table-right f (v .1))
+
+-- state 0 is the state of the empty tree
+built-zero : {k : ℕ} (n d : ℕ) (M : Machine k ℕ) → (build n d M) .machine .start ≡ 0
+unfolding build numbered position
+built-zero n d M =
+    let w = reach-front M (below (2 ^ n)) d in
+    ap (λ (L : List ℕ). position (M .start) L) (w .1) ∙ rw (eq-eqb (M .start) (M .start) refl)
+
+pub start-zero : {k : ℕ} (n : ℕ) (f : Formula k) → (table n f) .machine .start ≡ 0
+unfolding table complementTable productTable projectionTable
+start-zero n (subset x y) = built-zero n 2 (subsetMachine n x y)
+start-zero n (singleton x) = built-zero n 3 (singletonMachine n x)
+start-zero n (successor i x y) = built-zero n 4 (successorMachine n i x y)
+start-zero n (root x) = built-zero n 3 (rootMachine n x)
+start-zero n (negation f) = start-zero n f
+start-zero n (disjunction f g) = built-zero n _ (codedProduct _||_ ((table n g) .count) ((table n f) .machine) ((table n g) .machine))
+start-zero n (conjunction f g) = built-zero n _ (codedProduct _&&_ ((table n g) .count) ((table n f) .machine) ((table n g) .machine))
+start-zero n (exists x f) = built-zero n _ (projection n x ((table n f) .count) ((table n f) .machine))

@@ -9,3 +9,4 @@ pub mod RuleLaws
 pub mod TreePack
 pub mod TreeLaws
 pub mod TreeWalk
+pub mod Examples

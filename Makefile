@@ -1,0 +1,68 @@
+# Chrastoun: build, run, test, measure, install. `make help` lists the targets.
+CC ?= cc
+CFLAGS ?= -std=c11 -Wall -Wextra -O2
+PREFIX ?= /usr/local
+RULE ?= samples/first_inside.rul
+VERSION := 1.0.0
+
+LIB := target/staticlib/libws2s.a
+HOST := target/host
+SOURCES := $(wildcard crates/*/src/*.rt crates/*/specs/*.antt crates/*/proofs/*.antt) crates.txt
+INCLUDES := -Iinclude -Itests/oracle
+VECTORS := $(wildcard tests/vectors/base/*.txt)
+
+.PHONY: help run test host-test attack example bench install clean
+.DELETE_ON_ERROR:
+
+help:
+	@echo 'make run [RULE=file]   prove and build the verdict program, and decide a rule strip'
+	@echo 'make test              the gate: prove everything from nothing and run every test'
+	@echo 'make host-test         build the C library and run the vectors and a short attack through it'
+	@echo 'make attack            a longer attack [SEED=n CALLS=n]'
+	@echo 'make example [RULE=f]  the example host program on a rule strip'
+	@echo 'make bench             the library beside unproved code and, where it is installed, MONA'
+	@echo 'make install PREFIX=p  header, archive, pkg-config file, verdict program, manual pages'
+
+run: target/bin/verdict
+	@target/bin/verdict < $(RULE)
+
+target/bin/verdict: $(SOURCES) crates/verdict/src/main.rt
+	rt check verdict > target-verdict.log 2>&1 || { cat target-verdict.log; rm -f target-verdict.log; exit 1; }
+	@rm -f target-verdict.log
+
+$(LIB): $(SOURCES)
+	rt staticlib ws2s
+
+test:
+	.ci/run
+
+$(HOST)/vectors: tests/host/vectors.c tests/host/lent.h include/ws2s.h $(LIB)
+	@mkdir -p $(HOST)
+	$(CC) $(CFLAGS) $(INCLUDES) $< $(LIB) -o $@
+
+$(HOST)/attack: tests/host/attack.c tests/host/lent.h tests/oracle/oracle.c tests/oracle/oracle.h include/ws2s.h $(LIB)
+	@mkdir -p $(HOST)
+	$(CC) $(CFLAGS) $(INCLUDES) $< tests/oracle/oracle.c $(LIB) -o $@
+
+$(HOST)/bench: bench/bench.c tests/oracle/oracle.c tests/oracle/oracle.h include/ws2s.h $(LIB)
+	@mkdir -p $(HOST)
+	$(CC) $(CFLAGS) $(INCLUDES) $< tests/oracle/oracle.c $(LIB) -o $@
+
+$(HOST)/example: examples/host.c include/ws2s.h $(LIB)
+	@mkdir -p $(HOST)
+	$(CC) $(CFLAGS) $(INCLUDES) $< $(LIB) -o $@
+
+host-test: $(HOST)/vectors $(HOST)/attack
+	$(HOST)/vectors $(VECTORS) tests/vectors/heavy.txt
+	$(HOST)/attack 1 200000
+
+SEED ?= 2
+CALLS ?= 5000000
+attack: $(HOST)/attack
+	$(HOST)/attack $(SEED) $(CALLS)
+
+example: $(HOST)/example
+	$(HOST)/example $(RULE)
+
+clean:
+	rm -rf target
