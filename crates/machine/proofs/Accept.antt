@@ -9,15 +9,15 @@ use native.Mathlib.Omega.{arith}
 use borrow.Author.Tests.{lt-ltb}
 use lib.Dec.{ltb}
 use lib.ListN.{length, getD}
+use Rattle.machine.proofs.Any.{and-both, any-true, any-in}
 use Rattle.machine.specs.Explore.{explore}
 use Rattle.machine.proofs.Found.{Ok, explore-ok}
 use Rattle.machine.specs.Word.{mem, any}
-use Rattle.machine.proofs.WordLaws.{word-mem, any-in}
+use Rattle.machine.proofs.WordLaws.{word-mem}
 use Rattle.machine.specs.Succ.{Step, notCode, pairCode, existsCode, closeCode, kindCode, wordFound}
 use Rattle.machine.specs.Machine.{startCode, codesOf, stepOf, acceptBy, acceptOf, Bit}
-use Rattle.machine.proofs.Held.{any-true}
 use Rattle.machine.proofs.Run.{Tree, empty, node, codeOf, stateOf, Labelled, run-code}
-use Rattle.machine.proofs.Exists.{Cover, cover-state, cover-mem, mem-cover, and-both}
+use Rattle.machine.proofs.Exists.{Cover, cover-state, cover-mem, mem-cover}
 use Rattle.machine.specs.declared.explore.Kind.{Kind}
 use Rattle.machine.specs.declared.explore.Kind.the-variants.{Not, Or, And, Exists}
 

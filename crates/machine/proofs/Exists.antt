@@ -10,16 +10,16 @@ use native.Mathlib.Omega.{arith}
 use borrow.Author.Tests.{eqb-true, eq-eqb}
 use lib.Dec.{eqb}
 use lib.ListN.{length, getD}
+use Rattle.machine.proofs.Any.{or-cases, and-both, any-true, any-in}
 use Rattle.machine.specs.Explore.{explore, place}
 use Rattle.machine.proofs.Place.{place-at}
 use Rattle.machine.proofs.Pigeon.{pigeon}
 use Rattle.machine.proofs.Found.{Reach, at-start, by-step, Codes, Ok, explore-ok, explore-closed, complete}
 use Rattle.machine.proofs.Cong.{reach-valid}
 use Rattle.machine.specs.Word.{mem, wordOf, any}
-use Rattle.machine.proofs.WordLaws.{word-mem, any-in}
+use Rattle.machine.proofs.WordLaws.{word-mem}
 use Rattle.machine.specs.Succ.{Step, off, on, hit, hitRow, hitSet, existsCode, closeCode, wordFound, wordCodes}
 use Rattle.machine.specs.Machine.{Bit}
-use Rattle.machine.proofs.Held.{any-true}
 use Rattle.machine.proofs.Run.{Tree, empty, node, codeOf, stateOf, Labelled}
 
 -- a tree with no member but of the variable whose bit has weight w
@@ -33,14 +33,6 @@ pub data Cover (w : ℕ) : Tree → Tree → Type 0 where
   cover-empty : {t : Tree} → Only w t → Cover w empty t
   cover-off : {l : ℕ} {t t′ u u′ : Tree} → Cover w t t′ → Cover w u u′ → Cover w (node l t u) (node (off w l) t′ u′)
   cover-on : {l : ℕ} {t t′ u u′ : Tree} → Cover w t t′ → Cover w u u′ → Cover w (node l t u) (node (on w l) t′ u′)
-
-or-cases : (a b : Bool) → (a || b) ≡ true → (a ≡ true) ⊎ (b ≡ true)
-or-cases true b e = inl refl
-or-cases false b e = inr e
-
-pub and-both : (a b : Bool) → (a && b) ≡ true → (a ≡ true) × (b ≡ true)
-and-both true b e = (refl, e)
-and-both false b e = let z : _≡_ {A = ℕ} 0 1 = cc in absurd (omega arith)
 
 module _ (f : Step) (n c labels w : ℕ) (zero-in : 0 < n) (few : n ≤ 64) (room : n ≤ c) (bit : Bit w labels) (step-in : (l i j : ℕ) → l < labels → i < n → j < n → f l i j < n) where
   close-at : (b x y : ℕ) → b < 2 → x < n → y < n → closeCode f w b x y ≡ f (b * w) x y

@@ -11,44 +11,16 @@ use native.Mathlib.Omega.{arith}
 use borrow.Author.Tests.{eqb-true}
 use lib.ListN.{length, getD}
 use lib.Dec.{eqb}
+use Rattle.machine.proofs.Any.{or-cases, and-both, and-cong, any-cong, any-true}
 use Rattle.machine.specs.Explore.{explore}
 use Rattle.machine.proofs.Found.{Reach, at-start, by-step, Ok, explore-ok}
 use Rattle.machine.proofs.Cong.{reach-valid, explore-cong}
 use Rattle.machine.specs.Word.{mem, wordOf, any}
-use Rattle.machine.proofs.WordLaws.{word-mem, word-lt, mem-zero}
+use Rattle.machine.proofs.WordLaws.{word-mem, word-lt, mem-zero, word-cong}
 use Rattle.machine.specs.Succ.{Step, entry, notCode, pairCode, off, on, hit, hitRow, hitSet, existsCode, closeCode, kindCode, startBy, wordFound, wordCodes}
 use Rattle.machine.specs.Machine.{startCode, codesOf, stepOf, Holds, Bit}
 use Rattle.machine.specs.declared.explore.Kind.{Kind}
 use Rattle.machine.specs.declared.explore.Kind.the-variants.{Subset, Single, Child1, Child2, Root, Not, Or, And, Exists, Close}
-
--- ---- any
-pub any-cong : (f g : ℕ → Bool) (n : ℕ) → ((i : ℕ) → i < n → f i ≡ g i) → any f n ≡ any g n
-unfolding any
-any-cong f g zero h = refl
-any-cong f g (suc n) h = ap₂ _||_ (any-cong f g n (λ i l. h i (omega arith))) (h n (omega arith))
-
-or-true-cases : (a b : Bool) → (a || b) ≡ true → (a ≡ true) ⊎ (b ≡ true)
-or-true-cases true b e = inl refl
-or-true-cases false b e = inr e
-
-and-true-both : (a b : Bool) → (a && b) ≡ true → (a ≡ true) × (b ≡ true)
-and-true-both true b e = (refl, e)
-and-true-both false b e = let z : _≡_ {A = ℕ} 0 1 = cc in absurd (omega arith)
-
-pub any-true : (f : ℕ → Bool) (n : ℕ) → any f n ≡ true → (i : ℕ) × (i < n) × (f i ≡ true)
-unfolding any
-any-true f zero e = let z : _≡_ {A = ℕ} 0 1 = cc in absurd (omega arith)
-any-true f (suc n) e =
-    ⊎-elim (λ (a : any f n ≡ true). let r = any-true f n a in (r .0, omega (arith, r .1), r .2)) (λ (b : f n ≡ true). (n, omega arith, b)) (or-true-cases (any f n) (f n) e)
-
-and-cong : (a b c : Bool) → (a ≡ true → b ≡ c) → (a && b) ≡ (a && c)
-and-cong true b c h = h refl
-and-cong false b c h = refl
-
-word-cong : (f g : ℕ → Bool) (k : ℕ) → ((q : ℕ) → f q ≡ g q) → wordOf f k ≡ wordOf g k
-unfolding wordOf
-word-cong f g zero h = refl
-word-cong f g (suc k) h = ap₂ (λ (a : ℕ) (b : Bool). a * 2 + Rattle.machine.specs.Word.digit b) (word-cong (λ (q : ℕ). f (suc q)) (λ (q : ℕ). g (suc q)) k (λ q. h (suc q))) (h zero)
 
 -- ---- codes that stand for states of the parts
 abbrev pub Valid : Kind → ℕ → ℕ → ℕ → Type 0
@@ -83,7 +55,7 @@ module _ (labels n : ℕ) (e f : Step) (few : n ≤ 64) (same : (l i j : ℕ) �
       ⊎-elim
       (λ (a : eqb (f l i j % 64) q ≡ true). let s = same l i j hl hi hj in omega (arith, eqb-true (f l i j % 64) q a, s .1))
       (λ (b : eqb (f m i j % 64) q ≡ true). let s = same m i j hm hi hj in omega (arith, eqb-true (f m i j % 64) q b, s .1))
-      (or-true-cases (eqb (f l i j % 64) q) (eqb (f m i j % 64) q) t)
+      (or-cases (eqb (f l i j % 64) q) (eqb (f m i j % 64) q) t)
 
   module _ (w : ℕ) (bit : Bit w labels) (l x y : ℕ) (hl : l < labels) (hx : (i : ℕ) → i < 64 → mem i x ≡ true → i < n) (hy : (i : ℕ) → i < 64 → mem i y ≡ true → i < n) where
     pub exists-cong : existsCode e w l x y ≡ existsCode f w l x y
@@ -101,9 +73,9 @@ module _ (labels n : ℕ) (e f : Step) (few : n ≤ 64) (same : (l i j : ℕ) �
     exists-below q hq t =
         let a : any (hitSet f (off w l) (on w l) x y q) 64 ≡ true = sym (word-mem 64 q (λ (q : ℕ). any (hitSet f (off w l) (on w l) x y q) 64) hq) ∙ t in
         let i = any-true (hitSet f (off w l) (on w l) x y q) 64 a in
-        let bi = and-true-both (mem (i .0) x) (any (hitRow f (off w l) (on w l) y q (i .0)) 64) (i .2) in
+        let bi = and-both (mem (i .0) x) (any (hitRow f (off w l) (on w l) y q (i .0)) 64) (i .2) in
         let j = any-true (hitRow f (off w l) (on w l) y q (i .0)) 64 (bi .1) in
-        let bj = and-true-both (mem (j .0) y) (hit f (off w l) (on w l) q (i .0) (j .0)) (j .2) in
+        let bj = and-both (mem (j .0) y) (hit f (off w l) (on w l) q (i .0) (j .0)) (j .2) in
         hit-below (off w l) (on w l) q (i .0) (j .0) (bit .off-label l hl) (bit .on-label l hl) (hx (i .0) (i .1) (bi .0)) (hy (j .0) (j .1) (bj .0)) (bj .1)
 
 -- ---- a record's machine

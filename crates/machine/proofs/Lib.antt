@@ -1,4 +1,5 @@
 pub mod Accept
+pub mod Any
 pub mod AtomRuns
 pub mod Cong
 pub mod Exists
@@ -11,6 +12,7 @@ pub mod Loops
 pub mod Members
 pub mod Pigeon
 pub mod Place
+pub mod RowLaws
 pub mod Rules
 pub mod Run
 pub mod Sat

@@ -18,7 +18,7 @@ use Rattle.machine.specs.Table.{listed, addr, Room, Cell, Explored}
 use Rattle.machine.specs.Succ.{Step, entry, kindCode, closeCode, successorOf, succIn, startOf, startBy, existsStart, closing}
 use Rattle.machine.specs.Machine.{startCode, codesOf, stepOf, acceptBy, acceptOf, Holds, Bit}
 use Rattle.machine.proofs.Found.{Ok, explore-ok}
-use Rattle.machine.proofs.Held.{Part, Parts, Same, record-same, any-cong}
+use Rattle.machine.proofs.Held.{Part, Parts, Same, record-same}
 use Rattle.machine.specs.Rule.{Mach, noMach, Outcome, built, over, machFrom, more, after, planOf, Fits, Before, Sound, At, Made}
 use Rattle.machine.specs.declared.explore.Kind.{Kind}
 use Rattle.machine.specs.declared.explore.Kind.the-variants.{Subset, Single, Child1, Child2, Root, Not, Or, And, Exists, Close}

@@ -1,6 +1,7 @@
 pub mod Explore
 pub mod Table
 pub mod Succ
+pub mod Rows
 pub mod Word
 pub mod Machine
 pub mod Rule

@@ -1,19 +1,19 @@
 // The exploration of a record's states: one for every kind of record, which differ in the successor and the start.
-ghost use mathlib.Core.Bool.{_||_};
 ghost use mathlib.Core.Path.{_≡_};
 ghost use Prim.Native.Nat.{ℕ, _+_, _≤_, _<_};
 ghost use lib.ListN.{length, getD, take};
 ghost use Rattle.machine.specs.Explore.{place, insert};
-ghost use Rattle.machine.specs.Succ.{entry, notCode, pairCode, hitRow, existsCode, closeCode, successorOf, succIn, wordFound, existsStart, startOf};
+ghost use Rattle.machine.specs.Rows.{GivenBy, Serves};
+ghost use Rattle.machine.specs.Succ.{entry, notCode, pairCode, closeCode, successorOf, succIn, wordFound, existsStart, startOf};
 ghost use Rattle.machine.specs.Table.{listed, addr, Room, Visited, Rowed, Ringed, Nexted, Explored, Kept};
-ghost use Rattle.machine.specs.Word.{mem, any};
 use crate::atoms::atom_index;
 use crate::atoms::child1_at;
 use crate::atoms::child2_at;
 use crate::atoms::root_at;
 use crate::atoms::single_at;
 use crate::atoms::subset_at;
-use crate::words::next_member;
+use crate::rows::rows_of;
+use crate::rows::union_of;
 use crate::words::with_member;
 
 // The codes found so far, in the order of discovery: those below count, where count is at most the ceiling. A count above the
@@ -60,13 +60,11 @@ pub struct Plan {
     pub base: usize,
 }
 
-// Where x stands among the codes; the count where it does not.
-pub fn find(b: Builder, x: u64) -> usize
-    requires { ⌜ b .count ≤ 64 ⌝ }
-    ensures { λ r. ⌜ r ≡ place x (take (b .count) (b .codes)) ⌝ }
+// Where x stands among the first codes; their count where it does not.
+pub fn find(codes: &[u64; 64], count: usize, x: u64) -> usize
+    requires { ⌜ (count ≤ 64) × (length (now codes) ≡ 64) ⌝ }
+    ensures { λ r. ⌜ r ≡ place x (take count (now (codes .entry))) ⌝ }
 {
-    let codes = b.codes;
-    let count = b.count;
     let mut i = 0;
     while i < count {
         if codes[i] == x {
@@ -147,37 +145,6 @@ pub fn pair_code(low: &[u8], c: usize, a: usize, b: usize, l: usize, x: u64, y: 
     first * 64 + second
 }
 
-// The set s with the states that follow state i and a member of y under the labels l and m.
-pub fn row_word(low: &[u8], c: usize, a: usize, l: usize, m: usize, i: usize, y: u64, s: u64) -> u64
-    requires { ⌜ (c ≤ 64) × (l < 512) × (m < 512) × (i < 64) × (a < 4294967296) ⌝ }
-    ensures { λ r. ⌜ ((q : ℕ) → mem q r ≡ (mem q s || any (hitRow (entry (now (low .entry)) c a) l m y q i) 64)) ⌝ }
-{
-    let mut r = s;
-    let mut j = next_member(y, 0);
-    while j < 64 {
-        r = with_member(r, entry_at(low, c, a, l, i, j));
-        r = with_member(r, entry_at(low, c, a, m, i, j));
-        j = next_member(y, j + 1);
-    }
-    r
-}
-
-// The successor for "exists", where w is the weight of the bound variable's bit.
-pub fn exists_code(low: &[u8], c: usize, a: usize, w: usize, l: usize, x: u64, y: u64) -> u64
-    requires { ⌜ (c ≤ 64) × (l < 256) × (a < 4294967296) × (0 < w) × (w ≤ 128) ⌝ }
-    ensures { λ r. ⌜ r ≡ existsCode (entry (now (low .entry)) c a) w l x y ⌝ }
-{
-    let off = l / (2 * w) * (2 * w) + l % w;
-    let on = off + w;
-    let mut r: u64 = 0;
-    let mut i = next_member(x, 0);
-    while i < 64 {
-        r = row_word(low, c, a, off, on, i, y, r);
-        i = next_member(x, i + 1);
-    }
-    r
-}
-
 // The successor for the start of "exists": label 0 with the bound bit v.
 pub fn close_code(low: &[u8], c: usize, a: usize, w: usize, v: usize, x: u64, y: u64) -> u64
     requires { ⌜ (c ≤ 64) × (v < 256) × (a < 4294967296) × (0 < w) × (w ≤ 128) ⌝ }
@@ -186,10 +153,11 @@ pub fn close_code(low: &[u8], c: usize, a: usize, w: usize, v: usize, x: u64, y:
     entry_at(low, c, a, v % 2 * w, (x % 64) as usize, (y % 64) as usize)
 }
 
-// The successor by the kind of record.
-pub fn successor(low: &[u8], p: Plan, l: usize, x: u64, y: u64) -> u64
+// The successor of x and y by the kind of record; for "exists" it is the union of what the row has at the members of z.
+pub fn successor(low: &[u8], p: Plan, l: usize, x: u64, y: u64, row: &[u64; 64], z: u64) -> u64
     requires { ⌜ (p .c ≤ 64) × (l < 256) × (p .first < 4294967296) × (p .second < 4294967296) ⌝ }
     requires { ⌜ (0 < p .wx) × (p .wx ≤ 128) × (0 < p .wy) × (p .wy ≤ 128) ⌝ }
+    requires { ⌜ GivenBy (p .kind) (entry (now low) (p .c) (p .first)) (p .wx) l x y (now row) z ⌝ }
     ensures { λ r. ⌜ r ≡ successorOf (now (low .entry)) p l x y ⌝ }
 {
     let kind = p.kind;
@@ -207,15 +175,16 @@ pub fn successor(low: &[u8], p: Plan, l: usize, x: u64, y: u64) -> u64
         Kind::Not => not_code(low, c, a, l, x, y),
         Kind::Or => pair_code(low, c, a, b, l, x, y),
         Kind::And => pair_code(low, c, a, b, l, x, y),
-        Kind::Exists => exists_code(low, c, a, wx, l, x, y),
+        Kind::Exists => union_of(row, z),
         Kind::Close => close_code(low, c, a, wx, l, x, y),
     }
 }
 
-// The successor of states i and j under label l is put in and written to the table.
-pub fn visit_pair(ws: &mut [u8], p: Plan, b: Builder, l: usize, i: usize, j: usize) -> Builder
+// The successor x of states i and j under label l is put in and written to the table.
+pub fn enter(ws: &mut [u8], p: Plan, b: Builder, l: usize, i: usize, j: usize, x: u64) -> Builder
     requires { ⌜ Room p (length (now ws)) ⌝ }
     requires { ⌜ (l < p .labels) × (i < b .count) × (j < b .count) × (b .count ≤ p .c + 1) ⌝ }
+    requires { ⌜ (b .count ≤ p .c → x ≡ succIn (now ws) p l (getD (b .codes) i 0) (getD (b .codes) j 0)) ⌝ }
     ensures { λ r. ⌜ Visited (succIn (now (ws .entry)) p) p b r (now (ws .entry)) (now (ws .exit)) l i j ⌝ }
 {
     let c = p.c;
@@ -225,11 +194,41 @@ pub fn visit_pair(ws: &mut [u8], p: Plan, b: Builder, l: usize, i: usize, j: usi
         return b;
     }
     let codes = b.codes;
-    let x = successor(&ws[..base], p, l, codes[i], codes[j]);
-    let at = find(b, x);
+    let at = find(&codes, count, x);
     let r = put(b, x, at, c);
     let k = base + cell(c, l, i, j);
     ws[k] = at as u8;
+    r
+}
+
+// The pairs of state k with those up to k, both ways, under label l, by the rows of state k.
+pub fn visit_pairs(
+    ws: &mut [u8],
+    p: Plan,
+    b: Builder,
+    l: usize,
+    k: usize,
+    left: &[u64; 64],
+    right: &[u64; 64],
+) -> Builder
+    requires { ⌜ Room p (length (now ws)) ⌝ }
+    requires { ⌜ (l < p .labels) × (k < b .count) × (b .count ≤ p .c) ⌝ }
+    requires { ⌜ Serves (p .kind) (entry (take (p .base) (now ws)) (p .c) (p .first)) (p .wx) l (b .codes) k (now left) (now right) ⌝ }
+    ensures { λ r. ⌜ Rowed (succIn (now (ws .entry)) p) p b r (now (ws .entry)) (now (ws .exit)) l k (k + 1) ⌝ }
+{
+    let base = p.base;
+    let codes = b.codes;
+    let new = codes[k];
+    let mut r = b;
+    let mut i = 0;
+    while i <= k {
+        let old = codes[i];
+        let x = successor(&ws[..base], p, l, old, new, right, old);
+        r = enter(ws, p, r, l, i, k, x);
+        let y = successor(&ws[..base], p, l, new, old, left, old);
+        r = enter(ws, p, r, l, k, i, y);
+        i += 1;
+    }
     r
 }
 
@@ -239,14 +238,17 @@ pub fn visit_row(ws: &mut [u8], p: Plan, b: Builder, l: usize, k: usize) -> Buil
     requires { ⌜ (l < p .labels) × (k < b .count) × (b .count ≤ p .c + 1) ⌝ }
     ensures { λ r. ⌜ Rowed (succIn (now (ws .entry)) p) p b r (now (ws .entry)) (now (ws .exit)) l k (k + 1) ⌝ }
 {
-    let mut r = b;
-    let mut i = 0;
-    while i <= k {
-        r = visit_pair(ws, p, r, l, i, k);
-        r = visit_pair(ws, p, r, l, k, i);
-        i += 1;
+    let c = p.c;
+    let base = p.base;
+    let count = b.count;
+    if c < count {
+        return b;
     }
-    r
+    let codes = b.codes;
+    let rows = rows_of(&ws[..base], p, l, &codes, k);
+    let left = rows.left;
+    let right = rows.right;
+    visit_pairs(ws, p, b, l, k, &left, &right)
 }
 
 // The pairs of state k with those up to k, both ways, under every label.
@@ -306,13 +308,13 @@ pub fn word_found(b: Builder, c: usize) -> u64
     ensures { λ r. ⌜ r ≡ wordFound (listed c b) ⌝ }
 {
     let codes = b.codes;
-    let count = b.count;
-    if c < count {
+    let n = b.count;
+    if c < n {
         return 0;
     }
     let mut r: u64 = 0;
     let mut i = 0;
-    while i < count {
+    while i < n {
         r = with_member(r, codes[i]);
         i += 1;
     }

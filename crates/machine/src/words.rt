@@ -1,9 +1,10 @@
 // Sets of states, numbers below 64, as 64-bit words.
-ghost use mathlib.Core.Bool.{_||_, _&&_};
+ghost use mathlib.Core.Bool.{true, _||_, _&&_};
 ghost use mathlib.Core.Path.{_≡_};
 ghost use Prim.Native.Nat.{ℕ, _%_, _≤_, _<_};
+ghost use lib.Count.{ones};
 ghost use lib.Dec.{eqb};
-ghost use Rattle.machine.specs.Word.{mem, any, Member};
+ghost use Rattle.machine.specs.Word.{mem, any, Smallest, Without};
 
 // Is q a member of the set w?
 pub fn has(w: u64, q: usize) -> bool
@@ -20,24 +21,39 @@ pub fn with_member(x: u64, e: u64) -> u64
     x | (1 << (e % 64))
 }
 
-// The smallest member of x from a number on; 64 where there is none.
-pub fn next_member(x: u64, from: usize) -> usize
-    requires { ⌜ from ≤ 64 ⌝ }
-    ensures { λ r. ⌜ Member x from r ⌝ }
+// The members of x and those of y.
+pub fn union(x: u64, y: u64) -> u64
+    ensures { λ r. ⌜ ((q : ℕ) → mem q r ≡ (mem q x || mem q y)) ⌝ }
 {
-    if 64 <= from {
-        return 64;
-    }
-    let rest = x >> from;
-    if rest == 0 {
-        return 64;
-    }
-    from + (u64::trailing_zeros(rest) as usize)
+    x | y
+}
+
+// How many members w has.
+pub fn size(w: u64) -> usize
+    ensures { λ r. ⌜ r ≡ ones w ⌝ }
+{
+    u64::count_ones(w) as usize
+}
+
+// The smallest member of w, which has one.
+pub fn smallest(w: u64) -> usize
+    requires { ⌜ 0 < w ⌝ }
+    ensures { λ r. ⌜ Smallest w r ⌝ }
+{
+    u64::trailing_zeros(w) as usize
+}
+
+// The set w without its member q.
+pub fn without(w: u64, q: usize) -> u64
+    requires { ⌜ (q < 64) × (mem q w ≡ true) ⌝ }
+    ensures { λ r. ⌜ Without w q r ⌝ }
+{
+    w - (1 << q)
 }
 
 // Have the sets x and y a common member?
 pub fn meet(x: u64, y: u64) -> bool
     ensures { λ r. ⌜ r ≡ any (λ (q : ℕ). mem q x && mem q y) 64 ⌝ }
 {
-    next_member(x & y, 0) < 64
+    (x & y) != 0
 }

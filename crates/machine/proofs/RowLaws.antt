@@ -1,0 +1,83 @@
+-- The rows of "exists": their filling, and the successors that their unions are. Assumes nothing.
+use Prim.Native.Nat.{ℕ, zero, suc, _+_, _-_, _*_, _/_, _%_, _^_, _≤_, _<_}
+use mathlib.Core.Bool.{Bool, true, false, _&&_, _||_}
+use mathlib.Core.List.{List}
+use mathlib.Core.Path.{_≡_, refl, sym, ap, _∙_, subst}
+use native.Mathlib.Decide.{ℕ-discrete}
+use native.Mathlib.Omega.{arith}
+use borrow.Author.Tests.{ne-eqb}
+use lib.Count.{ones}
+use lib.Dec.{eqb}
+use lib.ListN.{length, getD, set, length-set}
+use lib.Seq.{getD-set-same, getD-set-other}
+use Rattle.machine.specs.Rows.{hitColumn, unionOf, Follows, Serves}
+use Rattle.machine.specs.Succ.{Step, off, on, hit, hitRow, hitSet, existsCode}
+use Rattle.machine.specs.declared.explore.Kind.the-variants.{Exists}
+use Rattle.machine.specs.Word.{mem, any, wordOf, Without}
+use Rattle.machine.proofs.Any.{and-cong, any-cong, any-in, any-swap}
+use Rattle.machine.proofs.Members.{none-in}
+use Rattle.machine.proofs.WordLaws.{word-cong}
+
+-- the rows are right at the states of `seen` that are not in `rest`, which has n members
+pub record Filling (f : Step) (l m s seen rest n : ℕ) (left right : List ℕ) : Type 0 where
+  pub size : n ≡ ones rest
+  pub long-left : length left ≡ 64
+  pub long-right : length right ≡ 64
+  pub done : (t : ℕ) → mem t seen ≡ true → mem t rest ≡ false → Follows f l m s t left right
+
+pub filling-first : (f : Step) (l m s seen n : ℕ) (left right : List ℕ) → n ≡ ones seen → length left ≡ 64 → length right ≡ 64 → Filling f l m s seen seen n left right
+filling-first f l m s seen n left right e hl hr =
+    record { size = e; long-left = hl; long-right = hr; done = λ t a b. let z : _≡_ {A = ℕ} 0 1 = cc in absurd (omega arith) }
+
+pub filling-next : (f : Step) (l m s seen rest n : ℕ) (left right : List ℕ) (t rest′ x y : ℕ) → t < 64
+    → Filling f l m s seen rest n left right → Without rest t rest′
+    → ((q : ℕ) → mem q x ≡ any (hitColumn f l m s q t) 64) → ((q : ℕ) → mem q y ≡ any (hitRow f l m s q t) 64)
+    → Filling f l m s seen rest′ (n - 1) (set left t x) (set right t y)
+filling-next f l m s seen rest n left right t rest′ x y h w o ex ey = record {
+  size = omega (arith, w .size, o .less);
+  long-left = length-set left t x ∙ w .long-left;
+  long-right = length-set right t y ∙ w .long-right;
+  done = λ u a b. go u a b (ℕ-discrete u t);
+}
+  where
+    go : (u : ℕ) → mem u seen ≡ true → mem u rest′ ≡ false → Dec (u ≡ t) → Follows f l m s u (set left t x) (set right t y)
+    go u a b (yes e) = record {
+      after = λ q. rw (e, getD-set-same left t x 0 (omega (arith, w .long-left))) (ex q);
+      before = λ q. rw (e, getD-set-same right t y 0 (omega (arith, w .long-right))) (ey q);
+    }
+    go u a b (no n) =
+        let old = w .done u a (o .same u ∙ ap (λ (v : Bool). v || mem u rest′) (ne-eqb t u (λ e. n (sym e))) ∙ b) in
+        record {
+          after = λ q. rw (getD-set-other left t u x 0 n) (old .after q);
+          before = λ q. rw (getD-set-other right t u y 0 n) (old .before q);
+        }
+
+pub filling-last : (f : Step) (l m s seen rest : ℕ) (left right : List ℕ) → Filling f l m s seen rest 0 left right → (t : ℕ) → mem t seen ≡ true → Follows f l m s t left right
+filling-last f l m s seen rest left right w t a = w .done t a (none-in t rest (sym (w .size)))
+
+-- the union of the rows at the members of a set that was seen is the successor
+module _ (f : Step) (w l s seen : ℕ) (left right : List ℕ) (rows : (t : ℕ) → mem t seen ≡ true → Follows f (off w l) (on w l) s t left right) (x : ℕ) (within : (t : ℕ) → mem t x ≡ true → mem t seen ≡ true) where
+  pub right-is : unionOf right x ≡ existsCode f w l x s
+  unfolding unionOf existsCode
+  right-is =
+      word-cong (λ (q : ℕ). any (λ (t : ℕ). mem t x && mem q (getD right t 0)) 64) (λ (q : ℕ). any (hitSet f (off w l) (on w l) x s q) 64) 64 λ q.
+      any-cong (λ (t : ℕ). mem t x && mem q (getD right t 0)) (hitSet f (off w l) (on w l) x s q) 64 λ t h.
+      and-cong (mem t x) (mem q (getD right t 0)) (any (hitRow f (off w l) (on w l) s q t) 64) λ m.
+      rows t (within t m) .before q
+
+  pub left-is : unionOf left x ≡ existsCode f w l s x
+  unfolding unionOf existsCode
+  left-is =
+      word-cong (λ (q : ℕ). any (λ (t : ℕ). mem t x && mem q (getD left t 0)) 64) (λ (q : ℕ). any (hitSet f (off w l) (on w l) s x q) 64) 64 λ q.
+      any-cong (λ (t : ℕ). mem t x && mem q (getD left t 0)) (λ (t : ℕ). mem t x && any (hitColumn f (off w l) (on w l) s q t) 64) 64
+      (λ t h. and-cong (mem t x) (mem q (getD left t 0)) (any (hitColumn f (off w l) (on w l) s q t) 64) (λ m. rows t (within t m) .after q))
+      ∙ any-swap 64 64 (λ (t : ℕ). mem t x) (λ (i : ℕ). mem i s) (λ t i. hit f (off w l) (on w l) q i t)
+
+-- the rows of set k serve each set up to k
+pub serves : (f : Step) (w l : ℕ) (sets : List ℕ) (k seen : ℕ) (left right : List ℕ)
+    → ((q : ℕ) → mem q seen ≡ any (λ (i : ℕ). mem q (getD sets i 0)) (k + 1))
+    → ((t : ℕ) → mem t seen ≡ true → Follows f (off w l) (on w l) (getD sets k 0) t left right) → Serves Exists f w l sets k left right
+serves f w l sets k seen left right all rows i h =
+    let within : (t : ℕ) → mem t (getD sets i 0) ≡ true → mem t seen ≡ true =
+    λ t m. all t ∙ any-in (λ (j : ℕ). mem t (getD sets j 0)) (k + 1) i (omega arith) m in
+    (right-is f w l (getD sets k 0) seen left right rows (getD sets i 0) within, left-is f w l (getD sets k 0) seen left right rows (getD sets i 0) within)
