@@ -1,11 +1,12 @@
 // The exploration of a record's states: one for every kind of record, which differ in the successor and the start.
+ghost use mathlib.Core.List.{List};
 ghost use mathlib.Core.Path.{_≡_};
 ghost use Prim.Native.Nat.{ℕ, _+_, _≤_, _<_};
-ghost use lib.ListN.{length, getD, take};
+ghost use lib.ListN.{length, getD, set, take};
 ghost use Rattle.machine.specs.Explore.{place, insert};
 ghost use Rattle.machine.specs.Rows.{GivenBy, Serves};
-ghost use Rattle.machine.specs.Succ.{entry, notCode, pairCode, closeCode, successorOf, succIn, wordFound, existsStart, startOf};
-ghost use Rattle.machine.specs.Table.{listed, addr, Room, Visited, Rowed, Ringed, Nexted, Explored, Kept};
+ghost use Rattle.machine.specs.Succ.{entry, off, notCode, pairCode, closeCode, successorOf, succIn, wordFound, existsStart, startOf};
+ghost use Rattle.machine.specs.Table.{listed, addr, Room, Ring, Visited, Rowed, Ringed, Nexted, Explored, Kept};
 use crate::atoms::atom_index;
 use crate::atoms::child1_at;
 use crate::atoms::child2_at;
@@ -251,6 +252,77 @@ pub fn visit_row(ws: &mut [u8], p: Plan, b: Builder, l: usize, k: usize) -> Buil
     visit_pairs(ws, p, b, l, k, &left, &right)
 }
 
+// The entry for states i and j is copied from label f to label l.
+pub fn copy_entry(ws: &mut [u8], p: Plan, f: usize, l: usize, i: usize, j: usize)
+    requires { ⌜ Room p (length (now ws)) ⌝ }
+    requires { ⌜ (f < p .labels) × (l < p .labels) × (i < p .c) × (j < p .c) ⌝ }
+    ensures { λ _. ⌜ now (ws .exit) ≡ set (now (ws .entry)) (p .base + addr (p .c) l i j) (getD (now (ws .entry)) (p .base + addr (p .c) f i j) 0) ⌝ }
+{
+    let c = p.c;
+    let base = p.base;
+    let from = base + cell(c, f, i, j);
+    let to = base + cell(c, l, i, j);
+    let x = ws[from];
+    ws[to] = x;
+}
+
+// The label l with the bit of weight w cleared.
+pub fn cleared(w: usize, l: usize) -> usize
+    requires { ⌜ (0 < w) × (w ≤ 128) × (l < 256) ⌝ }
+    ensures { λ r. ⌜ (r ≡ off w l) × (r ≤ l) ⌝ }
+{
+    l / (2 * w) * (2 * w) + l % w
+}
+
+// The first label that has the same successors as l: "exists" is blind to the bit of the bound variable.
+pub fn first_alike(p: Plan, l: usize) -> usize
+    requires { ⌜ (0 < p .wx) × (p .wx ≤ 128) × (l < 256) ⌝ }
+    ensures { λ r. ⌜ (r ≤ l) × ((low : List ℕ) (x y : ℕ) → successorOf low p r x y ≡ successorOf low p l x y) ⌝ }
+{
+    let kind = p.kind;
+    let w = p.wx;
+    match kind {
+        Kind::Exists => cleared(w, l),
+        _ => l,
+    }
+}
+
+// The entries of state k with those up to k, both ways, are copied from label f to a label l with the same successors.
+pub fn copy_row(ws: &mut [u8], p: Plan, b: Builder, f: usize, l: usize, k: usize) -> Builder
+    requires { ⌜ Room p (length (now ws)) ⌝ }
+    requires { ⌜ (f < p .labels) × (l < p .labels) × (k < b .count) × (b .count ≤ p .c + 1) ⌝ }
+    requires { ⌜ ((x y : ℕ) → succIn (now ws) p f x y ≡ succIn (now ws) p l x y) ⌝ }
+    requires { ⌜ Ring (succIn (now ws) p) p (listed (p .c) b) (now ws) f (k + 1) k ⌝ }
+    ensures { λ r. ⌜ Rowed (succIn (now (ws .entry)) p) p b r (now (ws .entry)) (now (ws .exit)) l k (k + 1) ⌝ }
+{
+    let c = p.c;
+    let count = b.count;
+    if c < count {
+        return b;
+    }
+    let mut i = 0;
+    while i <= k {
+        copy_entry(ws, p, f, l, i, k);
+        copy_entry(ws, p, f, l, k, i);
+        i += 1;
+    }
+    b
+}
+
+// The pairs of state k with those up to k, both ways, under label l, after those under the labels before it.
+pub fn visit_label(ws: &mut [u8], p: Plan, b: Builder, l: usize, k: usize) -> Builder
+    requires { ⌜ Room p (length (now ws)) ⌝ }
+    requires { ⌜ (l < p .labels) × (k < b .count) × (b .count ≤ p .c + 1) ⌝ }
+    requires { ⌜ ((f : ℕ) → f < l → Ring (succIn (now ws) p) p (listed (p .c) b) (now ws) f (k + 1) k) ⌝ }
+    ensures { λ r. ⌜ Rowed (succIn (now (ws .entry)) p) p b r (now (ws .entry)) (now (ws .exit)) l k (k + 1) ⌝ }
+{
+    let f = first_alike(p, l);
+    if f < l {
+        return copy_row(ws, p, b, f, l, k);
+    }
+    visit_row(ws, p, b, l, k)
+}
+
 // The pairs of state k with those up to k, both ways, under every label.
 pub fn visit_ring(ws: &mut [u8], p: Plan, b: Builder, k: usize) -> Builder
     requires { ⌜ Room p (length (now ws)) ⌝ }
@@ -261,7 +333,7 @@ pub fn visit_ring(ws: &mut [u8], p: Plan, b: Builder, k: usize) -> Builder
     let mut r = b;
     let mut l = 0;
     while l < labels {
-        r = visit_row(ws, p, r, l, k);
+        r = visit_label(ws, p, r, l, k);
         l += 1;
     }
     r

@@ -9,6 +9,7 @@ ghost use Rattle.machine.specs.Succ.{entry, hit, hitRow};
 ghost use Rattle.machine.specs.Word.{mem, any};
 use crate::explore::Kind;
 use crate::explore::Plan;
+use crate::explore::cleared;
 use crate::explore::entry_at;
 use crate::words::size;
 use crate::words::smallest;
@@ -136,7 +137,7 @@ pub fn exists_rows(
     requires { ⌜ (c ≤ 64) × (l < 256) × (a < 4294967296) × (0 < w) × (w ≤ 128) × (k < 64) ⌝ }
     ensures { λ r. ⌜ Serves Kind.Exists (entry (now (low .entry)) c a) w l (now (sets .entry)) k (r .left) (r .right) ⌝ }
 {
-    let off = l / (2 * w) * (2 * w) + l % w;
+    let off = cleared(w, l);
     let on = off + w;
     let seen = joined(sets, k + 1);
     fill(low, c, a, off, on, sets[k], seen)

@@ -4,14 +4,14 @@ use Prim.Native.Nat.{ℕ, _+_, _-_, _≤_, _<_}
 use native.Mathlib.Omega.{arith}
 use lib.ListN.{length}
 use Rattle.machine.specs.Explore.{ring}
-use Rattle.machine.specs.Table.{Rowed, Ringed}
+use Rattle.machine.specs.Table.{listed, Ring, Rowed, Ringed}
 use Rattle.machine.specs.Succ.{succIn}
 use Rattle.machine.proofs.Loops.{built-start, same-succ, ring-step}
 use Rattle.machine.proofs.explore.visit_ring.Statement.{statement}
 use Rattle.machine.proofs.explore.visit_ring.Tie as tie
 use Rattle.machine.proofs.explore.visit_ring.Reads as reads
 use Rattle.machine.proofs.explore.visit_ring.Lts as lts
-use Rattle.machine.proofs.explore.visit_row.Reads as visit-row-reads
+use Rattle.machine.proofs.explore.visit_label.Reads as visit-label-reads
 
 abbrev Inv-loop : tie.InvT-loop
 Inv-loop ws₀ p k labels r₀ l₀ ws r l = (l ≤ labels) × (length ws ≡ length ws₀) × Ringed (succIn ws₀ p) p r₀ r ws₀ ws k l
@@ -25,8 +25,18 @@ loop-holds c =
     let a = c .before .args in
     (omega arith, refl, (built-start (succIn (a .ws .now) (a .p)) (a .p) (a .b) (a .ws .now) (omega arith), λ l h. absurd (omega arith)))
 
-visit-row-requires : tie.Need-visit-row-requires Inv-loop μ-loop
-visit-row-requires c κs = omega arith
+visit-label-requires : tie.Need-visit-label-requires Inv-loop μ-loop
+visit-label-requires c κs =
+    let s = c .before .before .before .before in
+    let a = s .args in
+    let h = c .before .before .loop in (
+      omega (arith, s .pre .0, h .inv .1),
+      (
+        omega (arith, s .pre .1, c .before .loop-test .taken, h .inv .2 .0 .more, h .inv .2 .0 .most),
+        λ f t.
+            same-succ (λ g. Ring g (a .p) (listed (a .p .c) (h .r)) (h .ws) f (a .k + 1) (a .k)) (a .p) (h .ws) (a .ws .now) (sym (h .inv .2 .0 .fill .low)) (h .inv .2 .1 f t),
+      ),
+    )
 
 add-l : tie.Need-add-l Inv-loop μ-loop
 add-l c = omega arith
@@ -38,7 +48,7 @@ loop-again : tie.Need-loop-again Inv-loop μ-loop
 loop-again c =
     let a = c .before .before .before .before .before .before .before .args in
     let h = c .before .before .before .before .before .loop in
-    let v = c .before .before .visit-row in
+    let v = c .before .before .visit-label in
     let t = c .before .before .before .before .loop-test .taken in
     let turn = same-succ (λ t. Rowed t (a .p) (h .r) (v .result) (h .ws) (v .last .0) (h .l) (a .k) (a .k + 1)) (a .p) (a .ws .now) (h .ws) (h .inv .2 .0 .fill .low) (v .ensures) in (
       omega arith,
@@ -63,7 +73,7 @@ visit-ring-spec =
     Inv-loop
     μ-loop
     loop-holds
-    visit-row-requires
+    visit-label-requires
     add-l
     loop-less
     loop-again
