@@ -1,17 +1,17 @@
 -- Two successor functions that agree on the reachable codes have the same exploration. Assumes nothing.
-use Prim.Native.Nat.{ℕ, zero, suc, _+_, _≤_, _<_}
+use Prim.Native.Nat.{ℕ, zero, suc, _≤_, _<_}
 use mathlib.Core.Bool.{Bool, true, false}
-use mathlib.Core.Path.{_≡_, refl, sym, ap, _∙_, subst}
+use mathlib.Core.Path.{_≡_, refl, ap, _∙_}
 use mathlib.Core.List.{List, [], _∷_}
 use mathlib.Core.Option.{Option, none, some}
 use native.Mathlib.Nat.{le-of-suc-le-suc, not-suc-le-zero}
 use native.Mathlib.Omega.{arith}
-use borrow.Author.Tests.{ltb-true, ltb-false}
+use borrow.Author.Tests.{ltb-true}
 use lib.ListN.{length, getD}
 use lib.Dec.{ltb}
 use Rattle.machine.specs.Explore.{pick, insert, visit, row, ring, next, grow, explore}
 use Rattle.machine.proofs.Grow.{Long, long-grows, visit-grows, row-grows, ring-grows}
-use Rattle.machine.proofs.Found.{Reach, at-start, by-step, Ok, visit-ok, row-ok, ring-ok, grow-ok, explore-ok}
+use Rattle.machine.proofs.Found.{Reach, at-start, by-step, Ok, visit-ok, row-ok, ring-ok, grow-ok}
 
 module _ (s t : ℕ → ℕ → ℕ → ℕ) (c labels start : ℕ) (Valid : ℕ → Type 0) (valid-start : Valid start) (valid-step : (l x y : ℕ) → l < labels → Valid x → Valid y → (s l x y ≡ t l x y) × Valid (s l x y)) where
   -- every reachable code is of the kind Valid

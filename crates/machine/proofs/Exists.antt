@@ -1,8 +1,8 @@
 -- The machine of "exists": after a tree it is at the set of the states of the part's machine after the trees that cover it,
 -- those with any set put for the bound variable. Assumes nothing.
-use Prim.Native.Nat.{ℕ, zero, suc, _+_, _*_, _/_, _%_, _≤_, _<_}
-use mathlib.Core.Bool.{Bool, true, false, _&&_, _||_, or-true}
-use mathlib.Core.Logic.{⊎-elim, _⊎_, inl, inr}
+use Prim.Native.Nat.{ℕ, zero, suc, _*_, _%_, _≤_, _<_}
+use mathlib.Core.Bool.{Bool, true, _||_, or-true, _&&_}
+use mathlib.Core.Logic.{⊎-elim}
 use mathlib.Core.Path.{_≡_, refl, sym, ap, ap₂, _∙_, subst}
 use mathlib.Core.List.{List}
 use mathlib.Core.Option.{Option, none, some}
@@ -14,11 +14,11 @@ use Rattle.machine.proofs.Any.{or-cases, and-both, any-true, any-in}
 use Rattle.machine.specs.Explore.{explore, place}
 use Rattle.machine.proofs.Place.{place-at}
 use Rattle.machine.proofs.Pigeon.{pigeon}
-use Rattle.machine.proofs.Found.{Reach, at-start, by-step, Codes, Ok, explore-ok, explore-closed, complete}
+use Rattle.machine.proofs.Found.{Reach, at-start, by-step, Ok, explore-ok, explore-closed, complete}
 use Rattle.machine.proofs.Cong.{reach-valid}
-use Rattle.machine.specs.Word.{mem, wordOf, any}
+use Rattle.machine.specs.Word.{mem, any}
 use Rattle.machine.proofs.WordLaws.{word-mem}
-use Rattle.machine.specs.Succ.{Step, off, on, hit, hitRow, hitSet, existsCode, closeCode, wordFound, wordCodes}
+use Rattle.machine.specs.Succ.{Step, off, on, hit, hitRow, hitSet, existsCode, closeCode, wordFound}
 use Rattle.machine.specs.Machine.{Bit}
 use Rattle.machine.proofs.Run.{Tree, empty, node, codeOf, stateOf, Labelled}
 

@@ -1,25 +1,22 @@
 -- The table's entries: their places are apart, and a step of the exploration writes one and keeps the others. Assumes nothing.
-use Prim.Native.Nat.{ℕ, zero, suc, _+_, _*_, _/_, _%_, _≤_, _<_}
+use Prim.Native.Nat.{ℕ, _+_, _*_, _/_, _%_, _≤_, _<_}
 use mathlib.Core.Bool.{Bool, true, false}
-use mathlib.Core.Logic.{⊎-elim, _⊎_, inl, inr}
 use mathlib.Core.Logic.{_≢_}
 use mathlib.Core.Path.{_≡_, refl, sym, ap, _∙_, subst}
 use mathlib.Core.List.{List, [], _∷_, _++_}
 use mathlib.Core.Option.{Option, none, some}
-use native.Mathlib.Nat.{mul-le-mul-left}
 use native.Mathlib.Decide.{ℕ-discrete}
 use native.Mathlib.Omega.{arith}
-use borrow.Author.Tests.{ltb-true, ltb-false, le-leb, lt-leb}
+use borrow.Author.Tests.{ltb-false, le-leb, lt-leb}
 use lib.Arith.{digits-lt, digits-div, digits-mod}
-use lib.Dec.{ltb, leb}
-use lib.ListN.{length, getD, take, drop, set, length-append, List·getD-append}
+use lib.Dec.{ltb}
+use lib.ListN.{length, getD, take, set, List·getD-append}
 use Rattle.machine.specs.declared.explore.Builder.{Builder}
 use lib.Seq.{getD-take, getD-set-same, getD-set-other, take-set-le, drop-set-lt, length-take-le}
 use Rattle.machine.specs.Explore.{Has, pick, place, insert, visit}
 use Rattle.machine.proofs.Place.{place-le, place-append, place-last}
 use Rattle.machine.proofs.Grow.{Grows, insert-grows, has-grows, visit-has}
 use Rattle.machine.specs.Table.{listed, addr, Room, Cell, Filled, Built}
-use Rattle.machine.specs.Succ.{successorOf}
 use Rattle.machine.specs.declared.explore.Plan.{Plan}
 use Rattle.machine.proofs.Steps.{cell-small}
 

@@ -1,21 +1,21 @@
 -- What exploration finds: distinct reachable codes, the start first, closed under the successor; and more than c of them where it gives up.
 -- Assumes nothing.
-use Prim.Native.Nat.{ℕ, zero, suc, _+_, _≤_, _<_, zero-le, suc-le-suc}
+use Prim.Native.Nat.{ℕ, zero, suc, _≤_, _<_}
 use mathlib.Core.Bool.{Bool, true, false}
-use mathlib.Core.Logic.{⊎-elim, _⊎_, inl, inr, _↔_}
+use mathlib.Core.Logic.{⊎-elim, _↔_}
 use mathlib.Core.Path.{_≡_, refl, sym, ap, _∙_, subst}
-use mathlib.Core.List.{List, [], _∷_, _++_, append-assoc, append-nil}
+use mathlib.Core.List.{List, [], _∷_, _++_}
 use mathlib.Core.Option.{Option, none, some}
-use native.Mathlib.Nat.{le-of-suc-le-suc, not-suc-le-zero, zero-lt-suc, eq-or-lt-of-le}
+use native.Mathlib.Nat.{le-of-suc-le-suc, not-suc-le-zero, eq-or-lt-of-le}
 use native.Mathlib.Omega.{arith}
 use borrow.Author.Tests.{ltb-true, ltb-false}
 use lib.ListN.{length, getD, length-append, List·getD-append}
 use lib.Seq.{getD-append-seam}
-use lib.Dec.{ltb, eqb}
+use lib.Dec.{ltb}
 use Rattle.machine.specs.Explore.{Has, pick, place, insert, visit, row, ring, next, grow, explore, found}
-use Rattle.machine.proofs.Place.{place-le, place-at, place-first, place-in, place-append, place-last}
+use Rattle.machine.proofs.Place.{place-at, place-in}
 use Rattle.machine.proofs.Pigeon.{pigeon}
-use Rattle.machine.proofs.Grow.{Grows, Long, long-grows, row-grows, visit-grows, ring-grows, grow-has, grow-grows}
+use Rattle.machine.proofs.Grow.{Long, long-grows, row-grows, visit-grows, ring-grows, grow-has}
 
 -- no code stands twice
 abbrev pub Distinct : List ℕ → Type 0

@@ -1,18 +1,17 @@
 -- Laws of exploration: what is found only grows, and what is visited stays visited. Assumes nothing.
-use Prim.Native.Nat.{ℕ, zero, suc, _+_, _≤_, _<_, zero-le, suc-le-suc}
+use Prim.Native.Nat.{ℕ, zero, suc, _+_, _≤_, _<_, suc-le-suc}
 use mathlib.Core.Bool.{Bool, true, false}
-use mathlib.Core.Logic.{⊎-elim, _⊎_, inl, inr}
+use mathlib.Core.Logic.{⊎-elim}
 use mathlib.Core.Path.{_≡_, refl, sym, ap, _∙_, subst}
 use mathlib.Core.List.{List, [], _∷_, _++_, append-assoc, append-nil}
 use mathlib.Core.Option.{Option, none, some}
-use native.Mathlib.Nat.{le-of-suc-le-suc, not-suc-le-zero, zero-lt-suc, eq-or-lt-of-le}
+use native.Mathlib.Nat.{le-of-suc-le-suc, not-suc-le-zero, eq-or-lt-of-le}
 use native.Mathlib.Omega.{arith}
 use borrow.Author.Tests.{ltb-true, ltb-false}
 use lib.ListN.{length, getD, length-append, List·getD-append}
-use lib.Seq.{getD-append-seam}
-use lib.Dec.{ltb, eqb}
-use Rattle.machine.specs.Explore.{Has, pick, place, insert, visit, row, ring, next, grow, explore, found}
-use Rattle.machine.proofs.Place.{place-le, place-at, place-first, place-in, place-append, place-last}
+use lib.Dec.{ltb}
+use Rattle.machine.specs.Explore.{Has, pick, place, insert, visit, row, ring, next, grow}
+use Rattle.machine.proofs.Place.{place-append, place-last}
 
 -- the second has the first's codes in front, or there were too many
 abbrev pub Grows : Option (List ℕ) → Option (List ℕ) → Type 0

@@ -1,24 +1,22 @@
 -- A record's machine from tables is its machine from the steps that the tables hold. Assumes nothing.
-use Prim.Native.Nat.{ℕ, zero, suc, _+_, _*_, _/_, _%_, _^_, _≤_, _<_}
-use mathlib.Core.Bool.{Bool, true, false, _&&_, _||_}
-use mathlib.Core.Logic.{⊎-elim, _⊎_, inl, inr}
+use Prim.Native.Nat.{ℕ, zero, suc, _+_, _*_, _/_, _%_, _≤_, _<_}
+use mathlib.Core.Bool.{true, _||_}
+use mathlib.Core.Logic.{⊎-elim}
 use mathlib.Core.Path.{_≡_, refl, sym, ap, ap₂, _∙_, subst}
-use mathlib.Core.List.{List, [], _∷_}
+use mathlib.Core.List.{List}
 use mathlib.Core.Option.{Option, none, some}
-use native.Mathlib.Nat.{le-of-suc-le-suc, not-suc-le-zero}
-use native.Mathlib.Decide.{decLt}
 use native.Mathlib.Omega.{arith}
 use borrow.Author.Tests.{eqb-true}
 use lib.ListN.{length, getD}
 use lib.Dec.{eqb}
 use Rattle.machine.proofs.Any.{or-cases, and-both, and-cong, any-cong, any-true}
 use Rattle.machine.specs.Explore.{explore}
-use Rattle.machine.proofs.Found.{Reach, at-start, by-step, Ok, explore-ok}
+use Rattle.machine.proofs.Found.{Ok, explore-ok}
 use Rattle.machine.proofs.Cong.{reach-valid, explore-cong}
-use Rattle.machine.specs.Word.{mem, wordOf, any}
-use Rattle.machine.proofs.WordLaws.{word-mem, word-lt, mem-zero, word-cong}
-use Rattle.machine.specs.Succ.{Step, entry, notCode, pairCode, off, on, hit, hitRow, hitSet, existsCode, closeCode, kindCode, startBy, wordFound, wordCodes}
-use Rattle.machine.specs.Machine.{startCode, codesOf, stepOf, Holds, Bit}
+use Rattle.machine.specs.Word.{mem, any}
+use Rattle.machine.proofs.WordLaws.{word-mem, mem-zero, word-cong}
+use Rattle.machine.specs.Succ.{Step, notCode, pairCode, off, on, hit, hitRow, hitSet, existsCode, closeCode, kindCode, startBy, wordFound}
+use Rattle.machine.specs.Machine.{startCode, codesOf, stepOf, Bit}
 use Rattle.machine.specs.declared.explore.Kind.{Kind}
 use Rattle.machine.specs.declared.explore.Kind.the-variants.{Subset, Single, Child1, Child2, Root, Not, Or, And, Exists, Close}
 

@@ -1,19 +1,18 @@
 -- The rows of "exists": their filling, and the successors that their unions are. Assumes nothing.
-use Prim.Native.Nat.{ℕ, zero, suc, _+_, _-_, _*_, _/_, _%_, _^_, _≤_, _<_}
+use Prim.Native.Nat.{ℕ, _+_, _-_, _<_}
 use mathlib.Core.Bool.{Bool, true, false, _&&_, _||_}
 use mathlib.Core.List.{List}
-use mathlib.Core.Path.{_≡_, refl, sym, ap, _∙_, subst}
+use mathlib.Core.Path.{_≡_, sym, ap, _∙_}
 use native.Mathlib.Decide.{ℕ-discrete}
 use native.Mathlib.Omega.{arith}
 use borrow.Author.Tests.{ne-eqb}
 use lib.Count.{ones}
-use lib.Dec.{eqb}
 use lib.ListN.{length, getD, set, length-set}
 use lib.Seq.{getD-set-same, getD-set-other}
 use Rattle.machine.specs.Rows.{hitColumn, unionOf, Follows, Serves}
 use Rattle.machine.specs.Succ.{Step, off, on, hit, hitRow, hitSet, existsCode}
 use Rattle.machine.specs.declared.explore.Kind.the-variants.{Exists}
-use Rattle.machine.specs.Word.{mem, any, wordOf, Without}
+use Rattle.machine.specs.Word.{mem, any, Without}
 use Rattle.machine.proofs.Any.{and-cong, any-cong, any-in, any-swap}
 use Rattle.machine.proofs.Members.{none-in}
 use Rattle.machine.proofs.WordLaws.{word-cong}

@@ -1,8 +1,8 @@
 -- A record's machine accepts a tree exactly where the record holds of it. Assumes nothing.
-use Prim.Native.Nat.{ℕ, zero, suc, _+_, _*_, _/_, _%_, _≤_, _<_}
+use Prim.Native.Nat.{ℕ, zero, suc, _+_, _≤_, _<_}
 use mathlib.Core.Bool.{Bool, true, false, not, _&&_, _||_}
 use mathlib.Core.Logic.{⊎-elim, _⊎_, inl, inr, _↔_}
-use mathlib.Core.Path.{_≡_, refl, sym, ap, ap₂, _∙_, subst}
+use mathlib.Core.Path.{_≡_, refl, sym, ap, _∙_, subst}
 use mathlib.Core.List.{List, [], _∷_, _++_}
 use mathlib.Core.Option.{Option, none, some}
 use native.Mathlib.Nat.{not-suc-le-zero, le-of-suc-le-suc, eq-or-lt-of-le}
@@ -11,13 +11,11 @@ use borrow.Author.Tests.{eqb-true, eq-eqb}
 use lib.Dec.{eqb}
 use lib.ListN.{length, getD, length-append, List·getD-append}
 use lib.Seq.{getD-append-seam}
-use Rattle.machine.specs.Explore.{explore}
 use Rattle.machine.proofs.Found.{Ok, Closed, explore-ok, explore-closed}
-use Rattle.machine.specs.Word.{mem}
-use Rattle.machine.specs.Succ.{Step, off, on, kindCode, atomIndex, ruleAt, subsetRule, singleRule, childRule, child1Rule, child2Rule, rootRule}
+use Rattle.machine.specs.Succ.{Step, kindCode, atomIndex, ruleAt, subsetRule, singleRule, childRule, child1Rule, child2Rule, rootRule}
 use Rattle.machine.specs.Machine.{startCode, codesOf, stepOf, acceptBy, acceptOf, Bit}
 use Rattle.machine.specs.Rule.{Mach, noMach, Outcome, built, over, machFrom, more, after, Before, Sound, noDecoded, upto}
-use Rattle.machine.proofs.Run.{Tree, empty, node, codeOf, stateOf, Labelled}
+use Rattle.machine.proofs.Run.{Tree, codeOf, Labelled}
 use Rattle.machine.proofs.Exists.{Only, only-empty, only-off, only-on, Cover, cover-empty, cover-off, cover-on}
 use Rattle.machine.proofs.Accept.{accept-law, Small, Accepts, not-law, or-law, and-law, exists-law}
 use Rattle.machine.proofs.AtomRuns.{atomState, Four, atom-run}

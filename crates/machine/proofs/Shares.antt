@@ -1,7 +1,6 @@
 -- One record after the others: its plan has room, and its machine is kept with theirs. Assumes nothing.
-use Prim.Native.Nat.{ℕ, zero, suc, _+_, _-_, _*_, _≤_, _<_}
-use mathlib.Core.Bool.{Bool, true, false, not, _&&_, _||_}
-use mathlib.Core.Logic.{⊎-elim, _⊎_, inl, inr}
+use Prim.Native.Nat.{ℕ, _+_, _*_, _≤_, _<_}
+use mathlib.Core.Logic.{⊎-elim}
 use mathlib.Core.Path.{_≡_, refl, sym, ap, ap₂, _∙_, subst}
 use mathlib.Core.List.{List, [], _∷_, _++_}
 use mathlib.Core.Option.{Option, none, some}
@@ -9,17 +8,15 @@ use native.Mathlib.Nat.{mul-le-mul-left, mul-le-mul-right, eq-or-lt-of-le, suc-m
 use native.Mathlib.Omega.{arith}
 use borrow.Author.Tests.{le-leb, lt-leb}
 use lib.Arith.{digits-lt}
-use lib.Dec.{ltb}
 use lib.ListN.{length, getD, take, drop, set, length-append, List·getD-append}
 use lib.Seq.{getD-take, getD-set-same, getD-set-other, getD-append-seam, length-take-le}
-use Rattle.machine.specs.Explore.{Has, explore, place}
-use Rattle.machine.specs.Word.{wordOf}
+use Rattle.machine.specs.Explore.{explore}
 use Rattle.machine.specs.Table.{listed, addr, Room, Cell, Explored}
-use Rattle.machine.specs.Succ.{Step, entry, kindCode, closeCode, successorOf, succIn, startOf, startBy, existsStart, closing}
-use Rattle.machine.specs.Machine.{startCode, codesOf, stepOf, acceptBy, acceptOf, Holds, Bit}
+use Rattle.machine.specs.Succ.{entry, kindCode, successorOf, succIn, startOf, existsStart}
+use Rattle.machine.specs.Machine.{startCode, codesOf, stepOf, acceptBy, acceptOf, Holds}
 use Rattle.machine.proofs.Found.{Ok, explore-ok}
 use Rattle.machine.proofs.Held.{Part, Parts, Same, record-same}
-use Rattle.machine.specs.Rule.{Mach, noMach, Outcome, built, over, machFrom, more, after, planOf, Fits, Before, Sound, At, Made}
+use Rattle.machine.specs.Rule.{Mach, noMach, Outcome, built, over, machFrom, after, planOf, Fits, Before, Sound, At, Made}
 use Rattle.machine.specs.declared.explore.Kind.{Kind}
 use Rattle.machine.specs.declared.explore.Kind.the-variants.{Subset, Single, Child1, Child2, Root, Not, Or, And, Exists, Close}
 use Rattle.machine.specs.declared.explore.Plan.{Plan}

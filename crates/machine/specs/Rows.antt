@@ -1,11 +1,11 @@
 -- The rows from which "exists" takes its successors. Document 01, "Machines": "At a node it collects all steps with the bound bit 0 or 1."
 -- Assumes nothing.
-use Prim.Native.Nat.{ℕ, _≤_, _<_}
+use Prim.Native.Nat.{ℕ, _≤_}
 use mathlib.Core.Bool.{Bool, _&&_}
 use mathlib.Core.List.{List}
 use mathlib.Core.Path.{_≡_}
 use lib.ListN.{getD}
-use Rattle.machine.specs.Succ.{Step, off, on, hit, hitRow, existsCode}
+use Rattle.machine.specs.Succ.{Step, hit, hitRow, existsCode}
 use Rattle.machine.specs.Word.{mem, any, wordOf}
 use Rattle.machine.specs.declared.explore.Kind.{Kind}
 use Rattle.machine.specs.declared.explore.Kind.the-variants.{Subset, Single, Child1, Child2, Root, Not, Or, And, Exists, Close}

@@ -1,11 +1,10 @@
 -- How a builder stands for a list of codes, where a table's entries are, and what each turn of the exploration ensures of both.
 -- Document 01, "Machines": "A builder keeps the list of state sets found so far, at most 64 of them." Assumes nothing.
-use Prim.Native.Nat.{ℕ, zero, suc, _+_, _*_, _/_, _%_, _≤_, _<_}
-use mathlib.Core.Bool.{Bool, true, false}
+use Prim.Native.Nat.{ℕ, _+_, _*_, _≤_, _<_}
 use mathlib.Core.Path.{_≡_}
-use mathlib.Core.List.{List, [], _∷_, _++_}
+use mathlib.Core.List.{List}
 use mathlib.Core.Option.{Option, none, some}
-use lib.ListN.{length, getD, take, drop}
+use lib.ListN.{getD, take, drop}
 use lib.Dec.{leb}
 use Rattle.machine.specs.Explore.{Has, pick, place, visit, row, ring, next, grow, explore}
 use Rattle.machine.specs.declared.explore.Builder.{Builder}

@@ -5,8 +5,6 @@ use Rattle.machine.specs.Succ.{atomIndex}
 use borrow.Author.Needs.{needs}
 use Rattle.machine.proofs.atoms.atom_index.Statement.{statement}
 use Rattle.machine.proofs.atoms.atom_index.Tie as tie
-use Rattle.machine.proofs.atoms.atom_index.Reads as reads
-use Rattle.machine.proofs.atoms.atom_index.Lts as lts
 
 div-result : tie.Need-div-result
 div-result c = search needs

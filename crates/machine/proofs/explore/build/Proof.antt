@@ -1,6 +1,6 @@
 -- `build` meets its contract. The invariant: the states below k are paired with each other. Assumes nothing.
-use mathlib.Core.Path.{_≡_, refl, sym, ap, _∙_}
-use Prim.Native.Nat.{ℕ, _+_, _-_, _≤_, _<_}
+use mathlib.Core.Path.{_≡_, refl, _∙_}
+use Prim.Native.Nat.{_-_, _≤_}
 use native.Mathlib.Omega.{arith}
 use lib.ListN.{length, replicate}
 use Rattle.machine.specs.Table.{Nexted, Grown}
@@ -8,9 +8,6 @@ use Rattle.machine.specs.Succ.{succIn}
 use Rattle.machine.proofs.Loops.{grown-start, same-succ, grow-step, explored}
 use Rattle.machine.proofs.explore.build.Statement.{statement}
 use Rattle.machine.proofs.explore.build.Tie as tie
-use Rattle.machine.proofs.explore.build.Reads as reads
-use Rattle.machine.proofs.explore.build.Lts as lts
-use Rattle.machine.proofs.explore.visit_next.Reads as visit-next-reads
 
 abbrev Inv-loop : tie.InvT-loop
 Inv-loop ws₀ p start c b₀ k₀ ws b k =

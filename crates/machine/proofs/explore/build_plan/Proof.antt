@@ -3,10 +3,6 @@ use Rattle.machine.proofs.Start.{then-built}
 use borrow.Author.Needs.{needs}
 use Rattle.machine.proofs.explore.build_plan.Statement.{statement}
 use Rattle.machine.proofs.explore.build_plan.Tie as tie
-use Rattle.machine.proofs.explore.build_plan.Reads as reads
-use Rattle.machine.proofs.explore.build_plan.Lts as lts
-use Rattle.machine.proofs.explore.build.Reads as build-reads
-use Rattle.machine.proofs.explore.start_code.Reads as start-code-reads
 
 start-code-requires : tie.Need-start-code-requires
 start-code-requires c κs = search needs

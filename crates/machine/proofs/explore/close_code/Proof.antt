@@ -5,9 +5,6 @@ use native.Mathlib.Nat.{mul-le-mul-right}
 use Rattle.machine.specs.Succ.{closeCode}
 use Rattle.machine.proofs.explore.close_code.Statement.{statement}
 use Rattle.machine.proofs.explore.close_code.Tie as tie
-use Rattle.machine.proofs.explore.close_code.Reads as reads
-use Rattle.machine.proofs.explore.close_code.Lts as lts
-use Rattle.machine.proofs.explore.entry_at.Reads as entry-at-reads
 
 mul-entry-at : tie.Need-mul-entry-at
 mul-entry-at c = let a = c .before .args in omega (arith, mul-le-mul-right {m = a .v % 2} {n = 1} (a .w) (omega arith))

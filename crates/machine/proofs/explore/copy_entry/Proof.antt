@@ -1,6 +1,5 @@
 -- `copy_entry` meets its contract. Assumes nothing.
 use borrow.Author.Needs.{needs}
-use mathlib.Core.Path.{_≡_}
 use native.Mathlib.Omega.{arith}
 use Rattle.machine.proofs.Fill.{addr-lt}
 use Rattle.machine.proofs.explore.copy_entry.Statement.{statement}

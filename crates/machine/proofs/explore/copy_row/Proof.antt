@@ -1,10 +1,8 @@
 -- `copy_row` meets its contract. The invariant: the entries of k with the states below i are copied, both ways. Assumes nothing.
-use borrow.Author.Needs.{needs}
-use Prim.Native.Nat.{ℕ, _+_, _-_, _≤_, _<_}
-use mathlib.Core.Path.{_≡_, refl, sym, ap, _∙_, subst}
+use Prim.Native.Nat.{_+_, _-_, _≤_}
+use mathlib.Core.Path.{_≡_, refl, _∙_}
 use native.Mathlib.Omega.{arith}
 use lib.ListN.{length}
-use lib.ListN.{length-set}
 use Rattle.machine.specs.Explore.{row}
 use Rattle.machine.specs.Succ.{succIn}
 use Rattle.machine.specs.Table.{Room, Rowed}

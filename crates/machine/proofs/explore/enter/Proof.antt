@@ -1,8 +1,7 @@
 -- `enter` meets its contract: the code's place is written, and the code put in where it is new. Assumes nothing.
-use mathlib.Core.Path.{_≡_}
 use native.Mathlib.Omega.{arith}
 use borrow.Author.Needs.{needs}
-use lib.ListN.{length, take, length-take}
+use lib.ListN.{take, length-take}
 use Rattle.machine.specs.Succ.{succIn}
 use Rattle.machine.proofs.Fill.{passed, visited, addr-lt}
 use Rattle.machine.proofs.Place.{place-le}

@@ -1,19 +1,13 @@
 -- `entry_at` meets its contract. Assumes nothing.
-use mathlib.Core.Path.{_≡_, refl, sym, ap, _∙_}
+use mathlib.Core.Path.{ap, _∙_}
 use Prim.Native.Nat.{ℕ, _+_}
 use native.Mathlib.Omega.{arith}
 use lib.ListN.{getD}
-use Rattle.machine.specs.Table.{addr}
 use Rattle.machine.specs.Succ.{entry}
 use Rattle.machine.proofs.Fill.{addr-small}
 use borrow.Author.Needs.{needs}
 use Rattle.machine.proofs.explore.entry_at.Statement.{statement}
 use Rattle.machine.proofs.explore.entry_at.Tie as tie
-use Rattle.machine.proofs.explore.entry_at.Reads as reads
-use Rattle.machine.proofs.explore.entry_at.Lts as lts
-use Rattle.machine.proofs.explore.cell.Reads as cell-reads
-use Rattle.machine.proofs.explore.read.Reads as read-reads
-use Rattle.machine.proofs.explore.wide.Reads as wide-reads
 
 cell-requires : tie.Need-cell-requires
 cell-requires c κs = search needs

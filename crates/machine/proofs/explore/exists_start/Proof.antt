@@ -1,5 +1,5 @@
 -- `exists_start` meets its contract. The exploration is the one of the plan's closing, in the same share. Assumes nothing.
-use mathlib.Core.Path.{_≡_, ap, _∙_}
+use mathlib.Core.Path.{ap, _∙_}
 use native.Mathlib.Omega.{arith}
 use lib.ListN.{length}
 use Rattle.machine.specs.Succ.{existsStart, wordFound, closing, succIn}
@@ -7,10 +7,6 @@ use Rattle.machine.proofs.Start.{room-closing, kept-closing}
 use borrow.Author.Needs.{needs}
 use Rattle.machine.proofs.explore.exists_start.Statement.{statement}
 use Rattle.machine.proofs.explore.exists_start.Tie as tie
-use Rattle.machine.proofs.explore.exists_start.Reads as reads
-use Rattle.machine.proofs.explore.exists_start.Lts as lts
-use Rattle.machine.proofs.explore.build.Reads as build-reads
-use Rattle.machine.proofs.explore.word_found.Reads as word-found-reads
 
 build-requires : tie.Need-build-requires
 build-requires c κs = let s = c .before .before in room-closing (s .args .p) (length (s .args .ws .now)) (omega arith) (s .pre .0)

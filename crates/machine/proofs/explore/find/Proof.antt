@@ -1,9 +1,9 @@
 -- `find` meets its contract. The invariant: the place of x is not before i. Assumes nothing.
-use Prim.Native.Nat.{ℕ, _≤_, _<_, _-_}
+use Prim.Native.Nat.{_≤_, _<_, _-_}
 use mathlib.Core.Path.{_≡_, sym, _∙_}
 use borrow.Author.Needs.{needs}
 use native.Mathlib.Omega.{arith}
-use lib.ListN.{length, getD, take}
+use lib.ListN.{length, take}
 use lib.Seq.{getD-take, length-take-le}
 use Rattle.machine.specs.Explore.{place}
 use Rattle.machine.proofs.Place.{place-le, place-at, place-first}

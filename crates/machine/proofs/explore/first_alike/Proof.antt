@@ -1,9 +1,6 @@
 -- `first_alike` meets its contract: "exists" has the same successors with and without the bit. Assumes nothing.
 use borrow.Author.Needs.{needs}
-use mathlib.Core.Path.{_∙_, ap}
-use Prim.Native.Nat.{ℕ}
-use native.Mathlib.Omega.{arith}
-use Rattle.machine.specs.Succ.{entry, existsCode, successorOf, kindCode}
+use Rattle.machine.specs.Succ.{entry, successorOf, kindCode}
 use Rattle.machine.proofs.Labels.{exists-blind}
 use Rattle.machine.proofs.explore.first_alike.Statement.{statement}
 use Rattle.machine.proofs.explore.first_alike.Tie as tie

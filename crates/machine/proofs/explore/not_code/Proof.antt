@@ -3,9 +3,6 @@ use Rattle.machine.specs.Succ.{notCode}
 use borrow.Author.Needs.{needs}
 use Rattle.machine.proofs.explore.not_code.Statement.{statement}
 use Rattle.machine.proofs.explore.not_code.Tie as tie
-use Rattle.machine.proofs.explore.not_code.Reads as reads
-use Rattle.machine.proofs.explore.not_code.Lts as lts
-use Rattle.machine.proofs.explore.entry_at.Reads as entry-at-reads
 
 entry-at-requires : tie.Need-entry-at-requires
 entry-at-requires c κs = search needs

@@ -1,13 +1,10 @@
 -- `pair_code` meets its contract. Assumes nothing.
-use mathlib.Core.Path.{_≡_, refl, sym, ap, ap₂, _∙_}
+use mathlib.Core.Path.{ap₂}
 use Prim.Native.Nat.{ℕ, _+_, _*_}
 use Rattle.machine.specs.Succ.{pairCode}
 use borrow.Author.Needs.{needs}
 use Rattle.machine.proofs.explore.pair_code.Statement.{statement}
 use Rattle.machine.proofs.explore.pair_code.Tie as tie
-use Rattle.machine.proofs.explore.pair_code.Reads as reads
-use Rattle.machine.proofs.explore.pair_code.Lts as lts
-use Rattle.machine.proofs.explore.entry_at.Reads as entry-at-reads
 
 entry-at-requires : tie.Need-entry-at-requires
 entry-at-requires c κs = search needs

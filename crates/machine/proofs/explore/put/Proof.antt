@@ -1,5 +1,5 @@
 -- `put` meets its contract. Assumes nothing.
-use mathlib.Core.Path.{subst, ap, _∙_}
+use mathlib.Core.Path.{ap, _∙_}
 use mathlib.Core.Logic.{⊎-elim}
 use borrow.Author.Needs.{needs}
 use native.Mathlib.Omega.{arith}
@@ -11,8 +11,6 @@ use Rattle.machine.specs.declared.explore.Builder.{Builder}
 use Rattle.machine.proofs.Steps.{id-length, put-old, put-new, put-full}
 use Rattle.machine.proofs.explore.put.Statement.{statement}
 use Rattle.machine.proofs.explore.put.Tie as tie
-use Rattle.machine.proofs.explore.put.Reads as reads
-use Rattle.machine.proofs.explore.put.Lts as lts
 
 returns : tie.Need-returns
 returns c =

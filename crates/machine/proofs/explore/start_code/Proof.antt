@@ -1,19 +1,16 @@
 -- `start_code` meets its contract. Only "exists" has a start code other than 0. Assumes nothing.
 use Prim.Native.Nat.{ℕ}
-use mathlib.Core.List.{List, [], _∷_}
+use mathlib.Core.List.{[], _∷_}
 use types.Run.{OneOf, miss}
 use denote.Enum.Declared.{tagOf}
 use Rattle.machine.proofs.explore.Kind.{the-type}
 use Rattle.machine.specs.declared.explore.Kind.{Kind}
 use Rattle.machine.specs.declared.explore.Kind.the-variants.{Subset, Single, Child1, Child2, Root, Not, Or, And, Exists, Close}
-use mathlib.Core.Path.{_≡_, refl, sym, ap, _∙_}
+use mathlib.Core.Path.{_≡_, refl}
 use Rattle.machine.specs.Succ.{startOf, startBy, existsStart}
 use borrow.Author.Needs.{needs}
 use Rattle.machine.proofs.explore.start_code.Statement.{statement}
 use Rattle.machine.proofs.explore.start_code.Tie as tie
-use Rattle.machine.proofs.explore.start_code.Reads as reads
-use Rattle.machine.proofs.explore.start_code.Lts as lts
-use Rattle.machine.proofs.explore.exists_start.Reads as exists-start-reads
 
 -- any other kind starts at 0
 other : (k : Kind) (e : ℕ) → OneOf (0 ∷ 1 ∷ 2 ∷ 3 ∷ 4 ∷ 5 ∷ 6 ∷ 7 ∷ 9 ∷ []) (tagOf the-type k) → 0 ≡ startBy k e

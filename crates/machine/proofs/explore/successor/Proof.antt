@@ -1,8 +1,7 @@
 -- `successor` meets its contract. Each arm is the definition's clause for that kind. Assumes nothing.
-use mathlib.Core.Path.{_≡_, ap, _∙_, subst}
+use mathlib.Core.Path.{ap, _∙_}
 use borrow.Author.Needs.{needs}
-use Rattle.machine.specs.Rows.{GivenBy}
-use Rattle.machine.specs.Succ.{successorOf, kindCode, entry, ruleAt, subsetRule, singleRule, child1Rule, child2Rule, rootRule}
+use Rattle.machine.specs.Succ.{successorOf, kindCode, ruleAt, subsetRule, singleRule, child1Rule, child2Rule, rootRule}
 use Rattle.machine.proofs.explore.successor.Statement.{statement}
 use Rattle.machine.proofs.explore.successor.Tie as tie
 

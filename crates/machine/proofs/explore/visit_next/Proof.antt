@@ -6,9 +6,6 @@ use Rattle.machine.proofs.Loops.{next-over, next-none, next-some}
 use borrow.Author.Needs.{needs}
 use Rattle.machine.proofs.explore.visit_next.Statement.{statement}
 use Rattle.machine.proofs.explore.visit_next.Tie as tie
-use Rattle.machine.proofs.explore.visit_next.Reads as reads
-use Rattle.machine.proofs.explore.visit_next.Lts as lts
-use Rattle.machine.proofs.explore.visit_ring.Reads as visit-ring-reads
 
 returns : tie.Need-returns
 returns c =

@@ -1,13 +1,13 @@
 -- `visit_pairs` meets its contract. The invariant: the pairs of k with the states below i have their entries, both ways. Assumes nothing.
-use mathlib.Core.Path.{_≡_, refl, sym, ap, _∙_, subst}
-use Prim.Native.Nat.{ℕ, _+_, _-_, _≤_, _<_}
+use mathlib.Core.Path.{_≡_, refl, sym, _∙_, subst}
+use Prim.Native.Nat.{ℕ, _+_, _-_, _≤_}
 use mathlib.Core.List.{List}
 use native.Mathlib.Omega.{arith}
 use borrow.Author.Needs.{needs}
-use lib.ListN.{length, getD, take}
+use lib.ListN.{length, getD}
 use lib.Seq.{length-take-le}
-use Rattle.machine.specs.Explore.{row, visit}
-use Rattle.machine.specs.Rows.{GivenBy, Serves}
+use Rattle.machine.specs.Explore.{row}
+use Rattle.machine.specs.Rows.{GivenBy}
 use Rattle.machine.specs.Succ.{entry, succIn}
 use Rattle.machine.specs.Table.{listed, Visited, Rowed}
 use Rattle.machine.proofs.Grow.{grows-trans}

@@ -1,6 +1,6 @@
 -- `visit_ring` meets its contract. The invariant: the pairs of k with those up to it have their entries under the labels below l. Assumes nothing.
-use mathlib.Core.Path.{_≡_, refl, sym, ap, _∙_}
-use Prim.Native.Nat.{ℕ, _+_, _-_, _≤_, _<_}
+use mathlib.Core.Path.{_≡_, refl, sym, _∙_}
+use Prim.Native.Nat.{_+_, _-_, _≤_}
 use native.Mathlib.Omega.{arith}
 use lib.ListN.{length}
 use Rattle.machine.specs.Explore.{ring}
@@ -9,9 +9,6 @@ use Rattle.machine.specs.Succ.{succIn}
 use Rattle.machine.proofs.Loops.{built-start, same-succ, ring-step}
 use Rattle.machine.proofs.explore.visit_ring.Statement.{statement}
 use Rattle.machine.proofs.explore.visit_ring.Tie as tie
-use Rattle.machine.proofs.explore.visit_ring.Reads as reads
-use Rattle.machine.proofs.explore.visit_ring.Lts as lts
-use Rattle.machine.proofs.explore.visit_label.Reads as visit-label-reads
 
 abbrev Inv-loop : tie.InvT-loop
 Inv-loop ws₀ p k labels r₀ l₀ ws r l = (l ≤ labels) × (length ws ≡ length ws₀) × Ringed (succIn ws₀ p) p r₀ r ws₀ ws k l

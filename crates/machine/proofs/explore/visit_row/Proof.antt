@@ -8,10 +8,6 @@ use Rattle.machine.proofs.Loops.{row-over}
 use borrow.Author.Needs.{needs}
 use Rattle.machine.proofs.explore.visit_row.Statement.{statement}
 use Rattle.machine.proofs.explore.visit_row.Tie as tie
-use Rattle.machine.proofs.explore.visit_row.Reads as reads
-use Rattle.machine.proofs.explore.visit_row.Lts as lts
-use Rattle.machine.proofs.explore.visit_pairs.Reads as visit-pairs-reads
-use Rattle.machine.proofs.rows.rows_of.Reads as rows-of-reads
 
 returns : tie.Need-returns
 returns c =

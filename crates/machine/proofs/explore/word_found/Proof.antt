@@ -1,8 +1,8 @@
 -- `word_found` meets its contract. The invariant: the word holds the first i codes. Assumes nothing.
 use borrow.Author.Needs.{needs}
-use Prim.Native.Nat.{ℕ, _+_, _-_, _^_, _≤_, _<_, _%_}
+use Prim.Native.Nat.{ℕ, _-_, _^_, _≤_, _<_, _%_}
 use mathlib.Core.Bool.{Bool, _||_}
-use mathlib.Core.Path.{_≡_, refl, sym, ap, _∙_}
+use mathlib.Core.Path.{_≡_, refl, ap, _∙_}
 use native.Mathlib.Numerals.{add-one}
 use native.Mathlib.Omega.{arith}
 use borrow.Author.Tests.{lt-leb, le-leb}
@@ -11,13 +11,9 @@ use lib.ListN.{length, getD, take}
 use lib.Seq.{getD-take, length-take-le}
 use Rattle.machine.specs.Word.{mem, any}
 use Rattle.machine.proofs.WordLaws.{mem-zero, word-ext}
-use Rattle.machine.specs.Succ.{wordFound}
 use Rattle.machine.proofs.Steps.{id-length}
 use Rattle.machine.proofs.explore.word_found.Statement.{statement}
 use Rattle.machine.proofs.explore.word_found.Tie as tie
-use Rattle.machine.proofs.explore.word_found.Reads as reads
-use Rattle.machine.proofs.explore.word_found.Lts as lts
-use Rattle.machine.proofs.words.with_member.Reads as with-member-reads
 
 abbrev Inv-loop : tie.InvT-loop
 Inv-loop c codes count r₀ i₀ r i =

@@ -1,9 +1,9 @@
 -- `accept_word` meets its contract. The invariant: the word holds the accepting states below i. Assumes nothing.
 use borrow.Author.Needs.{needs}
-use Prim.Native.Nat.{ℕ, _+_, _-_, _^_, _≤_, _<_, _%_}
+use Prim.Native.Nat.{ℕ, _-_, _^_, _≤_, _<_, _%_}
 use mathlib.Core.Bool.{Bool, _||_, _&&_}
 use mathlib.Core.Logic.{⊎-elim}
-use mathlib.Core.Path.{_≡_, refl, sym, ap, _∙_, subst}
+use mathlib.Core.Path.{_≡_, sym, ap, _∙_}
 use native.Mathlib.Omega.{arith}
 use borrow.Author.Tests.{le-ltb}
 use lib.Dec.{eqb, ltb}
@@ -16,10 +16,6 @@ use Rattle.machine.proofs.Steps.{id-length}
 use Rattle.machine.proofs.Members.{accept-more, accept-same}
 use Rattle.machine.proofs.records.accept_word.Statement.{statement}
 use Rattle.machine.proofs.records.accept_word.Tie as tie
-use Rattle.machine.proofs.records.accept_word.Reads as reads
-use Rattle.machine.proofs.records.accept_word.Lts as lts
-use Rattle.machine.proofs.records.accepts.Reads as accepts-reads
-use Rattle.machine.proofs.words.with_member.Reads as with-member-reads
 
 abbrev Inv-loop : tie.InvT-loop
 Inv-loop kind a b codes count r₀ i₀ r i =

@@ -1,16 +1,12 @@
 -- `accepts` meets its contract. Each arm is the definition's clause for that kind. Assumes nothing.
-use Prim.Native.Nat.{_/_, _%_}
+use Prim.Native.Nat.{_%_}
 use mathlib.Core.Bool.{Bool, not, _||_, _&&_}
-use mathlib.Core.Path.{_≡_, refl, sym, ap, _∙_}
+use mathlib.Core.Path.{refl, sym, ap, _∙_}
 use Rattle.machine.specs.Word.{mem}
 use Rattle.machine.specs.Machine.{acceptBy}
 use borrow.Author.Needs.{needs}
 use Rattle.machine.proofs.records.accepts.Statement.{statement}
 use Rattle.machine.proofs.records.accepts.Tie as tie
-use Rattle.machine.proofs.records.accepts.Reads as reads
-use Rattle.machine.proofs.records.accepts.Lts as lts
-use Rattle.machine.proofs.words.has.Reads as has-reads
-use Rattle.machine.proofs.words.meet.Reads as meet-reads
 
 enum-told : tie.Need-enum-told
 enum-told c = search needs

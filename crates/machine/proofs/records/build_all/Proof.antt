@@ -1,18 +1,15 @@
 -- `build_all` meets its contract. The invariant: the first r machines are made, and nothing after their shares is changed. Assumes nothing.
 use borrow.Author.Needs.{needs}
-use Prim.Native.Nat.{ℕ, _+_, _-_, _*_, _≤_, _<_}
+use Prim.Native.Nat.{_+_, _-_, _*_, _≤_}
 use mathlib.Core.Path.{_≡_, refl, sym, ap, _∙_, subst}
 use native.Mathlib.Numerals.{add-one}
 use native.Mathlib.Omega.{arith}
 use lib.ListN.{length, getD, drop}
 use Rattle.machine.proofs.Start.{drop-later}
 use Rattle.machine.proofs.Shares.{next-share}
-use Rattle.machine.specs.Rule.{Fits, Sound, Made, after, upto, noDecoded}
+use Rattle.machine.specs.Rule.{Fits, Made, after, upto, noDecoded}
 use Rattle.machine.proofs.records.build_all.Statement.{statement}
 use Rattle.machine.proofs.records.build_all.Tie as tie
-use Rattle.machine.proofs.records.build_all.Reads as reads
-use Rattle.machine.proofs.records.build_all.Lts as lts
-use Rattle.machine.proofs.records.build_next.Reads as build-next-reads
 
 abbrev Inv-loop : tie.InvT-loop
 Inv-loop ws₀ m c labels records t₀ r₀ ws t r = (r ≤ m) × (length ws ≡ length ws₀) × Made (upto records c labels r) c labels r t ws × (drop (m * (labels * c * c)) ws ≡ drop (m * (labels * c * c)) ws₀)

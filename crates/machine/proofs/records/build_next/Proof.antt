@@ -1,20 +1,13 @@
 -- `build_next` meets its contract. Assumes nothing.
-use mathlib.Core.Path.{_≡_, refl, sym, ap, _∙_, subst}
+use mathlib.Core.Path.{refl, ap}
 use native.Mathlib.Omega.{arith}
 use lib.ListN.{length}
-use Rattle.machine.specs.Table.{Room}
-use Rattle.machine.specs.Rule.{planOf}
 use Rattle.machine.proofs.Shares.{room-of, made-over, after-too-many, after-more, after-high}
 use Rattle.machine.proofs.Steps.{id-length}
 use lib.ListN.{set}
 use borrow.Author.Needs.{needs}
 use Rattle.machine.proofs.records.build_next.Statement.{statement}
 use Rattle.machine.proofs.records.build_next.Tie as tie
-use Rattle.machine.proofs.records.build_next.Reads as reads
-use Rattle.machine.proofs.records.build_next.Lts as lts
-use Rattle.machine.proofs.records.accept_word.Reads as accept-word-reads
-use Rattle.machine.proofs.explore.build_plan.Reads as build-plan-reads
-use Rattle.machine.proofs.records.plan_of.Reads as plan-of-reads
 
 returns : tie.Need-returns
 returns c = let a = c .before .before .args in (made-over (a .x) (a .c) (a .labels) (a .r) (a .s) (a .ws .now) (a .ws .now) (c .if1 .taken), refl)

@@ -1,14 +1,12 @@
 -- `clear` meets its contract. The invariant: the first i bytes are 0, and the rest are as they were. Assumes nothing.
-use Prim.Native.Nat.{ℕ, _-_, _≤_}
+use Prim.Native.Nat.{_-_, _≤_}
 use mathlib.Core.List.{_++_}
-use mathlib.Core.Path.{_≡_, refl, ap, _∙_, subst}
+use mathlib.Core.Path.{_≡_, refl, ap, _∙_}
 use native.Mathlib.Omega.{arith}
 use borrow.Author.Fill.{fill-more}
 use lib.ListN.{length, drop, replicate, set, length-set}
 use Rattle.machine.proofs.records.clear.Statement.{statement}
 use Rattle.machine.proofs.records.clear.Tie as tie
-use Rattle.machine.proofs.records.clear.Reads as reads
-use Rattle.machine.proofs.records.clear.Lts as lts
 
 abbrev Inv-loop : tie.InvT-loop
 Inv-loop ws₀ n i₀ ws i = (i ≤ n) × (length ws ≡ length ws₀) × (ws ≡ replicate i 0 ++ drop i ws₀)

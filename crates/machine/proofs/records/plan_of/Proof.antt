@@ -4,8 +4,6 @@ use Rattle.machine.proofs.Shares.{share-small, times-small}
 use borrow.Author.Needs.{needs}
 use Rattle.machine.proofs.records.plan_of.Statement.{statement}
 use Rattle.machine.proofs.records.plan_of.Tie as tie
-use Rattle.machine.proofs.records.plan_of.Reads as reads
-use Rattle.machine.proofs.records.plan_of.Lts as lts
 
 mul-share : tie.Need-mul-share
 mul-share c = let a = c .args in omega (arith, share-small (a .c) (a .labels) (omega arith) (omega arith))

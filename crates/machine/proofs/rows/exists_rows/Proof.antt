@@ -3,10 +3,9 @@ use borrow.Author.Needs.{needs}
 use Prim.Native.Nat.{ℕ, _+_}
 use mathlib.Core.Path.{_≡_, subst}
 use mathlib.Core.Bool.{true}
-use mathlib.Core.List.{List}
 use lib.ListN.{getD}
 use Rattle.machine.specs.Rows.{Follows}
-use Rattle.machine.specs.Succ.{entry, off, on}
+use Rattle.machine.specs.Succ.{entry, on}
 use Rattle.machine.specs.Word.{mem}
 use Rattle.machine.proofs.RowLaws.{serves}
 use Rattle.machine.proofs.rows.exists_rows.Statement.{statement}

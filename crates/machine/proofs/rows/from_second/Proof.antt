@@ -1,8 +1,6 @@
 -- `from_second` meets its contract. The invariant: what is left of the set is still to be walked. Assumes nothing.
 use borrow.Author.Needs.{needs}
-use Prim.Native.Nat.{ℕ, _-_}
-use mathlib.Core.Bool.{Bool}
-use mathlib.Core.Path.{_≡_, sym}
+use mathlib.Core.Path.{_≡_}
 use native.Mathlib.Omega.{arith}
 use Rattle.machine.specs.Succ.{entry, hit}
 use Rattle.machine.proofs.Members.{Walk, walk-first, walk-next, walk-last, some-in}

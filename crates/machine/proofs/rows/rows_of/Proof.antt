@@ -5,8 +5,8 @@ use mathlib.Core.List.{List, [], _∷_}
 use types.Run.{OneOf, miss}
 use denote.Enum.Declared.{tagOf}
 use Rattle.machine.proofs.explore.Kind.{the-type}
-use Rattle.machine.specs.Rows.{GivenBy, Serves}
-use Rattle.machine.specs.Succ.{Step, entry}
+use Rattle.machine.specs.Rows.{GivenBy}
+use Rattle.machine.specs.Succ.{Step}
 use Rattle.machine.specs.declared.explore.Kind.{Kind}
 use Rattle.machine.specs.declared.explore.Kind.the-variants.{Subset, Single, Child1, Child2, Root, Not, Or, And, Exists, Close}
 use Rattle.machine.proofs.rows.rows_of.Statement.{statement}

@@ -3,8 +3,6 @@ use Rattle.machine.proofs.Members.{has-law}
 use borrow.Author.Needs.{needs}
 use Rattle.machine.proofs.words.has.Statement.{statement}
 use Rattle.machine.proofs.words.has.Tie as tie
-use Rattle.machine.proofs.words.has.Reads as reads
-use Rattle.machine.proofs.words.has.Lts as lts
 
 shr-result : tie.Need-shr-result
 shr-result c = search needs

@@ -5,8 +5,6 @@ use Rattle.machine.proofs.Members.{with-law}
 use borrow.Author.Needs.{needs}
 use Rattle.machine.proofs.words.with_member.Statement.{statement}
 use Rattle.machine.proofs.words.with_member.Tie as tie
-use Rattle.machine.proofs.words.with_member.Reads as reads
-use Rattle.machine.proofs.words.with_member.Lts as lts
 
 shl-result : tie.Need-shl-result
 shl-result c = search needs
