@@ -1,25 +1,21 @@
--- Which trees a record's machine accepts, by those that its parts' machines accept. Assumes nothing.
+-- A record's machine accepts by the code of the tree; and the codes of "not", "or" and "and" by the states of their parts' machines.
+-- Assumes nothing.
 use Prim.Native.Nat.{ℕ, _+_, _*_, _/_, _%_, _≤_, _<_}
-use mathlib.Core.Bool.{Bool, true, not, _&&_, _||_}
-use mathlib.Core.Logic.{_↔_}
-use mathlib.Core.Path.{_≡_, refl, sym, ap, ap₂, _∙_, subst}
+use mathlib.Core.Bool.{_&&_}
+use mathlib.Core.Path.{_≡_, refl, ap, ap₂, _∙_, subst}
 use mathlib.Core.List.{List}
 use mathlib.Core.Option.{some}
 use native.Mathlib.Omega.{arith}
 use borrow.Author.Tests.{lt-ltb}
 use lib.Dec.{ltb}
 use lib.ListN.{length, getD}
-use Rattle.machine.proofs.Any.{and-both, any-true, any-in}
-use Rattle.machine.specs.Explore.{explore}
 use Rattle.machine.proofs.Found.{Ok, explore-ok}
-use Rattle.machine.specs.Word.{mem, any}
+use Rattle.machine.specs.Word.{mem}
 use Rattle.machine.proofs.WordLaws.{word-mem}
-use Rattle.machine.specs.Succ.{Step, notCode, pairCode, existsCode, closeCode, kindCode, wordFound}
-use Rattle.machine.specs.Machine.{startCode, codesOf, stepOf, acceptBy, acceptOf, Bit}
+use Rattle.machine.specs.Succ.{Step, notCode, pairCode, kindCode}
+use Rattle.machine.specs.Machine.{startCode, codesOf, stepOf, acceptBy, acceptOf}
 use Rattle.machine.proofs.Run.{Tree, empty, node, codeOf, stateOf, Labelled, run-code}
-use Rattle.machine.proofs.Exists.{Cover, cover-state, cover-mem, mem-cover}
 use Rattle.machine.specs.declared.explore.Kind.{Kind}
-use Rattle.machine.specs.declared.explore.Kind.the-variants.{Not, Or, And, Exists}
 
 -- a record's machine accepts where the code of the tree does
 pub accept-law : (k : Kind) (f g : Step) (wx wy c labels a b : ℕ) (cs : List ℕ) → 0 < c → c ≤ 64 → codesOf k f g wx wy c labels ≡ some cs → (t : Tree) → Labelled labels t
@@ -70,58 +66,3 @@ pair-run f g n m labels s r (node l t u) h =
     let x₂ : codeOf (pairCode f g) 0 t % 64 ≡ stateOf g t = omega (arith, a, r .few) in
     let y₂ : codeOf (pairCode f g) 0 u % 64 ≡ stateOf g u = omega (arith, b, r .few) in
     ap₂ (λ (p q : ℕ). p * 64 + q) (ap₂ (f l) x₁ y₁) (ap₂ (g l) x₂ y₂)
-
--- does the machine with this step and these accepting states accept the tree
-abbrev pub Accepts : Step → ℕ → Tree → Bool
-Accepts f a t = mem (stateOf f t) a
-
-module _ (f g : Step) (wx wy c n labels a b : ℕ) (cs : List ℕ) (pos : 0 < c) (top : c ≤ 64) (s : Small f n labels) where
-  -- "not" accepts what its part does not
-  pub not-law : codesOf Not f g wx wy c labels ≡ some cs → (t : Tree) → Labelled labels t → Accepts (stepOf (kindCode Not f g wx wy) cs) (acceptOf Not a b cs) t ≡ not (Accepts f a t)
-  unfolding acceptBy kindCode startCode
-  not-law found t h =
-      let e = not-run f n labels s t h in
-      let x : codeOf (notCode f) 0 t % 64 ≡ stateOf f t = omega (arith, e, s .few, state-in f n labels s t h) in
-      accept-law Not f g wx wy c labels a b cs pos top found t h ∙ ap (λ (q : ℕ). not (mem q a)) x
-
-  module _ (m : ℕ) (r : Small g m labels) where
-    first-of : (t : Tree) → Labelled labels t → codeOf (pairCode f g) 0 t / 64 % 64 ≡ stateOf f t
-    first-of t h = omega (arith, pair-run f g n m labels s r t h, s .few, r .few, state-in f n labels s t h, state-in g m labels r t h)
-
-    second-of : (t : Tree) → Labelled labels t → codeOf (pairCode f g) 0 t % 64 ≡ stateOf g t
-    second-of t h = omega (arith, pair-run f g n m labels s r t h, r .few, state-in g m labels r t h)
-
-    pub or-law : codesOf Or f g wx wy c labels ≡ some cs → (t : Tree) → Labelled labels t → Accepts (stepOf (kindCode Or f g wx wy) cs) (acceptOf Or a b cs) t ≡ (Accepts f a t || Accepts g b t)
-    unfolding acceptBy kindCode startCode
-    or-law found t h =
-        accept-law Or f g wx wy c labels a b cs pos top found t h ∙ ap₂ (λ (p q : ℕ). mem p a || mem q b) (first-of t h) (second-of t h)
-
-    pub and-law : codesOf And f g wx wy c labels ≡ some cs → (t : Tree) → Labelled labels t → Accepts (stepOf (kindCode And f g wx wy) cs) (acceptOf And a b cs) t ≡ (Accepts f a t && Accepts g b t)
-    unfolding acceptBy kindCode startCode
-    and-law found t h =
-        accept-law And f g wx wy c labels a b cs pos top found t h ∙ ap₂ (λ (p q : ℕ). mem p a && mem q b) (first-of t h) (second-of t h)
-
-  -- "exists" accepts a tree if its part accepts one that covers it
-  module _ (room : n ≤ c) (bit : Bit wx labels) where
-    abbrev code : Tree → ℕ
-    code t = codeOf (existsCode f wx) (wordFound (explore (closeCode f wx) c 2 0)) t
-
-    some-cover : (t : Tree) → Labelled labels t → any (λ (q : ℕ). mem q (code t) && mem q a) 64 ≡ true → (t′ : Tree) × Cover wx t t′ × (Accepts f a t′ ≡ true)
-    some-cover t h e =
-        let q = any-true (λ (q : ℕ). mem q (code t) && mem q a) 64 e in
-        let d = and-both (mem (q .0) (code t)) (mem (q .0) a) (q .2) in
-        let v = mem-cover f n c labels wx (s .zero-in) (s .few) room bit (s .step-in) t h (q .0) (q .1) (d .0) in
-        (v .0, v .1, ap (λ (x : ℕ). mem x a) (v .2) ∙ d .1)
-
-    cover-some : (t : Tree) → Labelled labels t → (t′ : Tree) × Cover wx t t′ × (Accepts f a t′ ≡ true) → any (λ (q : ℕ). mem q (code t) && mem q a) 64 ≡ true
-    cover-some t h v =
-        let n′ = cover-state f n c labels wx (s .zero-in) (s .few) room bit (s .step-in) t (v .0) h (v .1) in
-        any-in (λ (q : ℕ). mem q (code t) && mem q a) 64 (stateOf f (v .0)) (omega (arith, s .few))
-        (ap₂ _&&_ (cover-mem f n c labels wx (s .zero-in) (s .few) room bit (s .step-in) t (v .0) h (v .1)) (v .2))
-
-    pub exists-law : codesOf Exists f g wx wy c labels ≡ some cs → (t : Tree) → Labelled labels t
-        → (Accepts (stepOf (kindCode Exists f g wx wy) cs) (acceptOf Exists a b cs) t ≡ true) ↔ ((t′ : Tree) × Cover wx t t′ × (Accepts f a t′ ≡ true))
-    unfolding acceptBy kindCode startCode
-    exists-law found t h =
-        let e = accept-law Exists f g wx wy c labels a b cs pos top found t h in
-        (λ x. some-cover t h (sym e ∙ x), λ v. e ∙ cover-some t h v)

@@ -1,7 +1,7 @@
 -- The machine of "exists": after a tree it is at the set of the states of the part's machine after the trees that cover it,
 -- those with any set put for the bound variable. Assumes nothing.
 use Prim.Native.Nat.{ℕ, zero, suc, _*_, _%_, _≤_, _<_}
-use mathlib.Core.Bool.{Bool, true, _||_, or-true, _&&_}
+use mathlib.Core.Bool.{Bool, true, _&&_, _||_, or-true}
 use mathlib.Core.Logic.{⊎-elim}
 use mathlib.Core.Path.{_≡_, refl, sym, ap, ap₂, _∙_, subst}
 use mathlib.Core.List.{List}
@@ -190,3 +190,16 @@ module _ (f : Step) (n c labels w : ℕ) (zero-in : 0 < n) (few : n ≤ 64) (roo
           let s = step-in (on w l) (stateOf f (ta .0)) (stateOf f (tb .0)) (bit .on-label l (h .0)) na nb in
           (node (on w l) (ta .0) (tb .0), cover-on (ta .1) (tb .1), omega (arith, eqb-true (f (on w l) (i .0) (j .0) % 64) q p)))
           (or-cases (eqb (f (off w l) (i .0) (j .0) % 64) q) (eqb (f (on w l) (i .0) (j .0) % 64) q) (bj .1))
+
+-- a tree that covers one has labels in range too
+only-labelled : (w labels : ℕ) → w < labels → (t : Tree) → Only w t → Labelled labels t
+only-labelled w labels h t only-empty = tt
+only-labelled w labels h t (only-off {t = a} {u = b} p q) = (omega arith, only-labelled w labels h a p, only-labelled w labels h b q)
+only-labelled w labels h t (only-on {t = a} {u = b} p q) = (h, only-labelled w labels h a p, only-labelled w labels h b q)
+
+pub cover-labelled : (w labels : ℕ) → Bit w labels → (t t′ : Tree) → Labelled labels t → Cover w t t′ → Labelled labels t′
+cover-labelled w labels bit t t′ h (cover-empty {t = s} o) = only-labelled w labels (bit .is-label) s o
+cover-labelled w labels bit t t′ h (cover-off {l = l} {t = a} {t′ = a′} {u = b} {u′ = b′} p q) =
+    (bit .off-label l (h .0), cover-labelled w labels bit a a′ (h .1) p, cover-labelled w labels bit b b′ (h .2) q)
+cover-labelled w labels bit t t′ h (cover-on {l = l} {t = a} {t′ = a′} {u = b} {u′ = b′} p q) =
+    (bit .on-label l (h .0), cover-labelled w labels bit a a′ (h .1) p, cover-labelled w labels bit b b′ (h .2) q)

@@ -102,11 +102,6 @@ module _ (succ : ℕ → ℕ → ℕ → ℕ) (c : ℕ) where
       go true = ring-grows k m (some cs)
       go false = grows-refl (some cs)
 
-  pub grow-grows : (m k : ℕ) (o : Option (List ℕ)) → Grows o (grow succ c m k o)
-  unfolding grow
-  grow-grows m zero o = grows-refl o
-  grow-grows m (suc k) o = grows-trans o (grow succ c m k o) (next succ c m k (grow succ c m k o)) (grow-grows m k o) (next-grows m k (grow succ c m k o))
-
   -- what is visited is there
   pub visit-has : (l i j : ℕ) (o : Option (List ℕ)) → Long i o → Long j o → Has succ l i j (visit succ c l i j o)
   unfolding visit

@@ -16,7 +16,6 @@ pub mod Place
 pub mod RowLaws
 pub mod Rules
 pub mod Run
-pub mod Sat
 pub mod Shares
 pub mod Start
 pub mod Steps

@@ -35,10 +35,9 @@ use Rattle.machine.specs.Machine.{startCode, codesOf, stepOf, acceptBy, acceptO
 use Rattle.machine.specs.Rule.{Mach, noMach, machFrom}
 use Rattle.machine.proofs.Run.{Tree as Tree₂, empty as empty₂, node as node₂, codeOf, stateOf, Labelled, run-code as code-state, reach-tree}
 use Rattle.machine.proofs.Labels.{bit-of}
-use Rattle.machine.proofs.Exists.{Cover, cover-mem, mem-cover}
+use Rattle.machine.proofs.Exists.{Cover, cover-mem, mem-cover, cover-labelled}
 use Rattle.machine.proofs.Accept.{Small, accept-law, not-run, pair-run}
-use Rattle.machine.proofs.AtomRuns.{atomState, atom-run}
-use Rattle.machine.proofs.Sat.{cover-labelled, subset-four, single-four, child-four, root-four}
+use Rattle.machine.proofs.AtomRuns.{atomState, atom-run, subset-four, single-four, child-four, root-four}
 use Rattle.machine.specs.declared.explore.Kind.{Kind}
 use Rattle.machine.specs.declared.explore.Kind.the-variants.{Subset, Single, Child1, Child2, Root, Not, Or, And, Exists, Close}
 use Rattle.refinement.proofs.Trees.{back, forth, back-forth, raw, run-code, run-state, labelled, proper}
