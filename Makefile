@@ -27,8 +27,8 @@ run: target/bin/verdict
 	@target/bin/verdict < $(RULE)
 
 target/bin/verdict: $(SOURCES) crates/verdict/src/main.rt
-	rt check verdict > target-verdict.log 2>&1 || { cat target-verdict.log; rm -f target-verdict.log; exit 1; }
-	@rm -f target-verdict.log
+	@mkdir -p target
+	rt check verdict > target/verdict.log 2>&1 || { cat target/verdict.log; exit 1; }
 
 $(LIB): $(SOURCES)
 	rt staticlib ws2s
@@ -63,6 +63,23 @@ attack: $(HOST)/attack
 
 example: $(HOST)/example
 	$(HOST)/example $(RULE)
+
+bench: $(HOST)/bench
+	$(HOST)/bench -v tests/vectors/base/decide.txt -l tests/vectors/heavy.txt -l bench/worst.txt $(wildcard samples/*.rul)
+	bench/instructions.sh $(HOST)/bench $(foreach l,1 2 3 4 5,tests/vectors/heavy.txt:$(l)) $(wildcard samples/*.rul)
+	if command -v mona > /dev/null; then bench/mona.py --compare tests/vectors/base/decide.txt; else echo 'MONA is not installed'; fi
+
+install: target/bin/verdict $(LIB)
+	@mkdir -p $(HOST)
+	sed -e 's|@PREFIX@|$(PREFIX)|' -e 's|@VERSION@|$(VERSION)|' packaging/ws2s.pc.in > $(HOST)/ws2s.pc
+	install -d $(DESTDIR)$(PREFIX)/include $(DESTDIR)$(PREFIX)/lib/pkgconfig $(DESTDIR)$(PREFIX)/bin \
+	    $(DESTDIR)$(PREFIX)/share/man/man1 $(DESTDIR)$(PREFIX)/share/man/man3
+	install -m 644 include/ws2s.h $(DESTDIR)$(PREFIX)/include/
+	install -m 644 $(LIB) $(DESTDIR)$(PREFIX)/lib/
+	install -m 644 $(HOST)/ws2s.pc $(DESTDIR)$(PREFIX)/lib/pkgconfig/
+	install -m 755 target/bin/verdict $(DESTDIR)$(PREFIX)/bin/
+	install -m 644 man/verdict.1 $(DESTDIR)$(PREFIX)/share/man/man1/
+	install -m 644 man/ws2s.3 $(DESTDIR)$(PREFIX)/share/man/man3/
 
 clean:
 	rm -rf target
