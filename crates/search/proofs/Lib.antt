@@ -1,2 +1,4 @@
+pub mod ScanLaws
+pub mod RoundLaws
 pub mod RankLaws
 pub mod StripLaws

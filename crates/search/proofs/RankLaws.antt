@@ -12,7 +12,8 @@ use Rattle.logic.specs.Search.{at, candidate}
 use Rattle.strip.specs.Bits.{digits}
 use Rattle.strip.specs.TreeStrip.{treeBits}
 use Rattle.strip.proofs.Fields.{sets-after, length-digits}
-use Rattle.search.specs.Arrays.{treeAt, decode, decode-length, Backs}
+use Rattle.search.specs.Arrays.{treeAt, decode, Backs}
+use Rattle.search.proofs.RoundLaws.{decode-length}
 use Rattle.search.specs.Ranks.{treeOfRank, Clear}
 
 pub sets-append : (l : List ℕ) (at : ℕ) (xs ys : List ℕ) → sets l at (xs ++ ys) ≡ sets (sets l at xs) (at + length xs) ys

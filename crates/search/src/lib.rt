@@ -6,9 +6,8 @@ ghost use Rattle.search.specs.Arrays.{Whole, acceptsOf, machineIn, settl
 ghost use mathlib.Core.Path.{_≡_};
 ghost use Prim.Native.Nat.{ℕ, _+_, _*_, _<_, _≤_};
 ghost use lib.ListN.{length, getD};
-ghost use Rattle.search.specs.Code.{kept, Ready, Held, codeView, bestOf};
+ghost use Rattle.search.specs.Scan.{kept, Ready, Held, codeView, bestOf, scanSecond, scanFirst, scanLabel};
 ghost use Rattle.logic.specs.Search.{nothing, anyBelow, search};
-ghost use Rattle.search.specs.Loops.{scanSecond, scanFirst, scanLabel};
 
 // The best candidate so far: its positions, or 0 for none; its label and the ranks of its branches.
 pub struct Pick {

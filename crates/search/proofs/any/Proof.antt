@@ -5,7 +5,8 @@ use Prim.Native.Nat.{_-_, _≤_}
 use native.Mathlib.Omega.{arith}
 use borrow.Author.Needs.{needs}
 use Rattle.logic.specs.Search.{anyBelow}
-use Rattle.search.specs.Arrays.{acceptsOf, some-on, some-off, any-done}
+use Rattle.search.specs.Arrays.{acceptsOf}
+use Rattle.search.proofs.RoundLaws.{some-on, some-off, any-done}
 use Rattle.search.proofs.any.Statement.{statement}
 use Rattle.search.proofs.any.Tie as tie
 use Rattle.search.proofs.any.Reads as reads

@@ -5,8 +5,8 @@ use native.Mathlib.Omega.{arith}
 use borrow.Author.Needs.{needs}
 use Rattle.logic.specs.Search.{loop}
 use lib.ListN.{length, getD}
-use Rattle.search.specs.Loops.{scanSecond}
-use Rattle.search.specs.Code.{Ready, Held, codeView, bestOf, row-next, row-done, ready-steps}
+use Rattle.search.specs.Scan.{scanSecond, Ready, Held, codeView, bestOf}
+use Rattle.search.proofs.ScanLaws.{row-next, row-done, ready-steps}
 use Rattle.search.proofs.row.Statement.{statement}
 use Rattle.search.proofs.row.Tie as tie
 use Rattle.search.proofs.row.Reads as reads

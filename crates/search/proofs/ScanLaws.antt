@@ -1,22 +1,28 @@
--- What the code's arrays stand for.
-use mathlib.Core.Path.{_≡_, refl, sym, ap, ap₂, subst, _∙_}
-use mathlib.Core.Logic.{_⊎_, inl, inr}
-use mathlib.Core.Bool.{Bool, true, false, not, _||_, cond, true≢false}
+-- One turn of each loop of a scan, its start and its end. Assumes nothing.
+use mathlib.Core.Path.{_≡_, refl, sym, ap, subst}
+use mathlib.Core.Bool.{Bool, true, false, not, true≢false}
 use mathlib.Core.List.{List, [], _∷_}
 use Prim.Native.Nat.{ℕ, zero, suc, _+_, _*_, _≤_, _<_}
 use native.Mathlib.Omega.{arith}
 use native.Mathlib.Nat.{mul-le-mul-right}
 use native.Mathlib.Numerals.{add-one}
-use lib.Dec.{ltb, eqb}
+use lib.Dec.{eqb}
 use borrow.Author.Tests.{eq-eqb, ne-eqb, lt-ltb, le-ltb, ltb-true, ltb-false, eqb-true, eqb-false}
-use lib.ListN.{length, getD}
+use lib.ListN.{getD}
 use Rattle.search.specs.declared.Pick.{Pick}
-use Rattle.logic.specs.Two.{one, two}
-use Rattle.logic.specs.Search.{Best, nothing, found, View, weight, lighter, choose, consider, loop}
-use Rattle.search.specs.Loops.{scanSecond, scanFirst, scanLabel, weight-two}
+use Rattle.logic.specs.Two.{one}
+use Rattle.logic.specs.Search.{Best, nothing, found, View, weight, lighter, choose, consider, loop, tuples, pick, at}
+use Rattle.logic.specs.Tree.{downFrom, sumOf}
+use Rattle.search.specs.Scan.{kept, codeView, bestOf, sizeOf, Held, Ready, scanSecond, scanFirst, scanLabel}
 
-unfoldable pub kept : Pick → ℕ → ℕ → ℕ → ℕ → ℕ → Pick
-kept p old w l i j = cond (eqb old 0) (cond (eqb (p .size) 0 || ltb w (p .size)) (record { size = w; label = l; first = i; second = j }) p) p
+-- the definition's loops are these
+pub pick-loops : (v : View 2) (labels n : ℕ) → pick labels n v ≡ scanLabel v n labels nothing
+unfolding pick tuples scanLabel scanFirst scanSecond
+pick-loops v labels n = refl
+
+pub weight-two : (v : View 2) (i j : ℕ) → weight v (i ∷ j ∷ []) ≡ v .size i + v .size j
+unfolding sumOf downFrom
+weight-two v i j = omega arith
 
 module _ (p : Pick) (old w l i j : ℕ) where
   pub kept-old : (old ≡ 0 → ⊥) → p ≡ kept p old w l i j
@@ -34,28 +40,6 @@ module _ (p : Pick) (old w l i j : ℕ) where
   pub kept-more : old ≡ 0 → (p .size ≡ 0 → ⊥) → p .size ≤ w → p ≡ kept p old w l i j
   unfolding kept
   kept-more h e k = rw (eq-eqb old 0 h, ne-eqb (p .size) 0 e, le-ltb w (p .size) k)
-
--- the arrays, as a round reads them: c states to a row of the table
-unfoldable pub codeView : List ℕ → ℕ → List ℕ → List ℕ → List ℕ → View 2
-codeView table c done state size = record {
-  step = λ l s. getD table ((l * c + s one) * c + s two) 0;
-  old = λ q. not (eqb (getD done q 0) 0);
-  state = λ i. getD state i 0;
-  size = λ i. getD size i 0;
-}
-
-unfoldable pub bestOf : ℕ → ℕ → ℕ → ℕ → Best
-bestOf zero l i j = nothing
-bestOf (suc w) l i j = found l (i ∷ j ∷ [])
-
-unfoldable pub sizeOf : View 2 → Best → ℕ
-sizeOf v nothing = 0
-sizeOf v (found l is) = suc (weight v is)
-
--- p stands for b
-pub record Held (v : View 2) (b : Best) (p : Pick) : Type 0 where
-  pub best : bestOf (p .size) (p .label) (p .first) (p .second) ≡ b
-  pub fair : p .size ≡ sizeOf v b
 
 module _ (v : View 2) (o l i j : ℕ) where
   abbrev new : Pick
@@ -84,17 +68,6 @@ held-consider table c done state size l i j b p h =
     let v : View 2 = codeView table c done state size in
     let o : ℕ = getD done (getD table ((l * c + getD state i 0) * c + getD state j 0) 0) 0 in
     held-choose v o l i j b p h (eqb o 0) refl (lighter v (i ∷ j ∷ []) b) refl
-
--- the arrays are as they should be: n settled trees, of states below a bound under which the steps stay, each of at most 255 positions
-pub record Ready (labels : ℕ) (table : List ℕ) (c : ℕ) (state size : List ℕ) (n : ℕ) : Type 0 where
-  pub few : c ≤ 64
-  pub whole : labels * c * c ≤ length table
-  pub bound : ℕ
-  pub within : bound ≤ c
-  pub steps : (l a b : ℕ) → l < labels → a < bound → b < bound → getD table ((l * c + a) * c + b) 0 < bound
-  pub settled-few : n ≤ 64
-  pub states : (i : ℕ) → i < n → getD state i 0 < bound
-  pub sizes : (i : ℕ) → i < n → getD size i 0 ≤ 255
 
 -- the place of a step in the table
 pair-lt : (x n y c : ℕ) → x < n → y < c → x * c + y < n * c

@@ -1,0 +1,56 @@
+-- The scan of one round, as the code runs it over arrays: three nested loops, and what the arrays stand for. Assumes nothing.
+use mathlib.Core.Path.{_≡_}
+use mathlib.Core.Bool.{not, _||_, cond}
+use mathlib.Core.List.{List, [], _∷_}
+use Prim.Native.Nat.{ℕ, zero, suc, _+_, _*_, _≤_, _<_}
+use lib.Dec.{ltb, eqb}
+use lib.ListN.{length, getD}
+use Rattle.search.specs.declared.Pick.{Pick}
+use Rattle.logic.specs.Two.{one, two}
+use Rattle.logic.specs.Search.{Best, nothing, found, View, weight, consider, loop, at, settled}
+use Rattle.logic.specs.Tree.{positions}
+
+unfoldable pub scanSecond : View 2 → ℕ → ℕ → ℕ → Best → Best
+scanSecond v l i n b = loop (λ j. consider v l (i ∷ j ∷ [])) n b
+
+unfoldable pub scanFirst : View 2 → ℕ → ℕ → ℕ → Best → Best
+scanFirst v n l m b = loop (λ i. scanSecond v l i n) m b
+
+unfoldable pub scanLabel : View 2 → ℕ → ℕ → Best → Best
+scanLabel v n m b = loop (λ l. scanFirst v n l n) m b
+
+unfoldable pub kept : Pick → ℕ → ℕ → ℕ → ℕ → ℕ → Pick
+kept p old w l i j = cond (eqb old 0) (cond (eqb (p .size) 0 || ltb w (p .size)) (record { size = w; label = l; first = i; second = j }) p) p
+
+-- the arrays, as a round reads them: c states to a row of the table
+unfoldable pub codeView : List ℕ → ℕ → List ℕ → List ℕ → List ℕ → View 2
+codeView table c done state size = record {
+  step = λ l s. getD table ((l * c + s one) * c + s two) 0;
+  old = λ q. not (eqb (getD done q 0) 0);
+  state = λ i. getD state i 0;
+  size = λ i. getD size i 0;
+}
+
+unfoldable pub bestOf : ℕ → ℕ → ℕ → ℕ → Best
+bestOf zero l i j = nothing
+bestOf (suc w) l i j = found l (i ∷ j ∷ [])
+
+unfoldable pub sizeOf : View 2 → Best → ℕ
+sizeOf v nothing = 0
+sizeOf v (found l is) = suc (weight v is)
+
+-- p stands for b
+pub record Held (v : View 2) (b : Best) (p : Pick) : Type 0 where
+  pub best : bestOf (p .size) (p .label) (p .first) (p .second) ≡ b
+  pub fair : p .size ≡ sizeOf v b
+
+-- the arrays are as they should be: n settled trees, of states below a bound under which the steps stay, each of at most 255 positions
+pub record Ready (labels : ℕ) (table : List ℕ) (c : ℕ) (state size : List ℕ) (n : ℕ) : Type 0 where
+  pub few : c ≤ 64
+  pub whole : labels * c * c ≤ length table
+  pub bound : ℕ
+  pub within : bound ≤ c
+  pub steps : (l a b : ℕ) → l < labels → a < bound → b < bound → getD table ((l * c + a) * c + b) 0 < bound
+  pub settled-few : n ≤ 64
+  pub states : (i : ℕ) → i < n → getD state i 0 < bound
+  pub sizes : (i : ℕ) → i < n → getD size i 0 ≤ 255
