@@ -160,6 +160,27 @@ pub struct Found {
     pub second: [usize; 64],
 }
 
+// An end of the rounds.
+fn ended(
+    kind: u8,
+    n: usize,
+    positions: u64,
+    label: [usize; 64],
+    first: [usize; 64],
+    second: [usize; 64],
+) -> Found
+    ensures { λ r. ⌜ r ≡ record { kind = kind; n = n; positions = positions; label = label; first = first; second = second } ⌝ }
+{
+    Found {
+        kind,
+        n,
+        positions,
+        label,
+        first,
+        second,
+    }
+}
+
 // The rounds, for a machine that accepts something.
 pub fn settle(
     labels: usize,
@@ -181,37 +202,16 @@ pub fn settle(
     done[0] = 1;
     let mut n: usize = 1;
     if accept[0] != 0 {
-        return Found {
-            kind: 2,
-            n,
-            positions: 0,
-            label,
-            first,
-            second,
-        };
+        return ended(2, n, 0, label, first, second);
     }
     while n < count {
         let b = scan(labels, table, c, &done, &state, &size, n);
         let w = b.size;
         if w == 0 {
-            return Found {
-                kind: 0,
-                n,
-                positions: 0,
-                label,
-                first,
-                second,
-            };
+            return ended(0, n, 0, label, first, second);
         }
         if p < w {
-            return Found {
-                kind: 1,
-                n,
-                positions: 0,
-                label,
-                first,
-                second,
-            };
+            return ended(1, n, 0, label, first, second);
         }
         let l = b.label;
         let i = b.first;
@@ -225,24 +225,10 @@ pub fn settle(
         done[q] = 1;
         n += 1;
         if accept[q] != 0 {
-            return Found {
-                kind: 2,
-                n,
-                positions: w,
-                label,
-                first,
-                second,
-            };
+            return ended(2, n, w, label, first, second);
         }
     }
-    Found {
-        kind: 0,
-        n,
-        positions: 0,
-        label,
-        first,
-        second,
-    }
+    ended(0, n, 0, label, first, second)
 }
 
 // Does a state below count accept?

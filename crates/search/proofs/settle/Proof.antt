@@ -11,6 +11,7 @@ use Rattle.search.proofs.settle.Tie as tie
 use Rattle.search.proofs.settle.Reads as reads
 use Rattle.search.proofs.settle.Lts as lts
 use Rattle.search.proofs.cell.Reads as cell-reads
+use Rattle.search.proofs.ended.Reads as ended-reads
 use Rattle.search.proofs.narrow.Reads as narrow-reads
 use Rattle.search.proofs.scan.Reads as scan-reads
 use Rattle.search.proofs.wide.Reads as wide-reads
@@ -22,48 +23,52 @@ Inv-loop labels table c count accept p done₀ state₀ size₀ label₀ first�
 abbrev μ-loop : tie.MeasureT-loop
 μ-loop labels table c count accept p done₀ state₀ size₀ label₀ first₀ second₀ n₀ done state size label first second n = count - n
 
--- src/lib.rt:156:5
 array-write-done : tie.Need-array-write-done Inv-loop μ-loop
 array-write-done c = search needs
 
--- src/lib.rt:158:8
 element-copy-out-if1 : tie.Need-element-copy-out-if1 Inv-loop μ-loop
 element-copy-out-if1 c = search needs
 
--- src/lib.rt:159:9
+ended-requires : tie.Need-ended-requires Inv-loop μ-loop
+ended-requires c κs = search needs
+
 returns : tie.Need-returns Inv-loop μ-loop
 returns c =
-    let wh = c .before .before .before .pre in
-    shown-first _ _ _ _ (c .before .before .before .args .accept .now) _ wh (search)
+    let wh = c .before .before .before .before .pre in
+    rw (c .ended .ensures)
+    (shown-first _ _ _ _ (c .before .before .before .before .args .accept .now) _ wh (search))
 
--- src/lib.rt:161:5
 loop-holds : tie.Need-loop-holds Inv-loop μ-loop
 loop-holds c =
     let wh = c .before .before .before .pre in
     round-first _ _ _ _ _ _ wh (search)
 
--- src/lib.rt:162:13
 scan-requires : tie.Need-scan-requires Inv-loop μ-loop
 scan-requires c κs =
     let loop = c .before .before .before .before .loop in
     let wh = c .before .before .before .before .before .before .before .before .pre in
     round-ready _ _ _ _ _ _ wh _ _ _ _ _ _ _ (loop .inv)
 
--- src/lib.rt:165:13
+ended-requires-2 : tie.Need-ended-requires-2 Inv-loop μ-loop
+ended-requires-2 c κs = search needs
+
 returns-2 : tie.Need-returns-2 Inv-loop μ-loop
 returns-2 c =
-    let loop = c .before .before .before .before .before .before .loop in
-    let wh = c .before .before .before .before .before .before .before .before .before .before .pre in
-    round-none _ _ _ _ _ _ wh _ _ _ _ _ _ _ (loop .inv) (search) (c .before .scan .result) (c .before .scan .ensures) (search)
-
--- src/lib.rt:168:13
-returns-3 : tie.Need-returns-3 Inv-loop μ-loop
-returns-3 c =
     let loop = c .before .before .before .before .before .before .before .loop in
     let wh = c .before .before .before .before .before .before .before .before .before .before .before .pre in
-    round-larger _ _ _ _ _ _ wh _ _ _ _ _ _ _ (loop .inv) (search) (c .before .before .scan .result) (c .before .before .scan .ensures) (search) (search)
+    rw (c .ended2 .ensures)
+    (round-none _ _ _ _ _ _ wh _ _ _ _ _ _ _ (loop .inv) (search) (c .before .before .scan .result) (c .before .before .scan .ensures) (search))
 
--- src/lib.rt:173:48
+ended-requires-3 : tie.Need-ended-requires-3 Inv-loop μ-loop
+ended-requires-3 c κs = search needs
+
+returns-3 : tie.Need-returns-3 Inv-loop μ-loop
+returns-3 c =
+    let loop = c .before .before .before .before .before .before .before .before .loop in
+    let wh = c .before .before .before .before .before .before .before .before .before .before .before .before .pre in
+    rw (c .ended3 .ensures)
+    (round-larger _ _ _ _ _ _ wh _ _ _ _ _ _ _ (loop .inv) (search) (c .before .before .before .scan .result) (c .before .before .before .scan .ensures) (search) (search))
+
 array-read-wide : tie.Need-array-read-wide Inv-loop μ-loop
 array-read-wide c =
     let loop = c .before .before .before .before .before .before .before .loop in
@@ -71,11 +76,9 @@ array-read-wide c =
     let r = round-range _ _ _ _ _ _ wh _ _ _ _ _ _ _ (loop .inv) (search) (c .before .before .scan .result) (c .before .before .scan .ensures) (search) in
     omega (arith, r .1, loop .inv .high, wh .within, wh .few)
 
--- src/lib.rt:173:43
 wide-requires : tie.Need-wide-requires Inv-loop μ-loop
 wide-requires c κs = search needs
 
--- src/lib.rt:173:64
 array-read-wide-2 : tie.Need-array-read-wide-2 Inv-loop μ-loop
 array-read-wide-2 c =
     let loop = c .before .before .before .before .before .before .before .before .loop in
@@ -83,11 +86,9 @@ array-read-wide-2 c =
     let r = round-range _ _ _ _ _ _ wh _ _ _ _ _ _ _ (loop .inv) (search) (c .before .before .before .scan .result) (c .before .before .before .scan .ensures) (search) in
     omega (arith, r .2, loop .inv .high, wh .within, wh .few)
 
--- src/lib.rt:173:59
 wide-requires-2 : tie.Need-wide-requires-2 Inv-loop μ-loop
 wide-requires-2 c κs = search needs
 
--- src/lib.rt:173:13
 cell-requires : tie.Need-cell-requires Inv-loop μ-loop
 cell-requires c κs =
     let loop = c .before .before .before .before .before .before .before .before .before .loop in
@@ -95,74 +96,62 @@ cell-requires c κs =
     let r = round-range _ _ _ _ _ _ wh _ _ _ _ _ _ _ (loop .inv) (search) (c .before .before .before .before .scan .result) (c .before .before .before .before .scan .ensures) (search) in
     (wh .whole, (r .0, omega (arith, wh .within, loop .inv .tame ((c .before .before .before .before .scan .result) .first)), omega (arith, wh .within, loop .inv .tame ((c .before .before .before .before .scan .result) .second))))
 
--- src/lib.rt:174:9
 mul-label : tie.Need-mul-label Inv-loop μ-loop
 mul-label c = search needs
 
--- src/lib.rt:174:9
 array-write-label : tie.Need-array-write-label Inv-loop μ-loop
 array-write-label c = search needs
 
--- src/lib.rt:175:9
 mul-first : tie.Need-mul-first Inv-loop μ-loop
 mul-first c = search needs
 
--- src/lib.rt:175:9
 array-write-first : tie.Need-array-write-first Inv-loop μ-loop
 array-write-first c = search needs
 
--- src/lib.rt:176:9
 mul-second : tie.Need-mul-second Inv-loop μ-loop
 mul-second c = search needs
 
--- src/lib.rt:176:9
 array-write-second : tie.Need-array-write-second Inv-loop μ-loop
 array-write-second c = search needs
 
--- src/lib.rt:177:20
 narrow-requires : tie.Need-narrow-requires Inv-loop μ-loop
 narrow-requires c κs =
     let e : c .cell .result < 64 = round-small _ _ _ _ _ _ (c .before .before .before .before .before .before .before .before .before .before .before .before .before .before .pre) _ _ _ _ _ _ _ (c .before .before .before .before .before .before .before .before .before .before .loop .inv) (search) (c .before .before .before .before .before .scan .result) (c .before .before .before .before .before .scan .ensures) (search) _ _ (c .cell .result) (c .before .before .wide .ensures) (c .before .wide2 .ensures) (c .cell .ensures) in omega arith
 
--- src/lib.rt:177:9
 array-write-state : tie.Need-array-write-state Inv-loop μ-loop
 array-write-state c = search needs
 
--- src/lib.rt:178:9
 mul-size : tie.Need-mul-size Inv-loop μ-loop
 mul-size c = search needs
 
--- src/lib.rt:178:9
 array-write-size : tie.Need-array-write-size Inv-loop μ-loop
 array-write-size c = search needs
 
--- src/lib.rt:179:9
 array-write-done-2 : tie.Need-array-write-done-2 Inv-loop μ-loop
 array-write-done-2 c =
     round-small _ _ _ _ _ _ (c .before .before .before .before .before .before .before .before .before .before .before .before .before .before .before .pre) _ _ _ _ _ _ _ (c .before .before .before .before .before .before .before .before .before .before .before .loop .inv) (search) (c .before .before .before .before .before .before .scan .result) (c .before .before .before .before .before .before .scan .ensures) (search) _ _ (c .before .cell .result) (c .before .before .before .wide .ensures) (c .before .before .wide2 .ensures) (c .before .cell .ensures)
 
--- src/lib.rt:180:9
 add-n : tie.Need-add-n Inv-loop μ-loop
 add-n c = search needs
 
--- src/lib.rt:181:12
 element-copy-out-if4 : tie.Need-element-copy-out-if4 Inv-loop μ-loop
 element-copy-out-if4 c =
     round-small _ _ _ _ _ _ (c .before .before .before .before .before .before .before .before .before .before .before .before .before .before .before .pre) _ _ _ _ _ _ _ (c .before .before .before .before .before .before .before .before .before .before .before .loop .inv) (search) (c .before .before .before .before .before .before .scan .result) (c .before .before .before .before .before .before .scan .ensures) (search) _ _ (c .before .cell .result) (c .before .before .before .wide .ensures) (c .before .before .wide2 .ensures) (c .before .cell .ensures)
 
--- src/lib.rt:182:13
+ended-requires-4 : tie.Need-ended-requires-4 Inv-loop μ-loop
+ended-requires-4 c κs = search needs
+
 returns-4 : tie.Need-returns-4 Inv-loop μ-loop
 returns-4 c =
-    let loop = c .before .before .before .before .before .before .before .before .before .before .before .before .before .loop in
-    let wh = c .before .before .before .before .before .before .before .before .before .before .before .before .before .before .before .before .before .pre in
-    round-shown′ _ _ _ _ _ _ wh _ _ _ _ _ _ _ (loop .inv) (search) (c .before .before .before .before .before .before .before .before .scan .result) (c .before .before .before .before .before .before .before .before .scan .ensures) (search) (c .before .before .before .cell .result)
-    (round-target _ _ _ _ _ _ wh _ _ _ _ _ _ _ (loop .inv) (search) (c .before .before .before .before .before .before .before .before .scan .result) (c .before .before .before .before .before .before .before .before .scan .ensures) (search) _ _ (c .before .before .before .cell .result) (c .before .before .before .before .before .wide .ensures) (c .before .before .before .before .wide2 .ensures) (c .before .before .before .cell .ensures)) (search) (search)
+    let loop = c .before .before .before .before .before .before .before .before .before .before .before .before .before .before .loop in
+    let wh = c .before .before .before .before .before .before .before .before .before .before .before .before .before .before .before .before .before .before .pre in
+    rw (c .ended4 .ensures)
+    (round-shown′ _ _ _ _ _ _ wh _ _ _ _ _ _ _ (loop .inv) (search) (c .before .before .before .before .before .before .before .before .before .scan .result) (c .before .before .before .before .before .before .before .before .before .scan .ensures) (search) (c .before .before .before .before .cell .result)
+    (round-target _ _ _ _ _ _ wh _ _ _ _ _ _ _ (loop .inv) (search) (c .before .before .before .before .before .before .before .before .before .scan .result) (c .before .before .before .before .before .before .before .before .before .scan .ensures) (search) _ _ (c .before .before .before .before .cell .result) (c .before .before .before .before .before .before .wide .ensures) (c .before .before .before .before .before .wide2 .ensures) (c .before .before .before .before .cell .ensures)) (search) (search))
 
--- src/lib.rt:161:5
 loop-less : tie.Need-loop-less Inv-loop μ-loop
 loop-less c = search needs
 
--- src/lib.rt:161:5
 loop-again : tie.Need-loop-again Inv-loop μ-loop
 loop-again c =
     let loop = c .before .before .before .before .before .before .before .before .before .before .before .before .before .loop in
@@ -170,12 +159,15 @@ loop-again c =
     round-more _ _ _ _ _ _ wh _ _ _ _ _ _ _ (loop .inv) (search) (c .before .before .before .before .before .before .before .before .scan .result) (c .before .before .before .before .before .before .before .before .scan .ensures) (search) (c .before .before .before .cell .result) _
     (round-target _ _ _ _ _ _ wh _ _ _ _ _ _ _ (loop .inv) (search) (c .before .before .before .before .before .before .before .before .scan .result) (c .before .before .before .before .before .before .before .before .scan .ensures) (search) _ _ (c .before .before .before .cell .result) (c .before .before .before .before .before .wide .ensures) (c .before .before .before .before .wide2 .ensures) (c .before .before .before .cell .ensures)) (c .before .before .narrow .ensures) (search) (search)
 
--- src/lib.rt:145:1
+ended-requires-5 : tie.Need-ended-requires-5 Inv-loop μ-loop
+ended-requires-5 c κs = search needs
+
 returns-5 : tie.Need-returns-5 Inv-loop μ-loop
 returns-5 c =
-    let loop = c .before .loop in
-    let wh = c .before .before .before .before .before .pre in
-    round-end _ _ _ _ _ _ wh _ _ _ _ _ _ _ (loop .inv) (search)
+    let loop = c .before .before .loop in
+    let wh = c .before .before .before .before .before .before .pre in
+    rw (c .ended5 .ensures)
+    (round-end _ _ _ _ _ _ wh _ _ _ _ _ _ _ (loop .inv) (search))
 
 pub settle-spec : {M : Type 1} → statement M
 settle-spec =
@@ -185,10 +177,13 @@ settle-spec =
     μ-loop
     array-write-done
     element-copy-out-if1
+    ended-requires
     returns
     loop-holds
     scan-requires
+    ended-requires-2
     returns-2
+    ended-requires-3
     returns-3
     array-read-wide
     wide-requires
@@ -208,7 +203,9 @@ settle-spec =
     array-write-done-2
     add-n
     element-copy-out-if4
+    ended-requires-4
     returns-4
     loop-less
     loop-again
+    ended-requires-5
     returns-5)
