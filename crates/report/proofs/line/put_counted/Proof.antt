@@ -1,0 +1,24 @@
+-- `report::line::put_counted` meets its contract. Assumes nothing.
+use Rattle.report.proofs.Writing.{then}
+use borrow.Author.Needs.{needs}
+use Rattle.report.proofs.line.put_counted.Statement.{statement}
+use Rattle.report.proofs.line.put_counted.Tie as tie
+use Rattle.report.proofs.line.put_counted.Reads as reads
+use Rattle.report.proofs.line.put_counted.Lts as lts
+use Rattle.report.proofs.text.put_bytes.Reads as put-bytes-reads
+use Rattle.report.proofs.text.put_decimal.Reads as put-decimal-reads
+
+put-bytes-requires : tie.Need-put-bytes-requires
+put-bytes-requires c κs = search needs
+
+put-decimal-requires : tie.Need-put-decimal-requires
+put-decimal-requires c κs = search needs
+
+same-length : tie.Need-same-length
+same-length c = search needs
+
+returns : tie.Need-returns
+returns c = (then (c .before .before .before .before .before .before .put-bytes .ensures) (c .before .before .put-decimal .ensures .0), search needs)
+
+pub put-counted-spec : {M : Type 1} → statement M
+put-counted-spec = tie.close (tie.spec put-bytes-requires put-decimal-requires same-length returns)

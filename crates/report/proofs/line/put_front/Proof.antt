@@ -1,0 +1,45 @@
+-- `report::line::put_front` meets its contract. Assumes nothing.
+use mathlib.Core.Path.{sym}
+use native.Mathlib.Omega.{arith}
+use lib.Seq.{length-take-le, take-all}
+use borrow.Author.Needs.{needs}
+use Rattle.report.proofs.line.put_front.Statement.{statement}
+use Rattle.report.proofs.line.put_front.Tie as tie
+use Rattle.report.proofs.line.put_front.Reads as reads
+use Rattle.report.proofs.line.put_front.Lts as lts
+use Rattle.report.proofs.line.put_shown.Reads as put-shown-reads
+
+slice-aggregate-put-shown : tie.Need-slice-aggregate-put-shown
+slice-aggregate-put-shown c = sym (length-take-le (c .before .before .before .before .before .args .size) (c .before .before .before .before .before .args .out .now) (search needs))
+
+put-shown-requires : tie.Need-put-shown-requires
+put-shown-requires c κs =
+    let e = length-take-le (c .before .before .before .before .before .args .size) (c .before .before .before .before .before .args .out .now) (search needs) in
+    omega (arith, e)
+
+same-length : tie.Need-same-length
+same-length c = search needs
+
+returns : tie.Need-returns
+returns c = search needs
+
+put-shown-requires-2 : tie.Need-put-shown-requires-2
+put-shown-requires-2 c κs = search needs
+
+same-length-2 : tie.Need-same-length-2
+same-length-2 c = search needs
+
+returns-2 : tie.Need-returns-2
+returns-2 c = rw (take-all (c .before .before .before .before .before .before .before .args .size) (c .before .before .before .before .before .before .before .args .out .now) (c .before .before .before .before .if1 .left)) (c .before .before .put-shown2 .ensures)
+
+pub put-front-spec : {M : Type 1} → statement M
+put-front-spec =
+    tie.close
+    (tie.spec
+    slice-aggregate-put-shown
+    put-shown-requires
+    same-length
+    returns
+    put-shown-requires-2
+    same-length-2
+    returns-2)

@@ -1,0 +1,33 @@
+-- `verdict::respond` meets its contract. Assumes nothing.
+use borrow.Author.Needs.{needs}
+use Rattle.verdict.proofs.respond.Statement.{statement}
+use Rattle.verdict.proofs.respond.Tie as tie
+use Rattle.verdict.proofs.respond.Reads as reads
+use Rattle.verdict.proofs.respond.Lts as lts
+use Rattle.report.proofs.line.write_line.Reads as write-line-reads
+use Rattle.ws2s.proofs.decide.decide.Reads as decide-reads
+
+decide-requires : tie.Need-decide-requires
+decide-requires c κs = search needs
+
+write-line-requires : tie.Need-write-line-requires
+write-line-requires c κs = search needs
+
+same-length : tie.Need-same-length
+same-length c = search needs
+
+same-length-2 : tie.Need-same-length-2
+same-length-2 c = search needs
+
+same-length-3 : tie.Need-same-length-3
+same-length-3 c = search needs
+
+returns : tie.Need-returns
+returns c =
+    let d = c .before .before .before .before .before .before .before .before .before .decide .ensures in
+    rw (← d .0, ← d .1 .1 .0) (c .before .before .write-line .ensures)
+
+pub respond-spec : {M : Type 1} → statement M
+respond-spec =
+    tie.close
+    (tie.spec decide-requires write-line-requires same-length same-length-2 same-length-3 returns)
