@@ -1,0 +1,59 @@
+-- `vectors::words::word_end` meets its contract. Assumes nothing.
+use Prim.Native.Nat.{_+_, _-_, _≤_}
+use mathlib.Core.Path.{_≡_}
+use native.Mathlib.Omega.{arith}
+use borrow.Author.Needs.{needs}
+use lib.ListN.{length, drop}
+use Rattle.vectors.specs.Words.{wordLength}
+use Rattle.vectors.proofs.Reading.{word-space, word-more, word-done}
+use Rattle.vectors.proofs.words.word_end.Statement.{statement}
+use Rattle.vectors.proofs.words.word_end.Tie as tie
+use Rattle.vectors.proofs.words.word_end.Reads as reads
+use Rattle.vectors.proofs.words.word_end.Lts as lts
+
+abbrev Inv-loop : tie.InvT-loop
+Inv-loop line from i₀ i = (i ≤ length line) × (i + wordLength (drop i line) ≡ from + wordLength (drop from line))
+
+abbrev μ-loop : tie.MeasureT-loop
+μ-loop line from i₀ i = length line - i
+
+loop-holds : tie.Need-loop-holds Inv-loop μ-loop
+loop-holds c = search needs
+
+shared-slice-read-if1 : tie.Need-shared-slice-read-if1 Inv-loop μ-loop
+shared-slice-read-if1 c = search needs
+
+returns : tie.Need-returns Inv-loop μ-loop
+returns c =
+    let e = word-space (c .before .before .before .before .args .line .now) (c .before .before .before .loop .i) (search needs) (c .if1 .taken) in
+    (omega (arith, e), search needs)
+
+add-i : tie.Need-add-i Inv-loop μ-loop
+add-i c = search needs
+
+loop-less : tie.Need-loop-less Inv-loop μ-loop
+loop-less c = search needs
+
+loop-again : tie.Need-loop-again Inv-loop μ-loop
+loop-again c =
+    let e = word-more (c .before .before .before .before .args .line .now) (c .before .before .before .loop .i) (search needs) (c .if1 .left) in
+    (omega arith, omega (arith, e))
+
+returns-2 : tie.Need-returns-2 Inv-loop μ-loop
+returns-2 c =
+    let e = word-done (c .before .before .args .line .now) (c .before .loop .i) (search needs) in
+    (omega (arith, e), search needs)
+
+pub word-end-spec : {M : Type 1} → statement M
+word-end-spec =
+    tie.close
+    (tie.spec
+    Inv-loop
+    μ-loop
+    loop-holds
+    shared-slice-read-if1
+    returns
+    add-i
+    loop-less
+    loop-again
+    returns-2)
