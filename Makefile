@@ -19,7 +19,7 @@ help:
 	@echo 'make test              the gate: prove everything from nothing and run every test'
 	@echo 'make host-test         build the C library and run the vectors and a short attack through it'
 	@echo 'make attack            a longer attack [SEED=n CALLS=n]'
-	@echo 'make example [RULE=f]  the example host program on a rule strip'
+	@echo 'make example           the example host program on a rule strip [RULE=file NAMES="belt seat"]'
 	@echo 'make bench             the library beside unproved code and, where it is installed, MONA'
 	@echo 'make install PREFIX=p  header, archive, pkg-config file, verdict program, manual pages'
 
@@ -62,7 +62,7 @@ attack: $(HOST)/attack
 	$(HOST)/attack $(SEED) $(CALLS)
 
 example: $(HOST)/example
-	$(HOST)/example $(RULE)
+	$(HOST)/example -f $(RULE) $(NAMES)
 
 bench: $(HOST)/bench
 	$(HOST)/bench -v tests/vectors/base/decide.txt -l tests/vectors/heavy.txt -l bench/worst.txt $(wildcard samples/*.rul)
