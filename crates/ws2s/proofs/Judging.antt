@@ -4,15 +4,16 @@ use mathlib.Core.Path.{_≡_, refl, sym, ap, ap₂, _∙_, subst}
 use mathlib.Core.Bool.{Bool, true, false, not, _&&_, _||_}
 use mathlib.Core.List.{List, [], _∷_}
 use native.Mathlib.Omega.{arith}
-use borrow.Author.Tests.{eq-eqb, ne-eqb, lt-ltb, le-ltb}
+use borrow.Author.Tests.{eq-eqb, ne-eqb, eqb-true, lt-ltb, le-ltb}
 use lib.Dec.{ltb, leb, eqb, eqb·suc-zero}
 use lib.ListN.{length, getD, take, drop}
-use Rattle.logic.specs.Tree.{Tree, node}
+use Rattle.logic.specs.Meaning.{Assignment}
+use Rattle.logic.specs.Tree.{Tree, node, TreeOf}
 use Rattle.logic.specs.Two.{pairOf}
 use Rattle.logic.specs.Trim.{isEmpty}
 use Rattle.logic.specs.Claims.{Judgement as Ruled, Judges}
 use Rattle.logic.specs.Decide.{say, judgeOf}
-use Rattle.logic.proofs.Answers.{judge-judges}
+use Rattle.logic.proofs.Answers.{judge-judges, trimmed-iff}
 use Rattle.machine.specs.declared.records.Decoded.{Decoded}
 use Rattle.solver.specs.Solve.{judgementIf, judgementOf, Judged}
 use Rattle.solver.specs.declared.Ruling.{Ruling}
@@ -182,11 +183,26 @@ claim rule c ws tree x ex = record { judged = λ e. go (readTree tree) refl (rea
     rule-free zero b f = (refl, f)
     rule-free (suc a) b f = absurd (let g = rw eqb·suc-zero at f in omega arith)
 
+    same-variables : (n : ℕ) (v : Bool) → eqb (field tree 4 4) n ≡ v → _≡_ {A = ℕ} (orElse v 0 22) 0 → field tree 4 4 ≡ n
+    same-variables n true q f = eqb-true (field tree 4 4) n q
+    same-variables n false q f = absurd (omega arith)
+
     go : (p : Parsed) → readTree tree ≡ p → Numbered p → refusalBefore rule c (length ws) tree ≡ 0
-        → (t : Tree 2) × (met : ℕ) × (rest : List ℕ) × (readTree tree ≡ parsed t met rest) × ((j : Ruled) × Judges (variablesOf rule) (recordsOf rule) c t j × (x ≡ tell j))
+        → (t : Tree 2) × (met : ℕ) × (rest : List ℕ) × (readTree tree ≡ parsed t met rest) × ((A : Assignment 2) × TreeOf (variablesOf rule) A t)
+        × ((j : Ruled) × Judges (variablesOf rule) (recordsOf rule) c t j × (x ≡ tell j))
     go (parsed t met rest) q h e =
         let a = rule-free (ruleRefusal rule) _ e in
-        (t, met, rest, q, (judgeOf (variablesOf rule) (recordsOf rule) c t, judge-judges 2 (variablesOf rule) (recordsOf rule) c 0 (rule-accepted rule (a .0) .records-accepted) t, ex ∙ rw (e, q)))
+        let b = rule-free (workRefusal (variablesOf rule) (countOf rule) c (length ws)) _ (a .1) in
+        let d = rule-free (treeRefusal tree) _ (b .1) in
+        let f : TreeFacts tree (variablesOf rule) t =
+        subst (λ (n : ℕ). TreeFacts tree n t) (same-variables (variablesOf rule) (eqb (field tree 4 4) (variablesOf rule)) refl (d .1)) (tree-accepted tree t met rest q .1) in (
+          t,
+          met,
+          rest,
+          q,
+          (trimmed-iff (variablesOf rule) t (f .proper)) .0 (f .trimmed),
+          (judgeOf (variablesOf rule) (recordsOf rule) c t, judge-judges 2 (variablesOf rule) (recordsOf rule) c 0 (rule-accepted rule (a .0) .records-accepted) t, ex ∙ rw (e, q)),
+        )
     go (refused r) q h e =
         let a = rule-free (ruleRefusal rule) _ e in
         let b = rule-free (workRefusal (variablesOf rule) (countOf rule) c (length ws)) _ (a .1) in

@@ -5,7 +5,8 @@ use mathlib.Core.Bool.{Bool}
 use mathlib.Core.List.{List}
 use lib.Dec.{eqb}
 use lib.ListN.{length}
-use Rattle.logic.specs.Tree.{Tree, empty}
+use Rattle.logic.specs.Meaning.{Assignment}
+use Rattle.logic.specs.Tree.{Tree, empty, TreeOf}
 use Rattle.logic.specs.Claims.{Judgement as Ruled, unbuilt, yes, no, Judges}
 use Rattle.logic.specs.Decide.{judgeOf}
 use Rattle.strip.specs.Bits.{field}
@@ -59,8 +60,10 @@ judgementFor rule c room tree = orElse (eqb (refusalBefore rule c room tree) 0) 
 unfoldable pub workspaceFor : List ℕ → ℕ → List ℕ → List ℕ → List ℕ
 workspaceFor rule c ws tree = orElse (eqb (refusalBefore rule c (length ws) tree) 0) (cleared (roomFor (variablesOf rule) (countOf rule) c) ws) ws
 
--- "For a tree I hand in, yes or no agrees with the same meaning": where no refusal before the build applies, the strip holds a tree, and v
--- tells a judgement of it
-pub record JudgeClaim (rule : List ℕ) (c room : ℕ) (tree : List ℕ) (v : Judgement) : Type 0 where
-  pub judged : (e : refusalBefore rule c room tree ≡ 0) → (t : Tree 2) × (met : ℕ) × (rest : List ℕ) × (readTree tree ≡ parsed t met rest)
+-- "For a tree I hand in, yes or no agrees with the same meaning": where no refusal before the build applies, the strip holds the tree t of
+-- an assignment, and v tells a judgement of t
+pub record JudgeClaim (rule : List ℕ) (c room : ℕ) (strip : List ℕ) (v : Judgement) : Type 0 where
+  pub judged : refusalBefore rule c room strip ≡ 0
+      → (t : Tree 2) × (met : ℕ) × (rest : List ℕ) × (readTree strip ≡ parsed t met rest)
+      × ((A : Assignment 2) × TreeOf (variablesOf rule) A t)
       × ((j : Ruled) × Judges (variablesOf rule) (recordsOf rule) c t j × (v ≡ tell j))
