@@ -13,6 +13,7 @@ use report::text::put_bytes;
 use strip::rule::RuleCheck;
 use strip::tree::TreeCheck;
 use ws2s::decide::Verdict;
+use ws2s::judge::Judgement;
 
 fn put_bad(answer: &mut [u8]) -> usize
     requires { ⌜ 1024 ≤ length (now answer) ⌝ }
@@ -177,6 +178,77 @@ fn decide(line: &[u8], at: usize, ws: &mut [u8], answer: &mut [u8]) -> usize
     tell_decided(&rule[..count], c, p, room, space, ws, answer)
 }
 
+// Whether the workspace was too short.
+fn is_cramped(j: Judgement) -> bool {
+    match j {
+        Judgement::Refused(k) => k == 12,
+        _ => false,
+    }
+}
+
+fn put_judgement(j: Judgement, answer: &mut [u8]) -> usize
+    requires { ⌜ 1024 ≤ length (now answer) ⌝ }
+    ensures { λ r. ⌜ Counts r (now (answer .exit)) ⌝ }
+{
+    match j {
+        Judgement::No => put_bytes(answer, 0, b"no\n"),
+        Judgement::Yes => put_bytes(answer, 0, b"yes\n"),
+        Judgement::Refused(k) => put_count(answer, b"refused ", k),
+        Judgement::TooManyStates(record) => put_count(answer, b"refused 14 ", record),
+    }
+}
+
+// Judge, with a workspace of the length that is asked for, as `tell_decided` lends it.
+fn tell_judged(
+    rule: &[u8],
+    c: u64,
+    room: u64,
+    tree: &[u8],
+    ws: &mut [u8],
+    answer: &mut [u8],
+) -> usize
+    requires { ⌜ 1024 ≤ length (now answer) ⌝ }
+    ensures { λ r. ⌜ Counts r (now (answer .exit)) ⌝ }
+{
+    let lent = least(room, ws.len());
+    let j = ws2s::judge::judge(rule, c, &mut ws[..lent], tree);
+    if (ws.len() as u64) < room {
+        if is_cramped(j) {
+            return put_bytes(answer, 0, b"not run\n");
+        }
+    }
+    put_judgement(j, answer)
+}
+
+// `judge RULE c workspace_length TREE`
+fn judge(line: &[u8], at: usize, ws: &mut [u8], answer: &mut [u8]) -> usize
+    requires { ⌜ 1024 ≤ length (now answer) ⌝ }
+    ensures { λ r. ⌜ Counts r (now (answer .exit)) ⌝ }
+{
+    let mut rule = [0u8; 1024];
+    let mut tree = [0u8; 1024];
+    let f = bytes_at(line, at, &mut rule);
+    let Taken::Bytes { count, next } = f else {
+        return put_bad(answer);
+    };
+    let second = number_at(line, next);
+    let Given::Value { value: c, next } = second else {
+        return put_bad(answer);
+    };
+    let third = number_at(line, next);
+    let Given::Value { value: room, next } = third else {
+        return put_bad(answer);
+    };
+    let g = bytes_at(line, next, &mut tree);
+    let Taken::Bytes { count: size, next } = g else {
+        return put_bad(answer);
+    };
+    if next <= line.len() {
+        return put_bad(answer);
+    }
+    tell_judged(&rule[..count], c, room, &tree[..size], ws, answer)
+}
+
 // The verdict program's line for an input, of which the first 300 bytes count.
 fn tell_verdict(input: &[u8], answer: &mut [u8]) -> usize
     requires { ⌜ 1024 ≤ length (now answer) ⌝ }
@@ -221,6 +293,9 @@ pub fn respond(line: &[u8], ws: &mut [u8], answer: &mut [u8]) -> usize
     }
     if check::same(name, b"decide") {
         return decide(line, at, ws, answer);
+    }
+    if check::same(name, b"judge") {
+        return judge(line, at, ws, answer);
     }
     if check::same(name, b"verdict") {
         return verdict(line, at, answer);

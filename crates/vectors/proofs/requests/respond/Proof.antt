@@ -9,6 +9,7 @@ use Rattle.check.proofs.same.Reads as same-reads
 use Rattle.vectors.proofs.requests.check_rule.Reads as check-rule-reads
 use Rattle.vectors.proofs.requests.check_tree.Reads as check-tree-reads
 use Rattle.vectors.proofs.requests.decide.Reads as decide-reads
+use Rattle.vectors.proofs.requests.judge.Reads as judge-reads
 use Rattle.vectors.proofs.requests.put_bad.Reads as put-bad-reads
 use Rattle.vectors.proofs.requests.verdict.Reads as verdict-reads
 use Rattle.vectors.proofs.words.word_end.Reads as word-end-reads
@@ -76,23 +77,41 @@ slice-aggregate-same-4 c = search needs
 same-requires-4 : tie.Need-same-requires-4
 same-requires-4 c κs = search needs
 
-verdict-requires : tie.Need-verdict-requires
-verdict-requires c κs = search needs
+judge-requires : tie.Need-judge-requires
+judge-requires c κs = search needs
 
 same-length-5 : tie.Need-same-length-5
 same-length-5 c = search needs
 
+same-length-6 : tie.Need-same-length-6
+same-length-6 c = search needs
+
 returns-4 : tie.Need-returns-4
 returns-4 c = search needs
+
+slice-aggregate-same-5 : tie.Need-slice-aggregate-same-5
+slice-aggregate-same-5 c = search needs
+
+same-requires-5 : tie.Need-same-requires-5
+same-requires-5 c κs = search needs
+
+verdict-requires : tie.Need-verdict-requires
+verdict-requires c κs = search needs
+
+same-length-7 : tie.Need-same-length-7
+same-length-7 c = search needs
+
+returns-5 : tie.Need-returns-5
+returns-5 c = search needs
 
 put-bad-requires : tie.Need-put-bad-requires
 put-bad-requires c κs = search needs
 
-same-length-6 : tie.Need-same-length-6
-same-length-6 c = search needs
+same-length-8 : tie.Need-same-length-8
+same-length-8 c = search needs
 
-returns-5 : tie.Need-returns-5
-returns-5 c = search needs
+returns-6 : tie.Need-returns-6
+returns-6 c = search needs
 
 pub respond-spec : {M : Type 1} → statement M
 respond-spec =
@@ -119,9 +138,15 @@ respond-spec =
     returns-3
     slice-aggregate-same-4
     same-requires-4
-    verdict-requires
+    judge-requires
     same-length-5
-    returns-4
-    put-bad-requires
     same-length-6
-    returns-5)
+    returns-4
+    slice-aggregate-same-5
+    same-requires-5
+    verdict-requires
+    same-length-7
+    returns-5
+    put-bad-requires
+    same-length-8
+    returns-6)
