@@ -1,5 +1,5 @@
 -- The line of a verdict: document 01, "The verdict program". Assumes nothing.
-use Prim.Native.Nat.{ℕ, zero, suc, _+_, _/_, _%_}
+use Prim.Native.Nat.{ℕ, _+_}
 use mathlib.Core.List.{List, [], _∷_, _++_}
 use lib.ListN.{take}
 use Rattle.report.specs.Text.{decimal, hex}

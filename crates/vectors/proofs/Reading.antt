@@ -1,18 +1,15 @@
 -- Reading words, numbers and hex: a turn of each loop, and its end. Assumes nothing.
 use Prim.Native.Nat.{ℕ, zero, suc, _+_, _-_, _*_, _≤_, _<_}
 use mathlib.Core.Path.{_≡_, refl, sym, ap, _∙_}
-use mathlib.Core.Bool.{cond}
 use mathlib.Core.List.{List, [], _∷_}
 use native.Mathlib.Numerals.{add-one}
 use native.Mathlib.Omega.{arith}
 use borrow.Author.Tests.{lt-ltb, le-ltb, le-leb, lt-leb, eq-eqb, ne-eqb}
-use lib.Dec.{ltb, leb, eqb}
 use lib.ListN.{length, getD, set, take, drop, drop-of-length-le}
 use lib.Seq.{sets, drop-cons, length-take-le}
 use Rattle.io.specs.Counts.{Counts}
 use Rattle.report.specs.Text.{Put}
 use Rattle.report.proofs.Writing.{front}
-use Rattle.vectors.specs.declared.words.Digits.{Digits}
 use Rattle.vectors.specs.declared.words.Digits.the-variants.{Value, Bad}
 use Rattle.vectors.specs.declared.words.Bytes.{Bytes}
 use Rattle.vectors.specs.declared.words.Taken.{Taken}

@@ -1,9 +1,8 @@
 // Answers request lines on standard input, each by a line on standard output: `check_rule`, `check_tree`, `decide`, `judge` and
-// `verdict`, with bytes in capital hex (`-` for none) and numbers in decimal.
+// `verdict`, with bytes in capital hex (`-` for none) and numbers in decimal. A line is answered once its end is read.
 mod words; // a line's words, numbers and bytes
 mod requests; // each request and its answer
 
-ghost use mathlib.Core.Path.{_≡_};
 ghost use Prim.Native.Nat.{_≤_};
 ghost use lib.ListN.{length};
 

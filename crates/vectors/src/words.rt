@@ -1,7 +1,7 @@
 // Words of a request line, read as numbers and as bytes.
 ghost use mathlib.Core.Path.{_≡_};
 ghost use Prim.Native.Nat.{_+_, _≤_, _<_};
-ghost use lib.ListN.{length, drop, take};
+ghost use lib.ListN.{length, drop};
 ghost use Rattle.vectors.specs.Words.{wordLength, digitsFrom, nibbleOf, Unhexed, Within};
 
 // A number; or not one.

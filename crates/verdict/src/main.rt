@@ -1,5 +1,4 @@
 // The verdict program: document 01, "The verdict program". Reads a rule strip and writes one line.
-ghost use mathlib.Core.Path.{_≡_};
 ghost use Prim.Native.Nat.{_+_, _*_, _≤_};
 ghost use lib.ListN.{length};
 ghost use Rattle.report.specs.Text.{Put};

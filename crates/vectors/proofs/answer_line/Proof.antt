@@ -3,10 +3,6 @@ use Rattle.vectors.proofs.Reading.{part}
 use borrow.Author.Needs.{needs}
 use Rattle.vectors.proofs.answer_line.Statement.{statement}
 use Rattle.vectors.proofs.answer_line.Tie as tie
-use Rattle.vectors.proofs.answer_line.Reads as reads
-use Rattle.vectors.proofs.answer_line.Lts as lts
-use Rattle.io.proofs.write_all.Reads as write-all-reads
-use Rattle.vectors.proofs.requests.respond.Reads as respond-reads
 
 slice-aggregate-write-all : tie.Need-slice-aggregate-write-all
 slice-aggregate-write-all c = search needs

@@ -5,9 +5,6 @@ use lib.ListN.{length-replicate}
 use borrow.Author.Needs.{needs}
 use Rattle.vectors.proofs.main.Statement.{statement}
 use Rattle.vectors.proofs.main.Tie as tie
-use Rattle.vectors.proofs.main.Reads as reads
-use Rattle.vectors.proofs.main.Lts as lts
-use Rattle.vectors.proofs.run.Reads as run-reads
 
 slice-aggregate-run : tie.Need-slice-aggregate-run
 slice-aggregate-run c = search needs

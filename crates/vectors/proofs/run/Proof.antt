@@ -1,14 +1,10 @@
 -- `vectors::run` is safe and ends. The measure is the number of turns that are left. Assumes nothing.
 use Prim.Native.Nat.{_≤_}
 use mathlib.Core.Path.{_≡_}
-use native.Mathlib.Omega.{arith}
 use borrow.Author.Needs.{needs}
 use lib.ListN.{length}
 use Rattle.vectors.proofs.run.Statement.{statement}
 use Rattle.vectors.proofs.run.Tie as tie
-use Rattle.vectors.proofs.run.Reads as reads
-use Rattle.vectors.proofs.run.Lts as lts
-use Rattle.vectors.proofs.read_on.Reads as read-on-reads
 
 abbrev Inv-loop : tie.InvT-loop
 Inv-loop line₀ ws₀ len₀ turns₀ line ws len turns = (len ≤ length line) × (length line ≡ length line₀) × (length ws ≡ length ws₀)

@@ -7,9 +7,6 @@ use borrow.Author.Needs.{needs}
 use lib.ListN.{length, length-set}
 use Rattle.vectors.proofs.take.Statement.{statement}
 use Rattle.vectors.proofs.take.Tie as tie
-use Rattle.vectors.proofs.take.Reads as reads
-use Rattle.vectors.proofs.take.Lts as lts
-use Rattle.vectors.proofs.answer_line.Reads as answer-line-reads
 
 abbrev Inv-loop : tie.InvT-loop
 Inv-loop chunk line₀ len ws₀ n₀ i₀ line ws n i = (n ≤ length line) × (length line ≡ length line₀) × (length ws ≡ length ws₀)

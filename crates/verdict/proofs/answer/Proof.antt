@@ -3,10 +3,6 @@ use Rattle.report.proofs.Writing.{front}
 use borrow.Author.Needs.{needs}
 use Rattle.verdict.proofs.answer.Statement.{statement}
 use Rattle.verdict.proofs.answer.Tie as tie
-use Rattle.verdict.proofs.answer.Reads as reads
-use Rattle.verdict.proofs.answer.Lts as lts
-use Rattle.io.proofs.write_all.Reads as write-all-reads
-use Rattle.verdict.proofs.respond.Reads as respond-reads
 
 slice-aggregate-respond : tie.Need-slice-aggregate-respond
 slice-aggregate-respond c = search needs

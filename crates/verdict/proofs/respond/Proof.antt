@@ -2,10 +2,6 @@
 use borrow.Author.Needs.{needs}
 use Rattle.verdict.proofs.respond.Statement.{statement}
 use Rattle.verdict.proofs.respond.Tie as tie
-use Rattle.verdict.proofs.respond.Reads as reads
-use Rattle.verdict.proofs.respond.Lts as lts
-use Rattle.report.proofs.line.write_line.Reads as write-line-reads
-use Rattle.ws2s.proofs.decide.decide.Reads as decide-reads
 
 decide-requires : tie.Need-decide-requires
 decide-requires c κs = search needs

@@ -3,10 +3,6 @@ use Rattle.report.proofs.Writing.{then}
 use borrow.Author.Needs.{needs}
 use Rattle.report.proofs.line.put_count.Statement.{statement}
 use Rattle.report.proofs.line.put_count.Tie as tie
-use Rattle.report.proofs.line.put_count.Reads as reads
-use Rattle.report.proofs.line.put_count.Lts as lts
-use Rattle.report.proofs.line.put_counted.Reads as put-counted-reads
-use Rattle.report.proofs.text.put_bytes.Reads as put-bytes-reads
 
 put-counted-requires : tie.Need-put-counted-requires
 put-counted-requires c κs = search needs

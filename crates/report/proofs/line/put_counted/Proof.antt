@@ -3,10 +3,6 @@ use Rattle.report.proofs.Writing.{then}
 use borrow.Author.Needs.{needs}
 use Rattle.report.proofs.line.put_counted.Statement.{statement}
 use Rattle.report.proofs.line.put_counted.Tie as tie
-use Rattle.report.proofs.line.put_counted.Reads as reads
-use Rattle.report.proofs.line.put_counted.Lts as lts
-use Rattle.report.proofs.text.put_bytes.Reads as put-bytes-reads
-use Rattle.report.proofs.text.put_decimal.Reads as put-decimal-reads
 
 put-bytes-requires : tie.Need-put-bytes-requires
 put-bytes-requires c κs = search needs

@@ -5,9 +5,6 @@ use lib.Seq.{length-take-le, take-all}
 use borrow.Author.Needs.{needs}
 use Rattle.report.proofs.line.put_front.Statement.{statement}
 use Rattle.report.proofs.line.put_front.Tie as tie
-use Rattle.report.proofs.line.put_front.Reads as reads
-use Rattle.report.proofs.line.put_front.Lts as lts
-use Rattle.report.proofs.line.put_shown.Reads as put-shown-reads
 
 slice-aggregate-put-shown : tie.Need-slice-aggregate-put-shown
 slice-aggregate-put-shown c = sym (length-take-le (c .before .before .before .before .before .args .size) (c .before .before .before .before .before .args .out .now) (search needs))

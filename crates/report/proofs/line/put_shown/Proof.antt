@@ -4,11 +4,6 @@ use Rattle.report.proofs.Writing.{then, length-hex}
 use borrow.Author.Needs.{needs}
 use Rattle.report.proofs.line.put_shown.Statement.{statement}
 use Rattle.report.proofs.line.put_shown.Tie as tie
-use Rattle.report.proofs.line.put_shown.Reads as reads
-use Rattle.report.proofs.line.put_shown.Lts as lts
-use Rattle.report.proofs.line.put_counted.Reads as put-counted-reads
-use Rattle.report.proofs.text.put_bytes.Reads as put-bytes-reads
-use Rattle.report.proofs.text.put_hex.Reads as put-hex-reads
 
 slice-aggregate-put-counted : tie.Need-slice-aggregate-put-counted
 slice-aggregate-put-counted c = search needs

@@ -3,10 +3,6 @@ use Rattle.report.specs.Line.{lineOf}
 use borrow.Author.Needs.{needs}
 use Rattle.report.proofs.line.write_line.Statement.{statement}
 use Rattle.report.proofs.line.write_line.Tie as tie
-use Rattle.report.proofs.line.write_line.Reads as reads
-use Rattle.report.proofs.line.write_line.Lts as lts
-use Rattle.report.proofs.line.put_count.Reads as put-count-reads
-use Rattle.report.proofs.line.put_front.Reads as put-front-reads
 
 enum-known-v : tie.Need-enum-known-v
 enum-known-v c = search needs

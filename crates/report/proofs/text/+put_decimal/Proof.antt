@@ -1,8 +1,6 @@
 -- `report::text::put_decimal` meets its contract. The measure is the number of digits there may be. Assumes nothing.
-use mathlib.Core.Path.{_≡_, refl, ap, _∙_}
 use native.Mathlib.Omega.{arith}
 use borrow.Author.Needs.{needs}
-use lib.ListN.{length, length-set}
 use Rattle.report.proofs.Writing.{decimal-none, decimal-one, decimal-more}
 use Prim.Native.Nat.{ℕ, _<_}
 use borrow.Fn.Kinds.{In}

@@ -4,8 +4,6 @@ use borrow.Author.Tests.{lt-ltb, le-ltb}
 use borrow.Author.Needs.{needs}
 use Rattle.report.proofs.text.glyph.Statement.{statement}
 use Rattle.report.proofs.text.glyph.Tie as tie
-use Rattle.report.proofs.text.glyph.Reads as reads
-use Rattle.report.proofs.text.glyph.Lts as lts
 
 cast-result : tie.Need-cast-result
 cast-result c = search needs

@@ -1,6 +1,6 @@
 -- `report::text::put_bytes` meets its contract. The invariant: what is left to write completes the text. Assumes nothing.
 use Prim.Native.Nat.{_+_, _-_, _≤_}
-use mathlib.Core.Path.{_≡_, refl, ap, _∙_}
+use mathlib.Core.Path.{_≡_, refl, _∙_}
 use native.Mathlib.Omega.{arith}
 use borrow.Author.Needs.{needs}
 use lib.ListN.{length, drop, length-set}
@@ -8,8 +8,6 @@ use lib.Seq.{sets}
 use Rattle.report.proofs.Writing.{bytes-start, bytes-turn, bytes-end}
 use Rattle.report.proofs.text.put_bytes.Statement.{statement}
 use Rattle.report.proofs.text.put_bytes.Tie as tie
-use Rattle.report.proofs.text.put_bytes.Reads as reads
-use Rattle.report.proofs.text.put_bytes.Lts as lts
 
 abbrev Inv-loop : tie.InvT-loop
 Inv-loop line₀ at s i₀ line i = (i ≤ length s) × (length line ≡ length line₀) × (sets line (at + i) (drop i s) ≡ sets line₀ at s)

@@ -1,6 +1,6 @@
 -- `report::text::put_hex` meets its contract. The invariant: what is left to write completes the text. Assumes nothing.
 use Prim.Native.Nat.{_+_, _-_, _*_, _≤_}
-use mathlib.Core.Path.{_≡_, refl, ap, _∙_}
+use mathlib.Core.Path.{_≡_, _∙_}
 use native.Mathlib.Omega.{arith}
 use borrow.Author.Needs.{needs}
 use lib.ListN.{length, drop, length-set}
@@ -9,10 +9,6 @@ use Rattle.report.specs.Text.{hex}
 use Rattle.report.proofs.Writing.{hex-turn, hex-end}
 use Rattle.report.proofs.text.put_hex.Statement.{statement}
 use Rattle.report.proofs.text.put_hex.Tie as tie
-use Rattle.report.proofs.text.put_hex.Reads as reads
-use Rattle.report.proofs.text.put_hex.Lts as lts
-use Rattle.report.proofs.text.glyph.Reads as glyph-reads
-use Rattle.report.proofs.text.wide.Reads as wide-reads
 
 abbrev Inv-loop : tie.InvT-loop
 Inv-loop line₀ at s next₀ i₀ line next i = (i ≤ length s) × (next ≡ at + 2 * i) × (length line ≡ length line₀) × (sets line next (hex (drop i s)) ≡ sets line₀ at (hex s))

@@ -3,12 +3,6 @@ use Rattle.vectors.proofs.Reading.{taken}
 use borrow.Author.Needs.{needs}
 use Rattle.vectors.proofs.requests.check_rule.Statement.{statement}
 use Rattle.vectors.proofs.requests.check_rule.Tie as tie
-use Rattle.vectors.proofs.requests.check_rule.Reads as reads
-use Rattle.vectors.proofs.requests.check_rule.Lts as lts
-use Rattle.strip.proofs.rule.check_rule.Reads as check-rule-reads
-use Rattle.vectors.proofs.requests.put_bad.Reads as put-bad-reads
-use Rattle.vectors.proofs.requests.tell_rule.Reads as tell-rule-reads
-use Rattle.vectors.proofs.words.bytes_at.Reads as bytes-at-reads
 
 slice-aggregate-bytes-at : tie.Need-slice-aggregate-bytes-at
 slice-aggregate-bytes-at c = search needs

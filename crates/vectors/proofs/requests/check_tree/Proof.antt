@@ -3,12 +3,6 @@ use Rattle.vectors.proofs.Reading.{taken}
 use borrow.Author.Needs.{needs}
 use Rattle.vectors.proofs.requests.check_tree.Statement.{statement}
 use Rattle.vectors.proofs.requests.check_tree.Tie as tie
-use Rattle.vectors.proofs.requests.check_tree.Reads as reads
-use Rattle.vectors.proofs.requests.check_tree.Lts as lts
-use Rattle.strip.proofs.tree.check_tree.Reads as check-tree-reads
-use Rattle.vectors.proofs.requests.put_bad.Reads as put-bad-reads
-use Rattle.vectors.proofs.requests.tell_tree.Reads as tell-tree-reads
-use Rattle.vectors.proofs.words.bytes_at.Reads as bytes-at-reads
 
 slice-aggregate-bytes-at : tie.Need-slice-aggregate-bytes-at
 slice-aggregate-bytes-at c = search needs

@@ -3,12 +3,6 @@ use Rattle.vectors.proofs.Reading.{taken}
 use borrow.Author.Needs.{needs}
 use Rattle.vectors.proofs.requests.decide.Statement.{statement}
 use Rattle.vectors.proofs.requests.decide.Tie as tie
-use Rattle.vectors.proofs.requests.decide.Reads as reads
-use Rattle.vectors.proofs.requests.decide.Lts as lts
-use Rattle.vectors.proofs.requests.put_bad.Reads as put-bad-reads
-use Rattle.vectors.proofs.requests.tell_decided.Reads as tell-decided-reads
-use Rattle.vectors.proofs.words.bytes_at.Reads as bytes-at-reads
-use Rattle.vectors.proofs.words.number_at.Reads as number-at-reads
 
 slice-aggregate-bytes-at : tie.Need-slice-aggregate-bytes-at
 slice-aggregate-bytes-at c = search needs

@@ -3,9 +3,6 @@ use Rattle.vectors.proofs.Reading.{part}
 use borrow.Author.Needs.{needs}
 use Rattle.vectors.proofs.requests.decide_lent.Statement.{statement}
 use Rattle.vectors.proofs.requests.decide_lent.Tie as tie
-use Rattle.vectors.proofs.requests.decide_lent.Reads as reads
-use Rattle.vectors.proofs.requests.decide_lent.Lts as lts
-use Rattle.ws2s.proofs.decide.decide.Reads as decide-reads
 
 slice-relend-prefix-decide : tie.Need-slice-relend-prefix-decide
 slice-relend-prefix-decide c = search needs

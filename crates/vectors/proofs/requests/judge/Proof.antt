@@ -3,12 +3,6 @@ use Rattle.vectors.proofs.Reading.{taken}
 use borrow.Author.Needs.{needs}
 use Rattle.vectors.proofs.requests.judge.Statement.{statement}
 use Rattle.vectors.proofs.requests.judge.Tie as tie
-use Rattle.vectors.proofs.requests.judge.Reads as reads
-use Rattle.vectors.proofs.requests.judge.Lts as lts
-use Rattle.vectors.proofs.requests.put_bad.Reads as put-bad-reads
-use Rattle.vectors.proofs.requests.tell_judged.Reads as tell-judged-reads
-use Rattle.vectors.proofs.words.bytes_at.Reads as bytes-at-reads
-use Rattle.vectors.proofs.words.number_at.Reads as number-at-reads
 
 slice-aggregate-bytes-at : tie.Need-slice-aggregate-bytes-at
 slice-aggregate-bytes-at c = search needs

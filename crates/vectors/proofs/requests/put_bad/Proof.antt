@@ -3,9 +3,6 @@ use Rattle.vectors.proofs.Reading.{written}
 use borrow.Author.Needs.{needs}
 use Rattle.vectors.proofs.requests.put_bad.Statement.{statement}
 use Rattle.vectors.proofs.requests.put_bad.Tie as tie
-use Rattle.vectors.proofs.requests.put_bad.Reads as reads
-use Rattle.vectors.proofs.requests.put_bad.Lts as lts
-use Rattle.report.proofs.text.put_bytes.Reads as put-bytes-reads
 
 slice-aggregate-put-bytes : tie.Need-slice-aggregate-put-bytes
 slice-aggregate-put-bytes c = search needs

@@ -3,10 +3,6 @@ use Rattle.vectors.proofs.Reading.{written}
 use borrow.Author.Needs.{needs}
 use Rattle.vectors.proofs.requests.put_judgement.Statement.{statement}
 use Rattle.vectors.proofs.requests.put_judgement.Tie as tie
-use Rattle.vectors.proofs.requests.put_judgement.Reads as reads
-use Rattle.vectors.proofs.requests.put_judgement.Lts as lts
-use Rattle.report.proofs.line.put_count.Reads as put-count-reads
-use Rattle.report.proofs.text.put_bytes.Reads as put-bytes-reads
 
 enum-told : tie.Need-enum-told
 enum-told c = search needs

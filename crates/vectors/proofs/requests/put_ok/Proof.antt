@@ -3,10 +3,6 @@ use Rattle.vectors.proofs.Reading.{written}
 use borrow.Author.Needs.{needs}
 use Rattle.vectors.proofs.requests.put_ok.Statement.{statement}
 use Rattle.vectors.proofs.requests.put_ok.Tie as tie
-use Rattle.vectors.proofs.requests.put_ok.Reads as reads
-use Rattle.vectors.proofs.requests.put_ok.Lts as lts
-use Rattle.report.proofs.line.put_counted.Reads as put-counted-reads
-use Rattle.report.proofs.text.put_bytes.Reads as put-bytes-reads
 
 slice-aggregate-put-counted : tie.Need-slice-aggregate-put-counted
 slice-aggregate-put-counted c = search needs

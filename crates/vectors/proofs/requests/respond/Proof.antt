@@ -3,16 +3,6 @@ use Rattle.vectors.proofs.Reading.{part}
 use borrow.Author.Needs.{needs}
 use Rattle.vectors.proofs.requests.respond.Statement.{statement}
 use Rattle.vectors.proofs.requests.respond.Tie as tie
-use Rattle.vectors.proofs.requests.respond.Reads as reads
-use Rattle.vectors.proofs.requests.respond.Lts as lts
-use Rattle.check.proofs.same.Reads as same-reads
-use Rattle.vectors.proofs.requests.check_rule.Reads as check-rule-reads
-use Rattle.vectors.proofs.requests.check_tree.Reads as check-tree-reads
-use Rattle.vectors.proofs.requests.decide.Reads as decide-reads
-use Rattle.vectors.proofs.requests.judge.Reads as judge-reads
-use Rattle.vectors.proofs.requests.put_bad.Reads as put-bad-reads
-use Rattle.vectors.proofs.requests.verdict.Reads as verdict-reads
-use Rattle.vectors.proofs.words.word_end.Reads as word-end-reads
 
 word-end-requires : tie.Need-word-end-requires
 word-end-requires c κs = search needs

@@ -3,13 +3,6 @@ use Rattle.vectors.proofs.Reading.{written}
 use borrow.Author.Needs.{needs}
 use Rattle.vectors.proofs.requests.tell_decided.Statement.{statement}
 use Rattle.vectors.proofs.requests.tell_decided.Tie as tie
-use Rattle.vectors.proofs.requests.tell_decided.Reads as reads
-use Rattle.vectors.proofs.requests.tell_decided.Lts as lts
-use Rattle.report.proofs.line.write_line.Reads as write-line-reads
-use Rattle.report.proofs.text.put_bytes.Reads as put-bytes-reads
-use Rattle.vectors.proofs.requests.decide_lent.Reads as decide-lent-reads
-use Rattle.vectors.proofs.requests.is_short.Reads as is-short-reads
-use Rattle.vectors.proofs.requests.least.Reads as least-reads
 
 least-requires : tie.Need-least-requires
 least-requires c κs = search needs

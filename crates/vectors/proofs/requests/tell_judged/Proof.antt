@@ -3,13 +3,6 @@ use Rattle.vectors.proofs.Reading.{part, written}
 use borrow.Author.Needs.{needs}
 use Rattle.vectors.proofs.requests.tell_judged.Statement.{statement}
 use Rattle.vectors.proofs.requests.tell_judged.Tie as tie
-use Rattle.vectors.proofs.requests.tell_judged.Reads as reads
-use Rattle.vectors.proofs.requests.tell_judged.Lts as lts
-use Rattle.report.proofs.text.put_bytes.Reads as put-bytes-reads
-use Rattle.vectors.proofs.requests.is_cramped.Reads as is-cramped-reads
-use Rattle.vectors.proofs.requests.least.Reads as least-reads
-use Rattle.vectors.proofs.requests.put_judgement.Reads as put-judgement-reads
-use Rattle.ws2s.proofs.judge.judge.Reads as judge-reads
 
 least-requires : tie.Need-least-requires
 least-requires c κs = search needs

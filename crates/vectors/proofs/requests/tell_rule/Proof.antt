@@ -3,10 +3,6 @@ use Rattle.vectors.proofs.Reading.{written}
 use borrow.Author.Needs.{needs}
 use Rattle.vectors.proofs.requests.tell_rule.Statement.{statement}
 use Rattle.vectors.proofs.requests.tell_rule.Tie as tie
-use Rattle.vectors.proofs.requests.tell_rule.Reads as reads
-use Rattle.vectors.proofs.requests.tell_rule.Lts as lts
-use Rattle.report.proofs.line.put_count.Reads as put-count-reads
-use Rattle.vectors.proofs.requests.put_ok.Reads as put-ok-reads
 
 enum-known-r : tie.Need-enum-known-r
 enum-known-r c = search needs

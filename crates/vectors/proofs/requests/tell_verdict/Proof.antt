@@ -3,11 +3,6 @@ use Rattle.vectors.proofs.Reading.{part, written}
 use borrow.Author.Needs.{needs}
 use Rattle.vectors.proofs.requests.tell_verdict.Statement.{statement}
 use Rattle.vectors.proofs.requests.tell_verdict.Tie as tie
-use Rattle.vectors.proofs.requests.tell_verdict.Reads as reads
-use Rattle.vectors.proofs.requests.tell_verdict.Lts as lts
-use Rattle.report.proofs.line.write_line.Reads as write-line-reads
-use Rattle.vectors.proofs.requests.least.Reads as least-reads
-use Rattle.ws2s.proofs.decide.decide.Reads as decide-reads
 
 least-requires : tie.Need-least-requires
 least-requires c κs = search needs

@@ -3,11 +3,6 @@ use Rattle.vectors.proofs.Reading.{taken}
 use borrow.Author.Needs.{needs}
 use Rattle.vectors.proofs.requests.verdict.Statement.{statement}
 use Rattle.vectors.proofs.requests.verdict.Tie as tie
-use Rattle.vectors.proofs.requests.verdict.Reads as reads
-use Rattle.vectors.proofs.requests.verdict.Lts as lts
-use Rattle.vectors.proofs.requests.put_bad.Reads as put-bad-reads
-use Rattle.vectors.proofs.requests.tell_verdict.Reads as tell-verdict-reads
-use Rattle.vectors.proofs.words.bytes_at.Reads as bytes-at-reads
 
 slice-aggregate-bytes-at : tie.Need-slice-aggregate-bytes-at
 slice-aggregate-bytes-at c = search needs

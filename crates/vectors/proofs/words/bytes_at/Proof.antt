@@ -3,11 +3,6 @@ use Rattle.vectors.proofs.Reading.{decoded}
 use borrow.Author.Needs.{needs}
 use Rattle.vectors.proofs.words.bytes_at.Statement.{statement}
 use Rattle.vectors.proofs.words.bytes_at.Tie as tie
-use Rattle.vectors.proofs.words.bytes_at.Reads as reads
-use Rattle.vectors.proofs.words.bytes_at.Lts as lts
-use Rattle.vectors.proofs.words.decode.Reads as decode-reads
-use Rattle.vectors.proofs.words.is_dash.Reads as is-dash-reads
-use Rattle.vectors.proofs.words.word_end.Reads as word-end-reads
 
 returns : tie.Need-returns
 returns c = search needs

@@ -1,6 +1,6 @@
 -- `vectors::words::decode` meets its contract. Assumes nothing.
-use Prim.Native.Nat.{_+_, _-_, _*_, _≤_}
-use mathlib.Core.Path.{_≡_, refl, sym, _∙_}
+use Prim.Native.Nat.{_-_, _*_, _≤_}
+use mathlib.Core.Path.{_≡_, refl, _∙_}
 use native.Mathlib.Omega.{arith}
 use borrow.Author.Needs.{needs}
 use lib.ListN.{length, drop, length-set}
@@ -9,10 +9,6 @@ use Rattle.vectors.specs.Words.{unhex}
 use Rattle.vectors.proofs.Reading.{unhex-turn, unhex-end}
 use Rattle.vectors.proofs.words.decode.Statement.{statement}
 use Rattle.vectors.proofs.words.decode.Tie as tie
-use Rattle.vectors.proofs.words.decode.Reads as reads
-use Rattle.vectors.proofs.words.decode.Lts as lts
-use Rattle.vectors.proofs.words.nibble.Reads as nibble-reads
-use Rattle.vectors.proofs.words.wide.Reads as wide-reads
 
 abbrev Inv-loop : tie.InvT-loop
 Inv-loop word to₀ count i₀ to i = (i ≤ count) × (length to ≡ length to₀) × (sets to i (unhex (drop (2 * i) word)) ≡ sets to₀ 0 (unhex word))

@@ -5,8 +5,6 @@ use borrow.Author.Tests.{lt-ltb, le-ltb, le-leb, lt-leb}
 use borrow.Author.Needs.{needs}
 use Rattle.vectors.proofs.words.nibble.Statement.{statement}
 use Rattle.vectors.proofs.words.nibble.Tie as tie
-use Rattle.vectors.proofs.words.nibble.Reads as reads
-use Rattle.vectors.proofs.words.nibble.Lts as lts
 
 returns : tie.Need-returns
 returns c = (rw (lt-ltb _ _ (c .if1 .taken)) refl, omega arith)

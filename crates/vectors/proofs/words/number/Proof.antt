@@ -1,6 +1,6 @@
 -- `vectors::words::number` meets its contract. Assumes nothing.
-use Prim.Native.Nat.{_+_, _-_, _≤_}
-use mathlib.Core.Path.{_≡_, refl, sym, _∙_}
+use Prim.Native.Nat.{_-_, _≤_}
+use mathlib.Core.Path.{_≡_, sym, _∙_}
 use native.Mathlib.Omega.{arith}
 use borrow.Author.Needs.{needs}
 use lib.ListN.{length, drop}
@@ -8,9 +8,6 @@ use Rattle.vectors.specs.Words.{digitsFrom}
 use Rattle.vectors.proofs.Reading.{low-byte, high-byte, too-long, one-digit, all-digits}
 use Rattle.vectors.proofs.words.number.Statement.{statement}
 use Rattle.vectors.proofs.words.number.Tie as tie
-use Rattle.vectors.proofs.words.number.Reads as reads
-use Rattle.vectors.proofs.words.number.Lts as lts
-use Rattle.vectors.proofs.words.wide.Reads as wide-reads
 
 abbrev Inv-loop : tie.InvT-loop
 Inv-loop word n₀ i₀ n i = (i ≤ length word) × (digitsFrom n (drop i word) ≡ digitsFrom 0 word)

@@ -8,8 +8,6 @@ use Rattle.vectors.specs.Words.{wordLength}
 use Rattle.vectors.proofs.Reading.{word-space, word-more, word-done}
 use Rattle.vectors.proofs.words.word_end.Statement.{statement}
 use Rattle.vectors.proofs.words.word_end.Tie as tie
-use Rattle.vectors.proofs.words.word_end.Reads as reads
-use Rattle.vectors.proofs.words.word_end.Lts as lts
 
 abbrev Inv-loop : tie.InvT-loop
 Inv-loop line from i₀ i = (i ≤ length line) × (i + wordLength (drop i line) ≡ from + wordLength (drop from line))
