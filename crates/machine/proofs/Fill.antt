@@ -16,7 +16,8 @@ use lib.Seq.{getD-take, getD-set-same, getD-set-other, take-set-le, drop-set-lt,
 use Rattle.machine.specs.Explore.{Has, pick, place, insert, visit}
 use Rattle.machine.proofs.Place.{place-le, place-append, place-last}
 use Rattle.machine.proofs.Grow.{Grows, insert-grows, has-grows, visit-has}
-use Rattle.machine.specs.Table.{listed, addr, Room, Cell, Filled, Built}
+use Rattle.machine.specs.Table.{listed, addr, Cell, Filled, Built}
+use Rattle.machine.specs.Succ.{Room}
 use Rattle.machine.specs.declared.explore.Plan.{Plan}
 use Rattle.machine.proofs.Steps.{cell-small}
 

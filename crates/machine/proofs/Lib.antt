@@ -2,7 +2,6 @@ pub mod Accept
 pub mod Any
 pub mod AtomRuns
 pub mod Cong
-pub mod Copies
 pub mod Exists
 pub mod Fill
 pub mod Found
@@ -10,6 +9,7 @@ pub mod Grow
 pub mod Held
 pub mod Labels
 pub mod Loops
+pub mod Masks
 pub mod Members
 pub mod Pigeon
 pub mod Place
@@ -17,6 +17,7 @@ pub mod RowLaws
 pub mod Rules
 pub mod Run
 pub mod Shares
+pub mod Spreads
 pub mod Start
 pub mod Steps
 pub mod WordLaws

@@ -10,7 +10,8 @@ use lib.Count.{ones}
 use lib.ListN.{length, getD, set, length-set}
 use lib.Seq.{getD-set-same, getD-set-other}
 use Rattle.machine.specs.Rows.{hitColumn, unionOf, Follows, Serves}
-use Rattle.machine.specs.Succ.{Step, off, on, hit, hitRow, hitSet, existsCode}
+use Rattle.machine.specs.Succ.{Step, through, off, on, hit, hitRow, hitSet, existsCode}
+use Rattle.machine.specs.Table.{seen}
 use Rattle.machine.specs.declared.explore.Kind.the-variants.{Exists}
 use Rattle.machine.specs.Word.{mem, any, Without}
 use Rattle.machine.proofs.Any.{and-cong, any-cong, any-in, any-swap}
@@ -53,6 +54,11 @@ filling-next f l m s seen rest n left right t rest′ x y h w o ex ey = record {
 
 pub filling-last : (f : Step) (l m s seen rest : ℕ) (left right : List ℕ) → Filling f l m s seen rest 0 left right → (t : ℕ) → mem t seen ≡ true → Follows f l m s t left right
 filling-last f l m s seen rest left right w t a = w .done t a (none-in t rest (sym (w .size)))
+
+-- the rows at the labels as a part sees them are the rows of its step
+pub follows-through : (e : Step) (f l m s t : ℕ) (left right : List ℕ) → Follows e (seen f l) (seen f m) s t left right → Follows (through f e) l m s t left right
+unfolding through hit
+follows-through e f l m s t left right w = record { after = w .after; before = w .before }
 
 -- the union of the rows at the members of a set that was seen is the successor
 module _ (f : Step) (w l s seen : ℕ) (left right : List ℕ) (rows : (t : ℕ) → mem t seen ≡ true → Follows f (off w l) (on w l) s t left right) (x : ℕ) (within : (t : ℕ) → mem t x ≡ true → mem t seen ≡ true) where

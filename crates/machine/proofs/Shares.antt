@@ -10,9 +10,9 @@ use borrow.Author.Tests.{le-leb, lt-leb}
 use lib.Arith.{digits-lt}
 use lib.ListN.{length, getD, take, drop, set, length-append, List·getD-append}
 use lib.Seq.{getD-take, getD-set-same, getD-set-other, getD-append-seam, length-take-le}
-use Rattle.machine.specs.Explore.{explore}
-use Rattle.machine.specs.Table.{listed, addr, Room, Cell, Explored}
-use Rattle.machine.specs.Succ.{entry, kindCode, successorOf, succIn, startOf, existsStart}
+use Rattle.machine.specs.Explore.{explore, place}
+use Rattle.machine.specs.Table.{seen, listed, addr, Cell, Explored}
+use Rattle.machine.specs.Succ.{Room, entry, through, kindCode, successorOf, succIn, startOf, existsStart}
 use Rattle.machine.specs.Machine.{startCode, codesOf, stepOf, acceptBy, acceptOf, Holds}
 use Rattle.machine.proofs.Found.{Ok, explore-ok}
 use Rattle.machine.proofs.Held.{Part, Parts, Same, record-same}
@@ -24,6 +24,7 @@ use Rattle.machine.specs.declared.explore.Builder.{Builder}
 use Rattle.machine.specs.declared.records.Decoded.{Decoded}
 use Rattle.machine.specs.declared.records.Machines.{Machines}
 use Rattle.machine.proofs.Fill.{addr-lt}
+use Rattle.machine.proofs.Masks.{seen-le, kind-blind}
 
 pub share-small : (c labels : ℕ) → c ≤ 64 → labels ≤ 256 → (labels * c ≤ 16384) × (labels * c * c ≤ 1048576)
 share-small c labels hc hl =
@@ -36,8 +37,9 @@ times-small a c labels ha hc hl =
     let b : a * (labels * c * c) ≤ 128 * (labels * c * c) = mul-le-mul-right (labels * c * c) (omega arith) in
     omega (arith, share-small c labels hc hl)
 
-pub room-of : (x : Decoded) (r c labels n : ℕ) → Fits x r c labels n → Room (planOf x r c labels) n
-room-of x r c labels n f = record {
+pub room-of : (x : Decoded) (r c labels n f g : ℕ) → Fits x r c labels n → Room (planOf x r c labels f g) n
+unfolding successorOf
+room-of x r c labels n f₁ f₂ f = record {
   ceiling = f .ceiling;
   some-state = f .some-state;
   few = f .few;
@@ -48,6 +50,8 @@ room-of x r c labels n f = record {
   wy-pos = f .wy-pos;
   wy-small = f .wy-small;
   share = f .share;
+  blind = λ low l y z.
+      kind-blind (entry low c (x .first * (labels * c * c))) (entry low c (x .second * (labels * c * c))) (x .wx) (x .wy) f₁ f₂ (f .wx-power) (f .wy-power) l y z (x .kind);
 }
 
 -- there were too many states before
@@ -78,6 +82,16 @@ module _ (x : Decoded) (r c labels : ℕ) (s : Machines) (ws : List ℕ) (ms : L
   abbrev low : List ℕ
   low = take (r * share) ws
 
+  -- the bits that the parts look at
+  abbrev look₁ : ℕ
+  look₁ = getD (s .looks) (x .first) 0
+
+  abbrev look₂ : ℕ
+  look₂ = getD (s .looks) (x .second) 0
+
+  abbrev plan : Plan
+  plan = planOf x r c labels look₁ look₂
+
   abbrev f : Mach
   f = getD ms (x .first) noMach
 
@@ -85,22 +99,23 @@ module _ (x : Decoded) (r c labels : ℕ) (s : Machines) (ws : List ℕ) (ms : L
   g = getD ms (x .second) noMach
 
   -- an entry of an earlier table lies before the share
-  near : (a l i j : ℕ) → a < r → l < labels → i < c → j < c → a * share + addr c l i j < r * share
-  near a l i j ha hl hi hj = digits-lt ha (addr-lt labels c l i j hl hi hj)
+  near : (a b l i j : ℕ) → a < r → l < labels → i < c → j < c → a * share + addr c (seen b l) i j < r * share
+  near a b l i j ha hl hi hj = digits-lt ha (addr-lt labels c (seen b l) i j (omega (arith, seen-le b l)) hi hj)
 
-  part-at : (a : ℕ) → a < r → Part labels (entry low c (a * share)) (getD ms a noMach .step) (length (getD ms a noMach .codes))
-  unfolding entry
+  part-at : (a : ℕ) → a < r → Part labels (through (getD (s .looks) a 0) (entry low c (a * share))) (getD ms a noMach .step) (length (getD ms a noMach .codes))
+  unfolding entry through
   part-at a h =
       let m = made a h in
+      let bits = getD (s .looks) a 0 in
       record {
         zero-in = m .some-state;
         few = omega (arith, m .few, fits .ceiling);
         same = λ l i j hl hi hj.
-            (getD-take (r * share) ws (a * share + addr c l i j) 0 (near a l i j h hl (omega (arith, m .few)) (omega (arith, m .few))) ∙ m .holds l i j hl hi hj .0, m .holds l i j hl hi hj .1);
+            (getD-take (r * share) ws (a * share + addr c (seen bits l) i j) 0 (near a bits l i j h hl (omega (arith, m .few)) (omega (arith, m .few))) ∙ m .holds l i j hl hi hj .0, m .holds l i j hl hi hj .1);
       }
 
   parts-of : (k : Kind) → Before k (x .first) (x .second) r
-      → Parts k (x .wx) labels (entry low c (x .first * share)) (f .step) (entry low c (x .second * share)) (g .step) (length (f .codes)) (length (g .codes))
+      → Parts k (x .wx) labels (through look₁ (entry low c (x .first * share))) (f .step) (through look₂ (entry low c (x .second * share))) (g .step) (length (f .codes)) (length (g .codes))
   parts-of Subset h = tt
   parts-of Single h = tt
   parts-of Child1 h = tt
@@ -112,18 +127,18 @@ module _ (x : Decoded) (r c labels : ℕ) (s : Machines) (ws : List ℕ) (ms : L
   parts-of Exists h = part-at (x .first) h
   parts-of Close h = h
 
-  pub same : Same (x .kind) (x .wx) (x .wy) c labels (entry low c (x .first * share)) (f .step) (entry low c (x .second * share)) (g .step)
+  pub same : Same (x .kind) (x .wx) (x .wy) c labels (through look₁ (entry low c (x .first * share))) (f .step) (through look₂ (entry low c (x .second * share))) (g .step)
   same =
-      record-same (x .wx) (x .wy) c labels (length (f .codes)) (length (g .codes)) (entry low c (x .first * share)) (f .step) (entry low c (x .second * share)) (g .step)
+      record-same (x .wx) (x .wy) c labels (length (f .codes)) (length (g .codes)) (through look₁ (entry low c (x .first * share))) (f .step) (through look₂ (entry low c (x .second * share))) (g .step)
       (fits .ceiling) (fits .some-state) (sound .bit) (x .kind) (parts-of (x .kind) (sound .before))
 
   -- the exploration from the tables
-  from-tables : explore (successorOf low (planOf x r c labels)) c labels (startOf low (planOf x r c labels))
-      ≡ codesOf (x .kind) (entry low c (x .first * share)) (entry low c (x .second * share)) (x .wx) (x .wy) c labels
+  from-tables : explore (successorOf low plan) c labels (startOf low plan)
+      ≡ codesOf (x .kind) (through look₁ (entry low c (x .first * share))) (through look₂ (entry low c (x .second * share))) (x .wx) (x .wy) c labels
   unfolding codesOf startCode successorOf startOf existsStart kindCode
   from-tables = refl
 
-  module _ (b : Builder) (ws′ : List ℕ) (done : Explored (succIn ws (planOf x r c labels)) (planOf x r c labels) (startOf low (planOf x r c labels)) b ws ws′) where
+  module _ (b : Builder) (ws′ : List ℕ) (done : Explored (succIn ws plan) plan (startOf low plan) b ws ws′) where
     pub found-codes : listed c b ≡ codesOf (x .kind) (f .step) (g .step) (x .wx) (x .wy) c labels
     found-codes = done .list ∙ from-tables ∙ same .codes
 
@@ -133,7 +148,8 @@ module _ (x : Decoded) (r c labels : ℕ) (s : Machines) (ws : List ℕ) (ms : L
 
     module _ (full : length (b .codes) ≡ 64) (few : b .count ≤ c) (t : Machines) (at-count : t .counts ≡ set (s .counts) r (b .count))
         (at-accept : t .accepts ≡ set (s .accepts) r (acceptOf (x .kind) (getD (s .accepts) (x .first) 0) (getD (s .accepts) (x .second) 0) (take (b .count) (b .codes))))
-        (wide : length (s .counts) ≡ 128) (wide′ : length (s .accepts) ≡ 128) (size : length ms ≡ r) where
+        (at-looks : t .looks ≡ set (s .looks) r (plan .looks))
+        (wide : length (s .counts) ≡ 128) (wide′ : length (s .accepts) ≡ 128) (wide″ : length (s .looks) ≡ 128) (size : length ms ≡ r) where
       abbrev cs : List ℕ
       cs = take (b .count) (b .codes)
 
@@ -147,13 +163,15 @@ module _ (x : Decoded) (r c labels : ℕ) (s : Machines) (ws : List ℕ) (ms : L
       count-cs = length-take-le (b .count) (b .codes) (omega (arith, fits .ceiling))
 
       -- the new table
-      new-holds : Holds ws′ c labels (r * share) (length cs) (new .step)
+      new-holds : Holds ws′ c labels (r * share) (plan .looks) (length cs) (new .step)
       unfolding entry stepOf successorOf
       new-holds l i j hl hi hj =
-          let cell : Cell (succIn ws (planOf x r c labels)) c (r * share) (some cs) ws′ l i j =
-          subst (λ (o : Option (List ℕ)). Cell (succIn ws (planOf x r c labels)) c (r * share) o ws′ l i j) is-cs
+          let m = seen (plan .looks) l in
+          let cell : Cell (succIn ws plan) c (r * share) (some cs) ws′ m i j =
+          subst (λ (o : Option (List ℕ)). Cell (succIn ws plan) c (r * share) o ws′ m i j) is-cs
           (done .cells l i j hl (omega (arith, count-cs)) (omega (arith, count-cs)) (omega (arith, count-cs)) (omega (arith, count-cs))) in
-          let eq = same .steps cs (sym from-tables ∙ sym (done .list) ∙ is-cs) l i j hl hi hj in
+          let alike = ap (λ (y : ℕ). place y cs) (room-of x r c labels (length ws) look₁ look₂ fits .blind low l (getD cs i 0) (getD cs j 0)) in
+          let eq = alike ∙ same .steps cs (sym from-tables ∙ sym (done .list) ∙ is-cs) l i j hl hi hj in
           (cell .3 ∙ eq, subst (λ (n : ℕ). n < length cs) eq (cell .2 .2))
 
       new-at : At c labels r new t ws′
@@ -163,8 +181,10 @@ module _ (x : Decoded) (r c labels : ℕ) (s : Machines) (ws : List ℕ) (ms : L
             ap (λ (l : List ℕ). getD l r 0) at-accept ∙ getD-set-same (s .accepts) r _ 0 (omega (arith, fits .here-in))
             ∙ accept-parts (x .kind) (x .first) (x .second) r (getD (s .accepts) (x .first) 0) (getD (s .accepts) (x .second) 0) (f .accept) (g .accept) cs (sound .before)
             (λ h. made (x .first) h .accept) (λ h. made (x .second) h .accept);
-        holds = new-holds;
-        some-state = subst (Ok (succIn ws (planOf x r c labels)) c labels (startOf low (planOf x r c labels))) (sym (done .list) ∙ is-cs) (explore-ok (succIn ws (planOf x r c labels)) c labels (startOf low (planOf x r c labels)) (fits .some-state)) .2;
+        holds =
+            subst (λ (b : ℕ). Holds ws′ c labels (r * share) b (length cs) (new .step))
+            (sym (ap (λ (l : List ℕ). getD l r 0) at-looks ∙ getD-set-same (s .looks) r (plan .looks) 0 (omega (arith, fits .here-in)))) new-holds;
+        some-state = subst (Ok (succIn ws plan) c labels (startOf low plan)) (sym (done .list) ∙ is-cs) (explore-ok (succIn ws plan) c labels (startOf low plan) (fits .some-state)) .2;
         few = omega (arith, count-cs);
       }
 
@@ -173,11 +193,14 @@ module _ (x : Decoded) (r c labels : ℕ) (s : Machines) (ws : List ℕ) (ms : L
       old-at a h =
           let m = made a h in
           let no′ : a ≡ r → ⊥ = λ e. omega arith in
+          let bits = getD (s .looks) a 0 in
+          let same-looks : bits ≡ getD (t .looks) a 0 = sym (ap (λ (l : List ℕ). getD l a 0) at-looks ∙ getD-set-other (s .looks) r a _ 0 no′) in
           record {
             count = ap (λ (l : List ℕ). getD l a 0) at-count ∙ getD-set-other (s .counts) r a (b .count) 0 no′ ∙ m .count;
             accept = ap (λ (l : List ℕ). getD l a 0) at-accept ∙ getD-set-other (s .accepts) r a _ 0 no′ ∙ m .accept;
-            holds = λ l i j hl hi hj.
-                (old-byte (a * share + addr c l i j) (near a l i j h hl (omega (arith, m .few)) (omega (arith, m .few))) ∙ m .holds l i j hl hi hj .0, m .holds l i j hl hi hj .1);
+            holds =
+                subst (λ (b : ℕ). Holds ws′ c labels (a * share) b (length (getD ms a noMach .codes)) (getD ms a noMach .step)) same-looks λ l i j hl hi hj.
+                (old-byte (a * share + addr c (seen bits l) i j) (near a bits l i j h hl (omega (arith, m .few)) (omega (arith, m .few))) ∙ m .holds l i j hl hi hj .0, m .holds l i j hl hi hj .1);
             some-state = m .some-state;
             few = m .few;
           }
@@ -200,9 +223,12 @@ module _ (x : Decoded) (r c labels : ℕ) (s : Machines) (ws : List ℕ) (ms : L
         rw (sym found-codes ∙ e) (ov, fits .here-in)
 
 -- the same whatever there was before
-module _ (x : Decoded) (r c labels : ℕ) (s t : Machines) (ws ws′ : List ℕ) (p : Plan) (b : Builder) (fits : Fits x r c labels (length ws)) (sound : Sound x r labels) (is-plan : p ≡ planOf x r c labels)
+module _ (x : Decoded) (r c labels : ℕ) (s t : Machines) (ws ws′ : List ℕ) (p : Plan) (b : Builder) (fits : Fits x r c labels (length ws)) (sound : Sound x r labels) (is-plan : p ≡ planOf x r c labels (getD (s .looks) (x .first) 0) (getD (s .looks) (x .second) 0))
     (done : Explored (succIn ws p) p (startOf (take (p .base) ws) p) b ws ws′) (none-over : 128 ≤ s .over) where
-  done′ : Explored (succIn ws (planOf x r c labels)) (planOf x r c labels) (startOf (take (planOf x r c labels .base) ws) (planOf x r c labels)) b ws ws′
+  abbrev q : Plan
+  q = planOf x r c labels (getD (s .looks) (x .first) 0) (getD (s .looks) (x .second) 0)
+
+  done′ : Explored (succIn ws q) q (startOf (take (q .base) ws) q) b ws ws′
   done′ = subst (λ (p : Plan). Explored (succIn ws p) p (startOf (take (p .base) ws) p) b ws ws′) is-plan done
 
   pub after-high : drop (r * (labels * c * c) + labels * c * c) ws′ ≡ drop (r * (labels * c * c) + labels * c * c) ws
@@ -214,9 +240,11 @@ module _ (x : Decoded) (r c labels : ℕ) (s t : Machines) (ws ws′ : List ℕ)
 
   pub after-more : length (b .codes) ≡ 64 → b .count ≤ c → t .counts ≡ set (s .counts) r (b .count)
       → t .accepts ≡ set (s .accepts) r (acceptOf (x .kind) (getD (s .accepts) (x .first) 0) (getD (s .accepts) (x .second) 0) (take (b .count) (b .codes)))
-      → length (s .counts) ≡ 128 → length (s .accepts) ≡ 128 → t .over ≡ s .over → (o : Outcome) → Made o c labels r s ws → Made (after c labels r x o) c labels (r + 1) t ws′
-  after-more full few ec ea wide wide′ ov (over k) m = absurd (omega (arith, m .0, m .1))
-  after-more full few ec ea wide wide′ ov (built ms) m = made-more x r c labels s ws ms fits sound (m .2) b ws′ done′ full few t ec ea wide wide′ (m .1) (ov ∙ m .0)
+      → t .looks ≡ set (s .looks) r (p .looks)
+      → length (s .counts) ≡ 128 → length (s .accepts) ≡ 128 → length (s .looks) ≡ 128 → t .over ≡ s .over → (o : Outcome) → Made o c labels r s ws → Made (after c labels r x o) c labels (r + 1) t ws′
+  after-more full few ec ea el wide wide′ wide″ ov (over k) m = absurd (omega (arith, m .0, m .1))
+  after-more full few ec ea el wide wide′ wide″ ov (built ms) m =
+      made-more x r c labels s ws ms fits sound (m .2) b ws′ done′ full few t ec ea (el ∙ ap (λ (p : Plan). set (s .looks) r (p .looks)) is-plan) wide wide′ wide″ (m .1) (ov ∙ m .0)
 
 pub next-share : (r m s : ℕ) → r < m → r * s + s ≤ m * s
 next-share r m s h = subst (λ (n : ℕ). n ≤ m * s) (suc-mul r s) (mul-le-mul-right s h)

@@ -1,12 +1,13 @@
 -- The machines of a rule's records, one after the other. Document 01, "Machines": "Counts and accepting sets are kept with one entry for
 -- each of the 128 possible records"; "What each operation turns down": "14, with the record's number, for the first record in strip order
 -- with more than c states. All records are built". Assumes nothing.
-use Prim.Native.Nat.{ℕ, zero, suc, _+_, _*_, _≤_, _<_}
+use Prim.Native.Nat.{ℕ, zero, suc, _+_, _-_, _*_, _^_, _≤_, _<_}
 use mathlib.Core.Path.{_≡_}
 use mathlib.Core.List.{List, [], _∷_, _++_}
 use mathlib.Core.Option.{Option, none, some}
 use lib.ListN.{length, getD}
-use Rattle.machine.specs.Succ.{Step, kindCode}
+use Rattle.machine.specs.Table.{seen}
+use Rattle.machine.specs.Succ.{Step, kindCode, looksOf}
 use Rattle.machine.specs.Machine.{codesOf, stepOf, acceptOf, Holds, Bit}
 use Rattle.machine.specs.declared.explore.Kind.{Kind}
 use Rattle.machine.specs.declared.explore.Kind.the-variants.{Subset, Single, Child1, Child2, Root, Not, Or, And, Exists, Close}
@@ -48,9 +49,9 @@ after c labels r x (built ms) =
     more r ms (machFrom x (getD ms (x .first) noMach) (getD ms (x .second) noMach))
     (codesOf (x .kind) (getD ms (x .first) noMach .step) (getD ms (x .second) noMach .step) (x .wx) (x .wy) c labels)
 
--- the plan of record r: record a's table starts at a times the share
-abbrev pub planOf : Decoded → ℕ → ℕ → ℕ → Plan
-planOf x r c labels = record {
+-- the plan of record r, whose parts look at the bits f and g: record a's table starts at a times the share
+abbrev pub planOf : Decoded → ℕ → ℕ → ℕ → ℕ → ℕ → Plan
+planOf x r c labels f g = record {
   kind = x .kind;
   first = x .first * (labels * c * c);
   second = x .second * (labels * c * c);
@@ -59,7 +60,14 @@ planOf x r c labels = record {
   c = c;
   labels = labels;
   base = r * (labels * c * c);
+  looks = looksOf (x .kind) (x .wx) (x .wy) f g;
+  look1 = f;
+  look2 = g;
 }
+
+-- w is the weight of a bit
+abbrev pub Power : ℕ → Type 0
+Power w = (k : ℕ) × (w ≡ 2 ^ k)
 
 -- the numbers are in range, and record r's share is within n bytes
 pub record Fits (x : Decoded) (r c labels n : ℕ) : Type 0 where
@@ -74,6 +82,8 @@ pub record Fits (x : Decoded) (r c labels n : ℕ) : Type 0 where
   pub wx-small : x .wx ≤ 128
   pub wy-pos : 0 < x .wy
   pub wy-small : x .wy ≤ 128
+  pub wx-power : Power (x .wx)
+  pub wy-power : Power (x .wy)
   pub share : r * (labels * c * c) + labels * c * c ≤ n
 
 -- the parts that a record of this kind has come before it
@@ -93,17 +103,25 @@ pub record Sound (x : Decoded) (r labels : ℕ) : Type 0 where
   pub before : Before (x .kind) (x .first) (x .second) r
   pub bit : Bit (x .wx) labels
 
--- record a's machine is kept: its number of states, its accepting states, and its table in its share
+-- record a's machine is kept: its number of states, its accepting states, and in its share its table, at the labels that it tells apart
 pub record At (c labels a : ℕ) (m : Mach) (s : Machines) (ws : List ℕ) : Type 0 where
   pub count : getD (s .counts) a 0 ≡ length (m .codes)
   pub accept : getD (s .accepts) a 0 ≡ m .accept
-  pub holds : Holds ws c labels (a * (labels * c * c)) (length (m .codes)) (m .step)
+  pub holds : Holds ws c labels (a * (labels * c * c)) (getD (s .looks) a 0) (length (m .codes)) (m .step)
   pub some-state : 0 < length (m .codes)
   pub few : length (m .codes) ≤ c
 
 abbrev pub Made : Outcome → ℕ → ℕ → ℕ → Machines → List ℕ → Type 0
 Made (over k) c labels r s ws = (s .over ≡ k) × (k < 128)
 Made (built ms) c labels r s ws = (s .over ≡ 128) × (length ms ≡ r) × ((a : ℕ) → a < r → At c labels a (getD ms a noMach) s ws)
+
+-- where no record has too many states, the table of record a has its entries at every label
+abbrev pub Spread : ℕ → ℕ → Machines → Type 0
+Spread a labels s = 128 ≤ s .over → (l : ℕ) → l < labels → seen (getD (s .looks) a 0) l ≡ l
+
+-- all machines are made, and the table of the last record has its entries at every label
+abbrev pub Finished : Outcome → ℕ → ℕ → ℕ → Machines → List ℕ → Type 0
+Finished o c labels m s ws = Made o c labels m s ws × Spread (m - 1) labels s
 
 abbrev pub noDecoded : Decoded
 noDecoded = record { kind = Subset; first = 0; second = 0; wx = 0; wy = 0 }

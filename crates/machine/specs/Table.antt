@@ -5,6 +5,7 @@ use mathlib.Core.Path.{_≡_}
 use mathlib.Core.List.{List}
 use mathlib.Core.Option.{Option, none, some}
 use lib.ListN.{getD, take, drop}
+use lib.Bits.{bitAnd}
 use lib.Dec.{leb}
 use Rattle.machine.specs.Explore.{Has, pick, place, visit, row, ring, next, grow, explore}
 use Rattle.machine.specs.declared.explore.Builder.{Builder}
@@ -17,19 +18,6 @@ listed c b = pick (leb (b .count) c) (some (take (b .count) (b .codes))) none
 -- where the entry for a label and two states stands in a table of c states
 unfoldable pub addr : ℕ → ℕ → ℕ → ℕ → ℕ
 addr c l i j = (l * c + i) * c + j
-
--- the plan's numbers are in range, and its share is within a workspace of n bytes
-pub record Room (p : Plan) (n : ℕ) : Type 0 where
-  pub ceiling : p .c ≤ 64
-  pub some-state : 0 < p .c
-  pub few : p .labels ≤ 256
-  pub first-small : p .first < 4294967296
-  pub second-small : p .second < 4294967296
-  pub wx-pos : 0 < p .wx
-  pub wx-small : p .wx ≤ 128
-  pub wy-pos : 0 < p .wy
-  pub wy-small : p .wy ≤ 128
-  pub share : p .base + p .labels * p .c * p .c ≤ n
 
 -- the table has the entry for label l and states i and j, or there were too many
 abbrev pub Cell : (ℕ → ℕ → ℕ → ℕ) → ℕ → ℕ → Option (List ℕ) → List ℕ → ℕ → ℕ → ℕ → Type 0
@@ -54,6 +42,10 @@ pub record Built (succ : ℕ → ℕ → ℕ → ℕ) (p : Plan) (b r : Builder)
   pub list : listed (p .c) r ≡ o
   pub fill : Filled succ p (listed (p .c) b) (listed (p .c) r) ws ws′
 
+-- label l as a record sees it that looks at the bits f
+unfoldable pub seen : ℕ → ℕ → ℕ
+seen f l = bitAnd l f
+
 -- what a visit, a row and a ring of visits ensure
 abbrev pub Visited : (ℕ → ℕ → ℕ → ℕ) → Plan → Builder → Builder → List ℕ → List ℕ → ℕ → ℕ → ℕ → Type 0
 Visited succ p b r ws ws′ l i j = Built succ p b r ws ws′ (visit succ (p .c) l i j (listed (p .c) b)) × Cell succ (p .c) (p .base) (listed (p .c) r) ws′ l i j
@@ -61,20 +53,25 @@ Visited succ p b r ws ws′ l i j = Built succ p b r ws ws′ (visit succ (p .c)
 abbrev pub Rowed : (ℕ → ℕ → ℕ → ℕ) → Plan → Builder → Builder → List ℕ → List ℕ → ℕ → ℕ → ℕ → Type 0
 Rowed succ p b r ws ws′ l k i = Built succ p b r ws ws′ (row succ (p .c) l k i (listed (p .c) b)) × Ring succ p (listed (p .c) r) ws′ l i k
 
+-- the row of a label, whose entries stand at the label as the record sees it
+abbrev pub Labelled : (ℕ → ℕ → ℕ → ℕ) → Plan → Builder → Builder → List ℕ → List ℕ → ℕ → ℕ → Type 0
+Labelled succ p b r ws ws′ l k =
+    Built succ p b r ws ws′ (row succ (p .c) l k (k + 1) (listed (p .c) b)) × Ring succ p (listed (p .c) r) ws′ (seen (p .looks) l) (k + 1) k
+
 abbrev pub Ringed : (ℕ → ℕ → ℕ → ℕ) → Plan → Builder → Builder → List ℕ → List ℕ → ℕ → ℕ → Type 0
 Ringed succ p b r ws ws′ k m =
-    Built succ p b r ws ws′ (ring succ (p .c) k m (listed (p .c) b)) × ((l : ℕ) → l < m → Ring succ p (listed (p .c) r) ws′ l (k + 1) k)
+    Built succ p b r ws ws′ (ring succ (p .c) k m (listed (p .c) b)) × ((l : ℕ) → l < m → Ring succ p (listed (p .c) r) ws′ (seen (p .looks) l) (k + 1) k)
 
 -- what the turn for state k ensures: the entries of state k with those up to it, if there is a state k
 pub record Nexted (succ : ℕ → ℕ → ℕ → ℕ) (p : Plan) (b r : Builder) (ws ws′ : List ℕ) (k : ℕ) : Type 0 where
   pub step : Built succ p b r ws ws′ (next succ (p .c) (p .labels) k (listed (p .c) b))
   pub idle : b .count ≤ k → r .count ≡ b .count
-  pub cells : (l : ℕ) → l < p .labels → k < r .count → Ring succ p (listed (p .c) r) ws′ l (k + 1) k
+  pub cells : (l : ℕ) → l < p .labels → k < r .count → Ring succ p (listed (p .c) r) ws′ (seen (p .looks) l) (k + 1) k
 
 -- the entries of the states below k with each other
 abbrev pub Square : (ℕ → ℕ → ℕ → ℕ) → Plan → Builder → List ℕ → ℕ → Type 0
 Square succ p r ws k =
-    (l i j : ℕ) → l < p .labels → i < k → j < k → i < r .count → j < r .count → Cell succ (p .c) (p .base) (listed (p .c) r) ws l i j
+    (l i j : ℕ) → l < p .labels → i < k → j < k → i < r .count → j < r .count → Cell succ (p .c) (p .base) (listed (p .c) r) ws (seen (p .looks) l) i j
 
 -- the turns for the states below k, from builder b
 pub record Grown (succ : ℕ → ℕ → ℕ → ℕ) (p : Plan) (b r : Builder) (ws ws′ : List ℕ) (k : ℕ) : Type 0 where
@@ -93,3 +90,15 @@ pub record Explored (succ : ℕ → ℕ → ℕ → ℕ) (p : Plan) (start : ℕ
 pub record Kept (p : Plan) (ws ws′ : List ℕ) : Type 0 where
   pub low : take (p .base) ws′ ≡ take (p .base) ws
   pub high : drop (p .base + p .labels * p .c * p .c) ws′ ≡ drop (p .base + p .labels * p .c * p .c) ws
+
+-- the n bytes at one place are copied to a later one
+pub record Copied (ws ws′ : List ℕ) (from to n : ℕ) : Type 0 where
+  pub there : (k : ℕ) → k < n → getD ws′ (to + k) 0 ≡ getD ws (from + k) 0
+  pub low : (k : ℕ) → k < to → getD ws′ k 0 ≡ getD ws k 0
+  pub high : drop (to + n) ws′ ≡ drop (to + n) ws
+
+-- in the table at base, with n entries for a label, each label below l has the entries of the label as it is seen
+pub record Spreading (ws ws′ : List ℕ) (base n bits l : ℕ) : Type 0 where
+  pub done : (m k : ℕ) → m < l → k < n → getD ws′ (base + (m * n + k)) 0 ≡ getD ws (base + (seen bits m * n + k)) 0
+  pub low : (k : ℕ) → k < base → getD ws′ k 0 ≡ getD ws k 0
+  pub rest : drop (base + l * n) ws′ ≡ drop (base + l * n) ws

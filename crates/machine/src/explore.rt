@@ -1,12 +1,11 @@
 // The exploration of a record's states: one for every kind of record, which differ in the successor and the start.
-ghost use mathlib.Core.List.{List};
 ghost use mathlib.Core.Path.{_≡_};
 ghost use Prim.Native.Nat.{ℕ, _+_, _≤_, _<_};
-ghost use lib.ListN.{length, getD, set, take};
+ghost use lib.ListN.{length, getD, take};
 ghost use Rattle.machine.specs.Explore.{place, insert};
 ghost use Rattle.machine.specs.Rows.{GivenBy, Serves};
-ghost use Rattle.machine.specs.Succ.{entry, off, notCode, pairCode, closeCode, successorOf, succIn, wordFound, existsStart, startOf};
-ghost use Rattle.machine.specs.Table.{listed, addr, Room, Ring, Visited, Rowed, Ringed, Nexted, Explored, Kept};
+ghost use Rattle.machine.specs.Succ.{Room, entry, through, off, notCode, pairCode, closeCode, successorOf, succIn, wordFound, existsStart, startOf};
+ghost use Rattle.machine.specs.Table.{listed, addr, seen, Ring, Visited, Rowed, Labelled, Ringed, Nexted, Explored, Kept};
 use crate::atoms::atom_index;
 use crate::atoms::child1_at;
 use crate::atoms::child2_at;
@@ -49,7 +48,8 @@ pub enum Kind {
 }
 
 // A machine to be built: its kind, the places where the tables of its parts start, the weights of the bits of its variables, the state
-// ceiling, the number of labels and the place where its own table starts.
+// ceiling, the number of labels, the place where its own table starts, and the bits of the labels that it and its parts look at. A table
+// has its entries at the labels with no other bit: the record does not tell any other label from one of these.
 pub struct Plan {
     pub kind: Kind,
     pub first: usize,
@@ -59,6 +59,9 @@ pub struct Plan {
     pub c: usize,
     pub labels: usize,
     pub base: usize,
+    pub looks: usize,
+    pub look1: usize,
+    pub look2: usize,
 }
 
 // Where x stands among the first codes; their count where it does not.
@@ -129,36 +132,63 @@ pub fn wide(x: u8) -> u64
 }
 
 // The successor for "not".
-pub fn not_code(low: &[u8], c: usize, a: usize, l: usize, x: u64, y: u64) -> u64
+pub fn not_code(low: &[u8], c: usize, a: usize, f: usize, l: usize, x: u64, y: u64) -> u64
     requires { ⌜ (c ≤ 64) × (l < 256) × (a < 4294967296) ⌝ }
-    ensures { λ r. ⌜ r ≡ notCode (entry (now (low .entry)) c a) l x y ⌝ }
+    ensures { λ r. ⌜ r ≡ notCode (through f (entry (now (low .entry)) c a)) l x y ⌝ }
 {
-    entry_at(low, c, a, l, (x % 64) as usize, (y % 64) as usize)
+    entry_at(low, c, a, l & f, (x % 64) as usize, (y % 64) as usize)
 }
 
 // The successor for "and" and "or".
-pub fn pair_code(low: &[u8], c: usize, a: usize, b: usize, l: usize, x: u64, y: u64) -> u64
+pub fn pair_code(
+    low: &[u8],
+    c: usize,
+    a: usize,
+    b: usize,
+    f: usize,
+    g: usize,
+    l: usize,
+    x: u64,
+    y: u64,
+) -> u64
     requires { ⌜ (c ≤ 64) × (l < 256) × (a < 4294967296) × (b < 4294967296) ⌝ }
-    ensures { λ r. ⌜ r ≡ pairCode (entry (now (low .entry)) c a) (entry (now (low .entry)) c b) l x y ⌝ }
+    ensures { λ r. ⌜ r ≡ pairCode (through f (entry (now (low .entry)) c a)) (through g (entry (now (low .entry)) c b)) l x y ⌝ }
 {
-    let first = entry_at(low, c, a, l, (x / 64 % 64) as usize, (y / 64 % 64) as usize);
-    let second = entry_at(low, c, b, l, (x % 64) as usize, (y % 64) as usize);
+    let first = entry_at(
+        low,
+        c,
+        a,
+        l & f,
+        (x / 64 % 64) as usize,
+        (y / 64 % 64) as usize,
+    );
+    let second = entry_at(low, c, b, l & g, (x % 64) as usize, (y % 64) as usize);
     first * 64 + second
 }
 
 // The successor for the start of "exists": label 0 with the bound bit v.
-pub fn close_code(low: &[u8], c: usize, a: usize, w: usize, v: usize, x: u64, y: u64) -> u64
+pub fn close_code(
+    low: &[u8],
+    c: usize,
+    a: usize,
+    f: usize,
+    w: usize,
+    v: usize,
+    x: u64,
+    y: u64,
+) -> u64
     requires { ⌜ (c ≤ 64) × (v < 256) × (a < 4294967296) × (0 < w) × (w ≤ 128) ⌝ }
-    ensures { λ r. ⌜ r ≡ closeCode (entry (now (low .entry)) c a) w v x y ⌝ }
+    ensures { λ r. ⌜ r ≡ closeCode (through f (entry (now (low .entry)) c a)) w v x y ⌝ }
 {
-    entry_at(low, c, a, v % 2 * w, (x % 64) as usize, (y % 64) as usize)
+    let l = v % 2 * w;
+    entry_at(low, c, a, l & f, (x % 64) as usize, (y % 64) as usize)
 }
 
 // The successor of x and y by the kind of record; for "exists" it is the union of what the row has at the members of z.
 pub fn successor(low: &[u8], p: Plan, l: usize, x: u64, y: u64, row: &[u64; 64], z: u64) -> u64
     requires { ⌜ (p .c ≤ 64) × (l < 256) × (p .first < 4294967296) × (p .second < 4294967296) ⌝ }
     requires { ⌜ (0 < p .wx) × (p .wx ≤ 128) × (0 < p .wy) × (p .wy ≤ 128) ⌝ }
-    requires { ⌜ GivenBy (p .kind) (entry (now low) (p .c) (p .first)) (p .wx) l x y (now row) z ⌝ }
+    requires { ⌜ GivenBy (p .kind) (through (p .look1) (entry (now low) (p .c) (p .first))) (p .wx) l x y (now row) z ⌝ }
     ensures { λ r. ⌜ r ≡ successorOf (now (low .entry)) p l x y ⌝ }
 {
     let kind = p.kind;
@@ -167,17 +197,19 @@ pub fn successor(low: &[u8], p: Plan, l: usize, x: u64, y: u64, row: &[u64; 64],
     let b = p.second;
     let wx = p.wx;
     let wy = p.wy;
+    let f = p.look1;
+    let g = p.look2;
     match kind {
         Kind::Subset => subset_at(atom_index(wx, wy, l, x, y)),
         Kind::Single => single_at(atom_index(wx, wy, l, x, y)),
         Kind::Child1 => child1_at(atom_index(wx, wy, l, x, y)),
         Kind::Child2 => child2_at(atom_index(wx, wy, l, x, y)),
         Kind::Root => root_at(atom_index(wx, wy, l, x, y)),
-        Kind::Not => not_code(low, c, a, l, x, y),
-        Kind::Or => pair_code(low, c, a, b, l, x, y),
-        Kind::And => pair_code(low, c, a, b, l, x, y),
+        Kind::Not => not_code(low, c, a, f, l, x, y),
+        Kind::Or => pair_code(low, c, a, b, f, g, l, x, y),
+        Kind::And => pair_code(low, c, a, b, f, g, l, x, y),
         Kind::Exists => union_of(row, z),
-        Kind::Close => close_code(low, c, a, wx, l, x, y),
+        Kind::Close => close_code(low, c, a, f, wx, l, x, y),
     }
 }
 
@@ -214,7 +246,7 @@ pub fn visit_pairs(
 ) -> Builder
     requires { ⌜ Room p (length (now ws)) ⌝ }
     requires { ⌜ (l < p .labels) × (k < b .count) × (b .count ≤ p .c) ⌝ }
-    requires { ⌜ Serves (p .kind) (entry (take (p .base) (now ws)) (p .c) (p .first)) (p .wx) l (b .codes) k (now left) (now right) ⌝ }
+    requires { ⌜ Serves (p .kind) (through (p .look1) (entry (take (p .base) (now ws)) (p .c) (p .first))) (p .wx) l (b .codes) k (now left) (now right) ⌝ }
     ensures { λ r. ⌜ Rowed (succIn (now (ws .entry)) p) p b r (now (ws .entry)) (now (ws .exit)) l k (k + 1) ⌝ }
 {
     let base = p.base;
@@ -252,73 +284,25 @@ pub fn visit_row(ws: &mut [u8], p: Plan, b: Builder, l: usize, k: usize) -> Buil
     visit_pairs(ws, p, b, l, k, &left, &right)
 }
 
-// The entry for states i and j is copied from label f to label l.
-pub fn copy_entry(ws: &mut [u8], p: Plan, f: usize, l: usize, i: usize, j: usize)
-    requires { ⌜ Room p (length (now ws)) ⌝ }
-    requires { ⌜ (f < p .labels) × (l < p .labels) × (i < p .c) × (j < p .c) ⌝ }
-    ensures { λ _. ⌜ now (ws .exit) ≡ set (now (ws .entry)) (p .base + addr (p .c) l i j) (getD (now (ws .entry)) (p .base + addr (p .c) f i j) 0) ⌝ }
-{
-    let c = p.c;
-    let base = p.base;
-    let from = base + cell(c, f, i, j);
-    let to = base + cell(c, l, i, j);
-    let x = ws[from];
-    ws[to] = x;
-}
-
 // The label l with the bit of weight w cleared.
 pub fn cleared(w: usize, l: usize) -> usize
-    requires { ⌜ (0 < w) × (w ≤ 128) × (l < 256) ⌝ }
+    requires { ⌜ (0 < w) × (w ≤ 128) ⌝ }
     ensures { λ r. ⌜ (r ≡ off w l) × (r ≤ l) ⌝ }
 {
     l / (2 * w) * (2 * w) + l % w
 }
 
-// The first label that has the same successors as l: "exists" is blind to the bit of the bound variable.
-pub fn first_alike(p: Plan, l: usize) -> usize
-    requires { ⌜ (0 < p .wx) × (p .wx ≤ 128) × (l < 256) ⌝ }
-    ensures { λ r. ⌜ (r ≤ l) × ((low : List ℕ) (x y : ℕ) → successorOf low p r x y ≡ successorOf low p l x y) ⌝ }
-{
-    let kind = p.kind;
-    let w = p.wx;
-    match kind {
-        Kind::Exists => cleared(w, l),
-        _ => l,
-    }
-}
-
-// The entries of state k with those up to k, both ways, are copied from label f to a label l with the same successors.
-pub fn copy_row(ws: &mut [u8], p: Plan, b: Builder, f: usize, l: usize, k: usize) -> Builder
-    requires { ⌜ Room p (length (now ws)) ⌝ }
-    requires { ⌜ (f < p .labels) × (l < p .labels) × (k < b .count) × (b .count ≤ p .c + 1) ⌝ }
-    requires { ⌜ ((x y : ℕ) → succIn (now ws) p f x y ≡ succIn (now ws) p l x y) ⌝ }
-    requires { ⌜ Ring (succIn (now ws) p) p (listed (p .c) b) (now ws) f (k + 1) k ⌝ }
-    ensures { λ r. ⌜ Rowed (succIn (now (ws .entry)) p) p b r (now (ws .entry)) (now (ws .exit)) l k (k + 1) ⌝ }
-{
-    let c = p.c;
-    let count = b.count;
-    if c < count {
-        return b;
-    }
-    let mut i = 0;
-    while i <= k {
-        copy_entry(ws, p, f, l, i, k);
-        copy_entry(ws, p, f, l, k, i);
-        i += 1;
-    }
-    b
-}
-
-// The pairs of state k with those up to k, both ways, under label l, after those under the labels before it.
+// The pairs of state k with those up to k, both ways, under label l, after those under the labels before it: there is nothing to do
+// where the record does not tell l from one of these.
 pub fn visit_label(ws: &mut [u8], p: Plan, b: Builder, l: usize, k: usize) -> Builder
     requires { ⌜ Room p (length (now ws)) ⌝ }
     requires { ⌜ (l < p .labels) × (k < b .count) × (b .count ≤ p .c + 1) ⌝ }
-    requires { ⌜ ((f : ℕ) → f < l → Ring (succIn (now ws) p) p (listed (p .c) b) (now ws) f (k + 1) k) ⌝ }
-    ensures { λ r. ⌜ Rowed (succIn (now (ws .entry)) p) p b r (now (ws .entry)) (now (ws .exit)) l k (k + 1) ⌝ }
+    requires { ⌜ ((f : ℕ) → f < l → Ring (succIn (now ws) p) p (listed (p .c) b) (now ws) (seen (p .looks) f) (k + 1) k) ⌝ }
+    ensures { λ r. ⌜ Labelled (succIn (now (ws .entry)) p) p b r (now (ws .entry)) (now (ws .exit)) l k ⌝ }
 {
-    let f = first_alike(p, l);
+    let f = l & p.looks;
     if f < l {
-        return copy_row(ws, p, b, f, l, k);
+        return b;
     }
     visit_row(ws, p, b, l, k)
 }
@@ -409,6 +393,9 @@ pub fn exists_start(ws: &mut [u8], p: Plan) -> u64
         c: p.c,
         labels: 2,
         base: p.base,
+        looks: 1,
+        look1: p.look1,
+        look2: p.look2,
     };
     let b = build(ws, q, 0);
     word_found(b, c)

@@ -4,11 +4,14 @@ ghost use mathlib.Core.Path.{_≡_};
 ghost use Prim.Native.Nat.{ℕ, _+_, _*_, _≤_, _<_};
 ghost use lib.ListN.{length, getD, take, drop, replicate};
 ghost use Rattle.machine.specs.Machine.{acceptBy, acceptOf};
-ghost use Rattle.machine.specs.Rule.{planOf, Fits, Sound, Outcome, Made, after, upto, noDecoded};
+ghost use Rattle.machine.specs.Rule.{planOf, Fits, Sound, Outcome, Made, Spread, Finished, after, upto, noDecoded};
+ghost use Rattle.machine.specs.Succ.{looksOf};
 use crate::explore::Builder;
 use crate::explore::Kind;
 use crate::explore::Plan;
 use crate::explore::build_plan;
+use crate::explore::cleared;
+use crate::spread::spread_table;
 use crate::words::has;
 use crate::words::meet;
 use crate::words::with_member;
@@ -58,21 +61,38 @@ pub struct Decoded {
     pub wy: usize,
 }
 
-// What is kept of the machines: for each record its number of states and the set of its accepting states; and the number of the
-// record with too many states, 128 where there is none.
+// What is kept of the machines: for each record its number of states, the set of its accepting states and the bits of the labels that it
+// looks at; and the number of the record with too many states, 128 where there is none.
 pub struct Machines {
     pub counts: [usize; 128],
     pub accepts: [u64; 128],
+    pub looks: [usize; 128],
     pub over: usize,
 }
 
-// The plan of record r.
-pub fn plan_of(x: Decoded, r: usize, c: usize, labels: usize) -> Plan
-    requires { ⌜ (x .first < 128) × (x .second < 128) × (r < 128) × (c ≤ 64) × (labels ≤ 256) ⌝ }
-    ensures { λ p. ⌜ p ≡ planOf x r c labels ⌝ }
+// The bits that a record looks at, where its parts look at f and g.
+pub fn looks_of(kind: Kind, wx: usize, wy: usize, f: usize, g: usize) -> usize
+    requires { ⌜ (0 < wx) × (wx ≤ 128) ⌝ }
+    ensures { λ r. ⌜ r ≡ looksOf kind wx wy f g ⌝ }
+{
+    match kind {
+        Kind::Not => f,
+        Kind::Or => f | g,
+        Kind::And => f | g,
+        Kind::Exists => cleared(wx, f),
+        Kind::Close => 1,
+        _ => wx | wy,
+    }
+}
+
+// The plan of record r, whose parts look at f and g.
+pub fn plan_of(x: Decoded, r: usize, c: usize, labels: usize, f: usize, g: usize) -> Plan
+    requires { ⌜ (x .first < 128) × (x .second < 128) × (r < 128) × (c ≤ 64) × (labels ≤ 256) × (0 < x .wx) × (x .wx ≤ 128) ⌝ }
+    ensures { λ p. ⌜ p ≡ planOf x r c labels f g ⌝ }
 {
     let share = labels * c * c;
     let kind = x.kind;
+    let looks = looks_of(kind, x.wx, x.wy, f, g);
     Plan {
         kind,
         first: x.first * share,
@@ -82,6 +102,9 @@ pub fn plan_of(x: Decoded, r: usize, c: usize, labels: usize) -> Plan
         c,
         labels,
         base: r * share,
+        looks,
+        look1: f,
+        look2: g,
     }
 }
 
@@ -103,7 +126,10 @@ pub fn build_next(
     if over < 128 {
         return s;
     }
-    let p = plan_of(x, r, c, labels);
+    let first = x.first;
+    let second = x.second;
+    let looks = s.looks;
+    let p = plan_of(x, r, c, labels, looks[first], looks[second]);
     let b = build_plan(ws, p);
     let count = b.count;
     let mut t = s;
@@ -112,16 +138,34 @@ pub fn build_next(
         return t;
     }
     let kind = x.kind;
-    let first = x.first;
-    let second = x.second;
     let accepts = s.accepts;
     let a = accept_word(b, kind, accepts[first], accepts[second]);
     t.counts[r] = count;
     t.accepts[r] = a;
+    t.looks[r] = p.looks;
     t
 }
 
-// The machines of the first m records.
+// Record a's table gets its entries at every label, if no record has too many states.
+pub fn spread(ws: &mut [u8], s: Machines, a: usize, c: usize, labels: usize) -> Machines
+    requires { ⌜ (a < 128) × (c ≤ 64) × (labels ≤ 256) × (a * (labels * c * c) + labels * c * c ≤ length (now ws)) ⌝ }
+    ensures { λ t. ⌜ ((o : Outcome) → Made o c labels (a + 1) s (now (ws .entry)) → Made o c labels (a + 1) t (now (ws .exit))) × Spread a labels t ⌝ }
+    ensures { λ t. ⌜ drop (a * (labels * c * c) + labels * c * c) (now (ws .exit)) ≡ drop (a * (labels * c * c) + labels * c * c) (now (ws .entry)) ⌝ }
+{
+    let over = s.over;
+    if over < 128 {
+        return s;
+    }
+    let looks = s.looks;
+    let bits = looks[a];
+    let base = a * (labels * c * c);
+    spread_table(ws, base, c * c, bits, labels);
+    let mut t = s;
+    t.looks[a] = 255;
+    t
+}
+
+// The machines of the first m records, the last one's table at every label.
 pub fn build_all(
     ws: &mut [u8],
     records: [Decoded; 128],
@@ -129,14 +173,15 @@ pub fn build_all(
     c: usize,
     labels: usize,
 ) -> Machines
-    requires { ⌜ m ≤ 128 ⌝ }
+    requires { ⌜ (0 < m) × (m ≤ 128) ⌝ }
     requires { ⌜ ((r : ℕ) → r < m → Fits (getD records r noDecoded) r c labels (length (now ws)) × Sound (getD records r noDecoded) r labels) ⌝ }
-    ensures { λ t. ⌜ Made (upto records c labels m) c labels m t (now (ws .exit)) ⌝ }
+    ensures { λ t. ⌜ Finished (upto records c labels m) c labels m t (now (ws .exit)) ⌝ }
     ensures { λ t. ⌜ drop (m * (labels * c * c)) (now (ws .exit)) ≡ drop (m * (labels * c * c)) (now (ws .entry)) ⌝ }
 {
     let mut t = Machines {
         counts: [0; 128],
         accepts: [0; 128],
+        looks: [0; 128],
         over: 128,
     };
     let mut r = 0;
@@ -145,7 +190,7 @@ pub fn build_all(
         t = build_next(ws, x, t, r, c, labels);
         r += 1;
     }
-    t
+    spread(ws, t, m - 1, c, labels)
 }
 
 // The first n bytes are set to 0.

@@ -5,7 +5,7 @@ ghost use mathlib.Core.Path.{_≡_};
 ghost use Prim.Native.Nat.{ℕ, _+_, _≤_, _<_};
 ghost use lib.ListN.{getD};
 ghost use Rattle.machine.specs.Rows.{hitColumn, unionOf, Follows, Serves};
-ghost use Rattle.machine.specs.Succ.{entry, hit, hitRow};
+ghost use Rattle.machine.specs.Succ.{entry, through, hit, hitRow};
 ghost use Rattle.machine.specs.Word.{mem, any};
 use crate::explore::Kind;
 use crate::explore::Plan;
@@ -124,36 +124,39 @@ pub fn union_of(row: &[u64; 64], s: u64) -> u64
     r
 }
 
-// The rows of set k under label l, for the sets up to k, where w is the weight of the bound variable's bit.
+// The rows of set k under label l, for the sets up to k, where w is the weight of the bound variable's bit and the part looks at the
+// bits f.
 pub fn exists_rows(
     low: &[u8],
     c: usize,
     a: usize,
+    f: usize,
     w: usize,
     l: usize,
     sets: &[u64; 64],
     k: usize,
 ) -> Rows
     requires { ⌜ (c ≤ 64) × (l < 256) × (a < 4294967296) × (0 < w) × (w ≤ 128) × (k < 64) ⌝ }
-    ensures { λ r. ⌜ Serves Kind.Exists (entry (now (low .entry)) c a) w l (now (sets .entry)) k (r .left) (r .right) ⌝ }
+    ensures { λ r. ⌜ Serves Kind.Exists (through f (entry (now (low .entry)) c a)) w l (now (sets .entry)) k (r .left) (r .right) ⌝ }
 {
     let off = cleared(w, l);
     let on = off + w;
     let seen = joined(sets, k + 1);
-    fill(low, c, a, off, on, sets[k], seen)
+    fill(low, c, a, off & f, on & f, sets[k], seen)
 }
 
 // The rows of code k under label l; empty but for "exists".
 pub fn rows_of(low: &[u8], p: Plan, l: usize, codes: &[u64; 64], k: usize) -> Rows
     requires { ⌜ (p .c ≤ 64) × (l < 256) × (p .first < 4294967296) × (0 < p .wx) × (p .wx ≤ 128) × (k < 64) ⌝ }
-    ensures { λ r. ⌜ Serves (p .kind) (entry (now (low .entry)) (p .c) (p .first)) (p .wx) l (now (codes .entry)) k (r .left) (r .right) ⌝ }
+    ensures { λ r. ⌜ Serves (p .kind) (through (p .look1) (entry (now (low .entry)) (p .c) (p .first))) (p .wx) l (now (codes .entry)) k (r .left) (r .right) ⌝ }
 {
     let kind = p.kind;
     let c = p.c;
     let a = p.first;
+    let f = p.look1;
     let wx = p.wx;
     match kind {
-        Kind::Exists => exists_rows(low, c, a, wx, l, codes, k),
+        Kind::Exists => exists_rows(low, c, a, f, wx, l, codes, k),
         _ => Rows {
             left: [0u64; 64],
             right: [0u64; 64],

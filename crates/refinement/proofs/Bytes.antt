@@ -19,9 +19,9 @@ use Rattle.logic.specs.Claims.{refused14, Roomy}
 use Rattle.logic.specs.Decide.{report, decideOf, say, judgeOf}
 use Rattle.logic.proofs.Builders.{of-agrees, full-agrees, decide-any, judge-any}
 use Rattle.machine.specs.Word.{mem}
-use Rattle.machine.specs.Table.{addr}
+use Rattle.machine.specs.Table.{addr, seen}
 use Rattle.machine.specs.Succ.{entry}
-use Rattle.machine.specs.Rule.{Mach, noMach, Outcome, built, over, At, Made, noDecoded, upto}
+use Rattle.machine.specs.Rule.{Mach, noMach, Outcome, built, over, At, Finished, noDecoded, upto}
 use Rattle.machine.specs.declared.records.Decoded.{Decoded}
 use Rattle.machine.specs.declared.records.Machines.{Machines}
 use Rattle.search.specs.Arrays.{acceptsOf, machineIn, tableIn, Whole}
@@ -44,13 +44,13 @@ module _ (n c : ℕ) (pos : 0 < c) (top : c ≤ 64) (rs : List Record) (acc : Ac
   abbrev count : ℕ
   count = getD (s .counts) last 0
 
-  module _ (ms : List Mach) (e : upto xs c (2 ^ n) (length rs) ≡ built ms) (made : Made (built ms) c (2 ^ n) (length rs) s ws) where
+  module _ (ms : List Mach) (e : upto xs c (2 ^ n) (length rs) ≡ built ms) (made : Finished (built ms) c (2 ^ n) (length rs) s ws) where
     m : Mach
     m = getD ms last noMach
 
     at-last : At c (2 ^ n) last m s ws
     unfolding m
-    at-last = made .2 last (let h = acc .0 in omega arith)
+    at-last = made .0 .2 last (let h = acc .0 in omega arith)
 
     all-linked : Linked n c pos top rs acc xs decoded (length rs) (built ms)
     all-linked = subst (Linked n c pos top rs acc xs decoded (length rs)) e (linked n c pos top rs acc xs decoded (length rs) (omega arith))
@@ -63,7 +63,8 @@ module _ (n c : ℕ) (pos : 0 < c) (top : c ≤ 64) (rs : List Record) (acc : Ac
     unfolding entry addr
     cell-is l i j hl hi hj =
         let h = at-last .holds l i j hl hi hj in
-        (sym (h .0) ∙ sym (getD-drop (last * share) ws ((l * c + i) * c + j) 0), h .1)
+        let e : seen (getD (s .looks) last 0) l ≡ l = made .1 (omega (arith, made .0 .0)) l hl in
+        (sym (h .0) ∙ ap (λ (z : ℕ). getD ws (last * share + ((z * c + i) * c + j)) 0) e ∙ sym (getD-drop (last * share) ws ((l * c + i) * c + j) 0), h .1)
 
     -- the machine in the share, with the states that the word holds for accepting ones
     abbrev pub wordMachine : Machine 2 ℕ

@@ -74,6 +74,8 @@ module _ (n : ℕ) (some : 1 ≤ n) (few : n ≤ 8) where
           wx-small = weight-small (e .first);
           wy-pos = weight-pos (e .second);
           wy-small = weight-small (e .second);
+          wx-power = (n - suc (e .first), refl);
+          wy-power = (n - suc (e .second), refl);
           share = share-fits r m (2 ^ n * c * c) len hm room;
         },
         sound-at r (e .op) (e .first) (e .second) (good-here n rs r (acc .1) h),

@@ -1,10 +1,10 @@
 -- `build` meets its contract. The invariant: the states below k are paired with each other. Assumes nothing.
-use mathlib.Core.Path.{_≡_, refl, _∙_}
+use mathlib.Core.Path.{_≡_, refl, sym, _∙_, subst}
 use Prim.Native.Nat.{_-_, _≤_}
 use native.Mathlib.Omega.{arith}
 use lib.ListN.{length, replicate}
 use Rattle.machine.specs.Table.{Nexted, Grown}
-use Rattle.machine.specs.Succ.{succIn}
+use Rattle.machine.specs.Succ.{Room, succIn}
 use Rattle.machine.proofs.Loops.{grown-start, same-succ, grow-step, explored}
 use Rattle.machine.proofs.explore.build.Statement.{statement}
 use Rattle.machine.proofs.explore.build.Tie as tie
@@ -22,7 +22,10 @@ loop-holds c =
     (omega arith, refl, grown-start (succIn (a .ws .now) (a .p)) (a .p) (record { codes = replicate 64 (a .start); count = 1 }) (a .ws .now) (omega arith))
 
 visit-next-requires : tie.Need-visit-next-requires Inv-loop μ-loop
-visit-next-requires c κs = omega arith
+visit-next-requires c κs =
+    let s = c .before .before .before .before in
+    let h = c .before .before .loop in
+    (subst (Room (s .args .p)) (sym (h .inv .1)) (s .pre), omega (arith, h .inv .2 .step .most))
 
 add-k : tie.Need-add-k Inv-loop μ-loop
 add-k c = omega arith

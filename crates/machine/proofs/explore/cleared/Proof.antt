@@ -13,7 +13,8 @@ mul-result-3 : tie.Need-mul-result-3
 mul-result-3 c = let a = c .args in omega (arith, div-mul-le-self (a .l) (2 * a .w), mod-lt (a .l) {m = a .w} (omega arith))
 
 add-result : tie.Need-add-result
-add-result c = let a = c .args in omega (arith, div-mul-le-self (a .l) (2 * a .w), mod-lt (a .l) {m = a .w} (omega arith))
+unfolding off
+add-result c = let a = c .args in omega (arith, off-le (a .w) (a .l) (c .pre .0))
 
 returns : tie.Need-returns
 unfolding off

@@ -8,7 +8,7 @@ use lib.ListN.{length, getD}
 use lib.Seq.{length-take-le}
 use Rattle.machine.specs.Explore.{row}
 use Rattle.machine.specs.Rows.{GivenBy}
-use Rattle.machine.specs.Succ.{entry, succIn}
+use Rattle.machine.specs.Succ.{Room, entry, through, succIn}
 use Rattle.machine.specs.Table.{listed, Visited, Rowed}
 use Rattle.machine.proofs.Grow.{grows-trans}
 use Rattle.machine.proofs.Loops.{built-start, same-succ, row-step, code-again, rowed-grows, visited-grows}
@@ -44,7 +44,7 @@ successor-requires c κs =
       omega (arith, s .pre),
       (
         omega (arith, s .pre),
-        subst (λ (t : List ℕ). GivenBy (a .p .kind) (entry t (a .p .c) (a .p .first)) (a .p .wx) (a .l) x y (a .right .now) x) (sym (h .inv .2 .0 .fill .low)) (s .pre .1 .1 (h .i) (c .before .loop-test .taken) .0),
+        subst (λ (t : List ℕ). GivenBy (a .p .kind) (through (a .p .look1) (entry t (a .p .c) (a .p .first))) (a .p .wx) (a .l) x y (a .right .now) x) (sym (h .inv .2 .0 .fill .low)) (s .pre .1 .1 (h .i) (c .before .loop-test .taken) .0),
       ),
     )
 
@@ -55,7 +55,7 @@ enter-requires c κs =
     let h = c .before .before .before .before .loop in
     let t = c .before .before .before .loop-test .taken in
     let more = h .inv .2 .0 .more in (
-      omega (arith, s .pre .0, h .inv .1),
+      subst (Room (a .p)) (sym (h .inv .1)) (s .pre .0),
       (
         omega (arith, s .pre .1 .0, t, more, h .inv .2 .0 .most),
         code-again (a .p) (a .b) (h .r) (h .ws) (a .l) (h .i) (a .k) (c .before .successor .result) (id-length 64 (a .b .codes) (s .good .1 .1 .0 .1 .1 .0 .1 .0 .1))
@@ -81,7 +81,7 @@ successor-requires-2 c κs =
       omega (arith, s .pre),
       (
         omega (arith, s .pre),
-        subst (λ (t : List ℕ). GivenBy (a .p .kind) (entry t (a .p .c) (a .p .first)) (a .p .wx) (a .l) y x (a .left .now) x)
+        subst (λ (t : List ℕ). GivenBy (a .p .kind) (through (a .p .look1) (entry t (a .p .c) (a .p .first))) (a .p .wx) (a .l) y x (a .left .now) x)
             (sym (v .ensures .0 .fill .low ∙ h .inv .2 .0 .fill .low)) (s .pre .1 .1 (h .i) (c .before .before .before .before .before .before .before .loop-test .taken) .1),
       ),
     )
@@ -95,7 +95,7 @@ enter-requires-2 c κs =
     let v = c .before .before .before .before .before .enter in
     let more : a .b .count ≤ v .result .count = omega (arith, h .inv .2 .0 .more, v .ensures .0 .more) in
     let o = listed (a .p .c) (a .b) in (
-      omega (arith, s .pre .0, h .inv .1, v .kept .0),
+      subst (Room (a .p)) (sym (v .kept .0 ∙ h .inv .1)) (s .pre .0),
       (
         omega (arith, s .pre .1 .0, t, more, v .ensures .0 .most),
         code-again (a .p) (a .b) (v .result) (v .last .0) (a .l) (a .k) (h .i) (c .before .successor2 .result) (id-length 64 (a .b .codes) (s .good .1 .1 .0 .1 .1 .0 .1 .0 .1))

@@ -1,11 +1,11 @@
 -- `visit_ring` meets its contract. The invariant: the pairs of k with those up to it have their entries under the labels below l. Assumes nothing.
-use mathlib.Core.Path.{_≡_, refl, sym, _∙_}
+use mathlib.Core.Path.{_≡_, refl, sym, _∙_, subst}
 use Prim.Native.Nat.{_+_, _-_, _≤_}
 use native.Mathlib.Omega.{arith}
 use lib.ListN.{length}
 use Rattle.machine.specs.Explore.{ring}
-use Rattle.machine.specs.Table.{listed, Ring, Rowed, Ringed}
-use Rattle.machine.specs.Succ.{succIn}
+use Rattle.machine.specs.Table.{seen, listed, Ring, Labelled, Ringed}
+use Rattle.machine.specs.Succ.{Room, succIn}
 use Rattle.machine.proofs.Loops.{built-start, same-succ, ring-step}
 use Rattle.machine.proofs.explore.visit_ring.Statement.{statement}
 use Rattle.machine.proofs.explore.visit_ring.Tie as tie
@@ -27,11 +27,11 @@ visit-label-requires c κs =
     let s = c .before .before .before .before in
     let a = s .args in
     let h = c .before .before .loop in (
-      omega (arith, s .pre .0, h .inv .1),
+      subst (Room (a .p)) (sym (h .inv .1)) (s .pre .0),
       (
         omega (arith, s .pre .1, c .before .loop-test .taken, h .inv .2 .0 .more, h .inv .2 .0 .most),
         λ f t.
-            same-succ (λ g. Ring g (a .p) (listed (a .p .c) (h .r)) (h .ws) f (a .k + 1) (a .k)) (a .p) (h .ws) (a .ws .now) (sym (h .inv .2 .0 .fill .low)) (h .inv .2 .1 f t),
+            same-succ (λ g. Ring g (a .p) (listed (a .p .c) (h .r)) (h .ws) (seen (a .p .looks) f) (a .k + 1) (a .k)) (a .p) (h .ws) (a .ws .now) (sym (h .inv .2 .0 .fill .low)) (h .inv .2 .1 f t),
       ),
     )
 
@@ -47,7 +47,7 @@ loop-again c =
     let h = c .before .before .before .before .before .loop in
     let v = c .before .before .visit-label in
     let t = c .before .before .before .before .loop-test .taken in
-    let turn = same-succ (λ t. Rowed t (a .p) (h .r) (v .result) (h .ws) (v .last .0) (h .l) (a .k) (a .k + 1)) (a .p) (a .ws .now) (h .ws) (h .inv .2 .0 .fill .low) (v .ensures) in (
+    let turn = same-succ (λ t. Labelled t (a .p) (h .r) (v .result) (h .ws) (v .last .0) (h .l) (a .k)) (a .p) (a .ws .now) (h .ws) (h .inv .2 .0 .fill .low) (v .ensures) in (
       omega arith,
       v .kept .0 ∙ h .inv .1,
       ring-step (succIn (a .ws .now) (a .p)) (a .p) (a .b) (h .r) (v .result) (a .ws .now) (h .ws) (v .last .0) (h .l) (a .k) t (h .inv .2) turn,

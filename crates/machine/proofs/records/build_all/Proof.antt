@@ -1,6 +1,6 @@
 -- `build_all` meets its contract. The invariant: the first r machines are made, and nothing after their shares is changed. Assumes nothing.
 use borrow.Author.Needs.{needs}
-use Prim.Native.Nat.{_+_, _-_, _*_, _≤_}
+use Prim.Native.Nat.{ℕ, _+_, _-_, _*_, _≤_}
 use mathlib.Core.Path.{_≡_, refl, sym, ap, _∙_, subst}
 use native.Mathlib.Numerals.{add-one}
 use native.Mathlib.Omega.{arith}
@@ -57,15 +57,32 @@ loop-again c =
       drop-later (h .r * s + s) (a .m * s) (v .last .0) (h .ws) (next-share (h .r) (a .m) s t) (v .ensures .1) ∙ h .inv .3,
     )
 
+sub-spread : tie.Need-sub-spread Inv-loop μ-loop
+sub-spread c = omega (arith, c .before .before .before .before .pre .0)
+
+spread-requires : tie.Need-spread-requires Inv-loop μ-loop
+spread-requires c κs =
+    let s = c .before .before .before .before in
+    let e = s .pre .1 (s .args .m - 1) (omega (arith, s .pre .0)) .0 in
+    omega (arith, e .here-in, e .ceiling, e .few, e .share, c .before .before .loop .inv .1)
+
 same-length : tie.Need-same-length Inv-loop μ-loop
-same-length c = c .before .loop .inv .1
+same-length c = c .before .before .spread .kept .0 ∙ c .before .before .before .before .before .loop .inv .1
 
 returns : tie.Need-returns Inv-loop μ-loop
 returns c =
-    let a = c .before .before .before .args in
-    let h = c .before .loop in
-    let e : h .r ≡ a .m = omega arith in
-    (rw e at (h .inv .2), h .inv .3)
+    let s = c .before .before .before .before .before .before .before in
+    let a = s .args in
+    let h = c .before .before .before .before .before .loop in
+    let v = c .before .before .spread in
+    let share = a .labels * a .c * a .c in
+    let o = upto (a .t2) (a .c) (a .labels) (a .m) in
+    let e : h .r ≡ a .m = omega (arith, h .inv .0, c .before .before .before .before .loop-test .left) in
+    let q : a .m - 1 + 1 ≡ a .m = omega (arith, s .pre .0) in
+    let made : Made o (a .c) (a .labels) (a .m) (h .t) (h .ws) = rw e at (h .inv .2) in (
+      (subst (λ (n : ℕ). Made o (a .c) (a .labels) n (h .t) (h .ws) → Made o (a .c) (a .labels) n (v .result) (v .last .0)) q (v .ensures .0 .0 o) made, v .ensures .0 .1),
+      drop-later ((a .m - 1) * share + share) (a .m * share) (v .last .0) (h .ws) (next-share (a .m - 1) (a .m) share (omega (arith, s .pre .0))) (v .ensures .1) ∙ h .inv .3,
+    )
 
 pub build-all-spec : {M : Type 1} → statement M
 build-all-spec =
@@ -80,5 +97,7 @@ build-all-spec =
     add-r
     loop-less
     loop-again
+    sub-spread
+    spread-requires
     same-length
     returns)

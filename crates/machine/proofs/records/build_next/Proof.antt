@@ -1,10 +1,9 @@
 -- `build_next` meets its contract. Assumes nothing.
 use mathlib.Core.Path.{refl, ap}
 use native.Mathlib.Omega.{arith}
-use lib.ListN.{length}
+use lib.ListN.{length, getD, set}
 use Rattle.machine.proofs.Shares.{room-of, made-over, after-too-many, after-more, after-high}
 use Rattle.machine.proofs.Steps.{id-length}
-use lib.ListN.{set}
 use borrow.Author.Needs.{needs}
 use Rattle.machine.proofs.records.build_next.Statement.{statement}
 use Rattle.machine.proofs.records.build_next.Tie as tie
@@ -12,76 +11,40 @@ use Rattle.machine.proofs.records.build_next.Tie as tie
 returns : tie.Need-returns
 returns c = let a = c .before .before .args in (made-over (a .x) (a .c) (a .labels) (a .r) (a .s) (a .ws .now) (a .ws .now) (c .if1 .taken), refl)
 
-plan-of-requires : tie.Need-plan-of-requires
-plan-of-requires c κs = search needs
-
 build-plan-requires : tie.Need-build-plan-requires
 build-plan-requires c κs =
-    let s = c .before .before .before .before in
+    let s = c .before .before .before .before .before in
     let a = s .args in
     let e = c .before .plan-of .ensures in
-    rw e (room-of (a .x) (a .r) (a .c) (a .labels) (length (a .ws .now)) (s .pre .0), omega arith)
-
-same-length : tie.Need-same-length
-same-length c = search needs
+    rw e (room-of (a .x) (a .r) (a .c) (a .labels) (length (a .ws .now)) (getD (a .s .looks) (a .x .first) 0) (getD (a .s .looks) (a .x .second) 0) (s .pre .0), omega arith)
 
 returns-2 : tie.Need-returns-2
 returns-2 c =
-    let s = c .before .before .before .before .before .before .before .before in
+    let s = c .before .before .before .before .before .before .before .before .before in
     let a = s .args in
     let b = c .before .before .before .build-plan in
     let q = c .before .before .before .before .before .plan-of in (
-      after-too-many (a .x) (a .r) (a .c) (a .labels) (a .s) (record { counts = a .s .counts; accepts = a .s .accepts; over = a .r }) (a .ws .now) (b .last .0) (q .result) (b .result)
-          (s .pre .0) (s .pre .1) (q .ensures) (b .ensures) (omega arith) (c .if2 .taken) refl,
-      after-high (a .x) (a .r) (a .c) (a .labels) (a .s) (record { counts = a .s .counts; accepts = a .s .accepts; over = a .r }) (a .ws .now) (b .last .0) (q .result) (b .result)
-          (s .pre .0) (s .pre .1) (q .ensures) (b .ensures) (omega arith),
+      after-too-many (a .x) (a .r) (a .c) (a .labels) (a .s) (record { counts = a .s .counts; accepts = a .s .accepts; looks = a .s .looks; over = a .r }) (a .ws .now) (b .last .0) (q .result) (b .result)
+          (s .pre .0) (s .pre .1) (q .ensures) (b .ensures) (c .before .before .before .before .before .before .before .if1 .left) (c .if2 .taken) refl,
+      after-high (a .x) (a .r) (a .c) (a .labels) (a .s) (record { counts = a .s .counts; accepts = a .s .accepts; looks = a .s .looks; over = a .r }) (a .ws .now) (b .last .0) (q .result) (b .result)
+          (s .pre .0) (s .pre .1) (q .ensures) (b .ensures) (c .before .before .before .before .before .before .before .if1 .left),
     )
-
-mul-accept-word : tie.Need-mul-accept-word
-mul-accept-word c = search needs
-
-array-read-accept-word : tie.Need-array-read-accept-word
-array-read-accept-word c = search needs
-
-mul-accept-word-2 : tie.Need-mul-accept-word-2
-mul-accept-word-2 c = search needs
-
-array-read-accept-word-2 : tie.Need-array-read-accept-word-2
-array-read-accept-word-2 c = search needs
-
-accept-word-requires : tie.Need-accept-word-requires
-accept-word-requires c κs = search needs
-
-mul-t : tie.Need-mul-t
-mul-t c = search needs
-
-element-write-t : tie.Need-element-write-t
-element-write-t c = search needs
-
-mul-t-2 : tie.Need-mul-t-2
-mul-t-2 c = search needs
-
-element-write-t-2 : tie.Need-element-write-t-2
-element-write-t-2 c = search needs
-
-same-length-2 : tie.Need-same-length-2
-same-length-2 c = search needs
 
 returns-3 : tie.Need-returns-3
 returns-3 c =
-    let s = c .before .before .before .before .before .before .before .before .before .before in
+    let s = c .before .before .before .before .before .before .before .before .before .before .before in
     let a = s .args in
     let b = c .before .before .before .before .before .build-plan in
     let q = c .before .before .before .before .before .before .before .plan-of in
     let w = c .accept-word in (
       after-more (a .x) (a .r) (a .c) (a .labels) (a .s)
-          (record { counts = set (a .s .counts) (a .r) (b .result .count); accepts = set (a .s .accepts) (a .r) (w .result); over = a .s .over })
-          (a .ws .now) (b .last .0) (q .result) (b .result) (s .pre .0) (s .pre .1) (q .ensures) (b .ensures) (c .before .before .before .before .before .before .before .before .if1 .left)
-          (id-length 64 (b .result .codes) (b .ok .1 .1 .0 .1 .0 .1)) (omega arith) refl (ap (set (a .s .accepts) (a .r)) (w .ensures))
-          (id-length 128 (a .s .counts) (s .good .1 .1 .0 .1 .1 .0 .1 .0 .1)) (id-length 128 (a .s .accepts) (s .good .1 .1 .0 .1 .1 .1 .0 .1 .0 .1)) refl,
+          (record { counts = set (a .s .counts) (a .r) (b .result .count); accepts = set (a .s .accepts) (a .r) (w .result); looks = set (a .s .looks) (a .r) (q .result .looks); over = a .s .over })
+          (a .ws .now) (b .last .0) (q .result) (b .result) (s .pre .0) (s .pre .1) (q .ensures) (b .ensures) (c .before .before .before .before .before .before .before .before .before .if1 .left)
+          (id-length 64 (b .result .codes) (b .ok .1 .1 .0 .1 .0 .1)) (omega arith) refl (ap (set (a .s .accepts) (a .r)) (w .ensures)) refl
+          (id-length 128 (a .s .counts) (s .good .1 .1 .0 .1 .1 .0 .1 .0 .1)) (id-length 128 (a .s .accepts) (s .good .1 .1 .0 .1 .1 .1 .0 .1 .0 .1)) (id-length 128 (a .s .looks) (s .good .1 .1 .0 .1 .1 .1 .1 .0 .1 .0 .1)) refl,
       after-high (a .x) (a .r) (a .c) (a .labels) (a .s)
-          (record { counts = set (a .s .counts) (a .r) (b .result .count); accepts = set (a .s .accepts) (a .r) (w .result); over = a .s .over })
-          (a .ws .now) (b .last .0) (q .result) (b .result) (s .pre .0) (s .pre .1) (q .ensures) (b .ensures) (c .before .before .before .before .before .before .before .before .if1 .left),
+          (record { counts = set (a .s .counts) (a .r) (b .result .count); accepts = set (a .s .accepts) (a .r) (w .result); looks = set (a .s .looks) (a .r) (q .result .looks); over = a .s .over })
+          (a .ws .now) (b .last .0) (q .result) (b .result) (s .pre .0) (s .pre .1) (q .ensures) (b .ensures) (c .before .before .before .before .before .before .before .before .before .if1 .left),
     )
 
 pub build-next-spec : {M : Type 1} → statement M
@@ -89,18 +52,24 @@ build-next-spec =
     tie.close
     (tie.spec
     returns
-    plan-of-requires
+    (λ c. search needs)
+    (λ c. search needs)
+    (λ c. search needs)
+    (λ c. search needs)
+    (λ c κs. search needs)
     build-plan-requires
-    same-length
+    (λ c. search needs)
     returns-2
-    mul-accept-word
-    array-read-accept-word
-    mul-accept-word-2
-    array-read-accept-word-2
-    accept-word-requires
-    mul-t
-    element-write-t
-    mul-t-2
-    element-write-t-2
-    same-length-2
+    (λ c. search needs)
+    (λ c. search needs)
+    (λ c. search needs)
+    (λ c. search needs)
+    (λ c κs. search needs)
+    (λ c. search needs)
+    (λ c. search needs)
+    (λ c. search needs)
+    (λ c. search needs)
+    (λ c. search needs)
+    (λ c. search needs)
+    (λ c. search needs)
     returns-3)

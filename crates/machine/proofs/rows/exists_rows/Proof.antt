@@ -3,24 +3,36 @@ use borrow.Author.Needs.{needs}
 use Prim.Native.Nat.{ℕ, _+_}
 use mathlib.Core.Path.{_≡_, subst}
 use mathlib.Core.Bool.{true}
+use native.Mathlib.Omega.{arith}
+use lib.Bits.{and-le-l}
 use lib.ListN.{getD}
 use Rattle.machine.specs.Rows.{Follows}
-use Rattle.machine.specs.Succ.{entry, on}
+use Rattle.machine.specs.Succ.{entry, through, on}
+use Rattle.machine.specs.Table.{seen}
 use Rattle.machine.specs.Word.{mem}
-use Rattle.machine.proofs.RowLaws.{serves}
+use Rattle.machine.proofs.RowLaws.{follows-through, serves}
 use Rattle.machine.proofs.rows.exists_rows.Statement.{statement}
 use Rattle.machine.proofs.rows.exists_rows.Tie as tie
 
+fill-requires : tie.Need-fill-requires
+fill-requires c κs =
+    let a = c .before .before .before .before .args in
+    let n = c .before .before .cleared .result in
+    omega (arith, and-le-l n (a .f), and-le-l (n + a .w) (a .f))
+
 returns : tie.Need-returns
-unfolding on
+unfolding on seen
 returns c =
     let a = c .before .before .before .before .before .args in
     let d = c .before .before .before .cleared in
     let j = c .before .before .joined in
     let r = c .fill .result in
-    let f = entry (a .low .now) (a .c) (a .a) in
+    let e = entry (a .low .now) (a .c) (a .a) in
+    let f = through (a .f) e in
+    let n = d .result in
     serves f (a .w) (a .l) (a .sets .now) (a .k) (j .result) (r .left) (r .right) (j .ensures)
-    (subst (λ (m : ℕ). (t : ℕ) → mem t (j .result) ≡ true → Follows f m (m + a .w) (getD (a .sets .now) (a .k) 0) t (r .left) (r .right)) (d .ensures .0) (c .fill .ensures))
+    (subst (λ (m : ℕ). (t : ℕ) → mem t (j .result) ≡ true → Follows f m (m + a .w) (getD (a .sets .now) (a .k) 0) t (r .left) (r .right)) (d .ensures .0)
+    (λ t h. follows-through e (a .f) n (n + a .w) (getD (a .sets .now) (a .k) 0) t (r .left) (r .right) (c .fill .ensures t h)))
 
 pub exists-rows-spec : {M : Type 1} → statement M
 exists-rows-spec =
@@ -32,5 +44,5 @@ exists-rows-spec =
     (λ c κs. search needs)
     (λ c. search needs)
     (λ c. search needs)
-    (λ c κs. search needs)
+    fill-requires
     returns)

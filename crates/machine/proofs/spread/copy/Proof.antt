@@ -1,0 +1,68 @@
+-- `copy` meets its contract. The invariant: the first i bytes are copied. Assumes nothing.
+use Prim.Native.Nat.{_+_, _-_, _≤_}
+use mathlib.Core.Path.{_≡_, refl, _∙_}
+use native.Mathlib.Omega.{arith}
+use lib.ListN.{length, getD, length-set}
+use Rattle.machine.specs.Table.{Copied}
+use Rattle.machine.proofs.Spreads.{copy-first, copy-turn}
+use Rattle.machine.proofs.spread.copy.Statement.{statement}
+use Rattle.machine.proofs.spread.copy.Tie as tie
+
+abbrev Inv-loop : tie.InvT-loop
+Inv-loop ws₀ from to n i₀ ws i = (i ≤ n) × (length ws ≡ length ws₀) × Copied ws₀ ws from to i
+
+abbrev μ-loop : tie.MeasureT-loop
+μ-loop ws₀ from to n i₀ ws i = n - i
+
+loop-holds : tie.Need-loop-holds Inv-loop μ-loop
+loop-holds c = let a = c .args in (omega arith, refl, copy-first (a .ws .now) (a .from) (a .to))
+
+add-x : tie.Need-add-x Inv-loop μ-loop
+add-x c = omega arith
+
+slice-read-x : tie.Need-slice-read-x Inv-loop μ-loop
+slice-read-x c = omega arith
+
+add-ws : tie.Need-add-ws Inv-loop μ-loop
+add-ws c = omega arith
+
+slice-write-ws : tie.Need-slice-write-ws Inv-loop μ-loop
+slice-write-ws c = omega arith
+
+add-i : tie.Need-add-i Inv-loop μ-loop
+add-i c = omega arith
+
+loop-less : tie.Need-loop-less Inv-loop μ-loop
+loop-less c = omega arith
+
+loop-again : tie.Need-loop-again Inv-loop μ-loop
+loop-again c =
+    let a = c .before .before .before .args in
+    let h = c .before .before .loop in
+    (omega arith, length-set (h .ws) (a .to + h .i) (getD (h .ws) (a .from + h .i) 0) ∙ h .inv .1, copy-turn (a .ws .now) (h .ws) (a .from) (a .to) (a .n) (h .i) (omega arith) (omega arith) (omega arith) (h .inv .2))
+
+same-length : tie.Need-same-length Inv-loop μ-loop
+same-length c = c .before .loop .inv .1
+
+returns : tie.Need-returns Inv-loop μ-loop
+returns c =
+    let h = c .before .loop in
+    let e : h .i ≡ c .before .before .args .n = omega arith in
+    rw e at (h .inv .2)
+
+pub copy-spec : {M : Type 1} → statement M
+copy-spec =
+    tie.close
+    (tie.spec
+    Inv-loop
+    μ-loop
+    loop-holds
+    add-x
+    slice-read-x
+    add-ws
+    slice-write-ws
+    add-i
+    loop-less
+    loop-again
+    same-length
+    returns)
