@@ -118,6 +118,33 @@ atom-seen wx wy l x y px py =
     bit-seen j (bitOr (2 ^ k) (2 ^ j)) l (mem-or j (2 ^ k) (2 ^ j) ∙ ap (λ (b : Bool). mem j (2 ^ k) || b) (bit-here j) ∙ or-true (mem j (2 ^ k))) in
     rw (px .1, py .1) (ap₂ (λ (p q : ℕ). p * 32 + q * 16 + x % 4 * 4 + y % 4) a b)
 
+-- a rule at the place of a label and two states
+rule-bits : (f : ℕ → ℕ → ℕ → ℕ → ℕ) (wx wy l x y : ℕ) → ruleAt f (atomIndex wx wy l x y) ≡ f (l / wx % 2) (l / wy % 2) (x % 4) (y % 4)
+unfolding atomIndex
+rule-bits f wx wy l x y =
+    let p = l / wx % 2 in
+    let q = l / wy % 2 in
+    let k = p * 32 + q * 16 + x % 4 * 4 + y % 4 in
+    let a : k / 32 ≡ p = omega arith in
+    let b : k / 16 % 2 ≡ q = omega arith in
+    let c : k / 4 % 4 ≡ x % 4 = omega arith in
+    let d : k % 4 ≡ y % 4 = omega arith in
+    ap₂ (λ (s t : ℕ). f s t (k / 4 % 4) (k % 4)) a b ∙ ap₂ (f p q) c d
+
+-- an atom with one variable
+module _ (f : ℕ → ℕ → ℕ → ℕ → ℕ) (one : (p q q′ i j : ℕ) → f p q i j ≡ f p q′ i j) where
+  unary-seen : (wx wy l x y : ℕ) → Power wx → ruleAt f (atomIndex wx wy (seen wx l) x y) ≡ ruleAt f (atomIndex wx wy l x y)
+  unary-seen wx wy l x y px =
+      let k = px .0 in
+      let m = seen (2 ^ k) l in
+      let a : m / 2 ^ k % 2 ≡ l / 2 ^ k % 2 = bit-seen k (2 ^ k) l (bit-here k) in
+      rw (px .1) (
+      rule-bits f (2 ^ k) wy m x y
+      ∙ ap (λ (p : ℕ). f p (m / wy % 2) (x % 4) (y % 4)) a
+      ∙ one (l / 2 ^ k % 2) (m / wy % 2) (l / wy % 2) (x % 4) (y % 4)
+      ∙ sym (rule-bits f (2 ^ k) wy l x y)
+      )
+
 -- ---- the bound bit
 off-half : (w l : ℕ) → 0 < w → off (2 * w) l ≡ off w (l / 2) * 2 + l % 2
 unfolding off
@@ -218,10 +245,10 @@ module _ (e d : Step) (wx wy f g : ℕ) (px : Power wx) (py : Power wy) (l x y :
   pub kind-blind : (k : Kind) → kindCode k (through f e) (through g d) wx wy (seen (looksOf k wx wy f g) l) x y ≡ kindCode k (through f e) (through g d) wx wy l x y
   unfolding kindCode looksOf through notCode pairCode existsCode hit
   kind-blind Subset = ap (ruleAt subsetRule) (atom-seen wx wy l x y px py)
-  kind-blind Single = ap (ruleAt singleRule) (atom-seen wx wy l x y px py)
+  kind-blind Single = unary-seen singleRule (λ p q q′ i j. refl) wx wy l x y px
   kind-blind Child1 = ap (ruleAt child1Rule) (atom-seen wx wy l x y px py)
   kind-blind Child2 = ap (ruleAt child2Rule) (atom-seen wx wy l x y px py)
-  kind-blind Root = ap (ruleAt rootRule) (atom-seen wx wy l x y px py)
+  kind-blind Root = unary-seen rootRule (λ p q q′ i j. refl) wx wy l x y px
   kind-blind Not = ap (λ (m : ℕ). e m (x % 64) (y % 64)) (seen-seen f l)
   kind-blind Or = ap₂ (λ (m n : ℕ). e m (x / 64 % 64) (y / 64 % 64) * 64 + d n (x % 64) (y % 64)) (seen-left f g l) (seen-right f g l)
   kind-blind And = ap₂ (λ (m n : ℕ). e m (x / 64 % 64) (y / 64 % 64) * 64 + d n (x % 64) (y % 64)) (seen-left f g l) (seen-right f g l)

@@ -53,11 +53,6 @@ Visited succ p b r ws ws′ l i j = Built succ p b r ws ws′ (visit succ (p .c)
 abbrev pub Rowed : (ℕ → ℕ → ℕ → ℕ) → Plan → Builder → Builder → List ℕ → List ℕ → ℕ → ℕ → ℕ → Type 0
 Rowed succ p b r ws ws′ l k i = Built succ p b r ws ws′ (row succ (p .c) l k i (listed (p .c) b)) × Ring succ p (listed (p .c) r) ws′ l i k
 
--- the row of a label, whose entries stand at the label as the record sees it
-abbrev pub Labelled : (ℕ → ℕ → ℕ → ℕ) → Plan → Builder → Builder → List ℕ → List ℕ → ℕ → ℕ → Type 0
-Labelled succ p b r ws ws′ l k =
-    Built succ p b r ws ws′ (row succ (p .c) l k (k + 1) (listed (p .c) b)) × Ring succ p (listed (p .c) r) ws′ (seen (p .looks) l) (k + 1) k
-
 abbrev pub Ringed : (ℕ → ℕ → ℕ → ℕ) → Plan → Builder → Builder → List ℕ → List ℕ → ℕ → ℕ → Type 0
 Ringed succ p b r ws ws′ k m =
     Built succ p b r ws ws′ (ring succ (p .c) k m (listed (p .c) b)) × ((l : ℕ) → l < m → Ring succ p (listed (p .c) r) ws′ (seen (p .looks) l) (k + 1) k)

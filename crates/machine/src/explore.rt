@@ -5,7 +5,7 @@ ghost use lib.ListN.{length, getD, take};
 ghost use Rattle.machine.specs.Explore.{place, insert};
 ghost use Rattle.machine.specs.Rows.{GivenBy, Serves};
 ghost use Rattle.machine.specs.Succ.{Room, entry, through, off, notCode, pairCode, closeCode, successorOf, succIn, wordFound, existsStart, startOf};
-ghost use Rattle.machine.specs.Table.{listed, addr, seen, Ring, Visited, Rowed, Labelled, Ringed, Nexted, Explored, Kept};
+ghost use Rattle.machine.specs.Table.{listed, addr, Visited, Rowed, Ringed, Nexted, Explored, Kept};
 use crate::atoms::atom_index;
 use crate::atoms::child1_at;
 use crate::atoms::child2_at;
@@ -292,32 +292,21 @@ pub fn cleared(w: usize, l: usize) -> usize
     l / (2 * w) * (2 * w) + l % w
 }
 
-// The pairs of state k with those up to k, both ways, under label l, after those under the labels before it: there is nothing to do
-// where the record does not tell l from one of these.
-pub fn visit_label(ws: &mut [u8], p: Plan, b: Builder, l: usize, k: usize) -> Builder
-    requires { ⌜ Room p (length (now ws)) ⌝ }
-    requires { ⌜ (l < p .labels) × (k < b .count) × (b .count ≤ p .c + 1) ⌝ }
-    requires { ⌜ ((f : ℕ) → f < l → Ring (succIn (now ws) p) p (listed (p .c) b) (now ws) (seen (p .looks) f) (k + 1) k) ⌝ }
-    ensures { λ r. ⌜ Labelled (succIn (now (ws .entry)) p) p b r (now (ws .entry)) (now (ws .exit)) l k ⌝ }
-{
-    let f = l & p.looks;
-    if f < l {
-        return b;
-    }
-    visit_row(ws, p, b, l, k)
-}
-
-// The pairs of state k with those up to k, both ways, under every label.
+// The pairs of state k with those up to k, both ways, under every label: there is nothing to do for a label that the record does not
+// tell from an earlier one.
 pub fn visit_ring(ws: &mut [u8], p: Plan, b: Builder, k: usize) -> Builder
     requires { ⌜ Room p (length (now ws)) ⌝ }
     requires { ⌜ (k < b .count) × (b .count ≤ p .c + 1) ⌝ }
     ensures { λ r. ⌜ Ringed (succIn (now (ws .entry)) p) p b r (now (ws .entry)) (now (ws .exit)) k (p .labels) ⌝ }
 {
     let labels = p.labels;
+    let looks = p.looks;
     let mut r = b;
     let mut l = 0;
     while l < labels {
-        r = visit_label(ws, p, r, l, k);
+        if l <= l & looks {
+            r = visit_row(ws, p, r, l, k);
+        }
         l += 1;
     }
     r

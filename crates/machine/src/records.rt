@@ -76,6 +76,8 @@ pub fn looks_of(kind: Kind, wx: usize, wy: usize, f: usize, g: usize) -> usize
     ensures { λ r. ⌜ r ≡ looksOf kind wx wy f g ⌝ }
 {
     match kind {
+        Kind::Single => wx,
+        Kind::Root => wx,
         Kind::Not => f,
         Kind::Or => f | g,
         Kind::And => f | g,

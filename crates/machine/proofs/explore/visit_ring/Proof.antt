@@ -2,19 +2,20 @@
 use mathlib.Core.Path.{_≡_, refl, sym, _∙_, subst}
 use Prim.Native.Nat.{_+_, _-_, _≤_}
 use native.Mathlib.Omega.{arith}
-use lib.ListN.{length}
+use mathlib.Core.Logic.{⊎-elim}
+use lib.ListN.{length, take}
 use Rattle.machine.specs.Explore.{ring}
-use Rattle.machine.specs.Table.{seen, listed, Ring, Labelled, Ringed}
+use Rattle.machine.specs.Table.{seen, Rowed, Ringed}
 use Rattle.machine.specs.Succ.{Room, succIn}
-use Rattle.machine.proofs.Loops.{built-start, same-succ, ring-step}
+use Rattle.machine.proofs.Loops.{Labelled, built-start, same-succ, ring-step, label-passed, label-visited}
 use Rattle.machine.proofs.explore.visit_ring.Statement.{statement}
 use Rattle.machine.proofs.explore.visit_ring.Tie as tie
 
 abbrev Inv-loop : tie.InvT-loop
-Inv-loop ws₀ p k labels r₀ l₀ ws r l = (l ≤ labels) × (length ws ≡ length ws₀) × Ringed (succIn ws₀ p) p r₀ r ws₀ ws k l
+Inv-loop ws₀ p k labels looks r₀ l₀ ws r l = (l ≤ labels) × (length ws ≡ length ws₀) × Ringed (succIn ws₀ p) p r₀ r ws₀ ws k l
 
 abbrev μ-loop : tie.MeasureT-loop
-μ-loop ws₀ p k labels r₀ l₀ ws r l = labels - l
+μ-loop ws₀ p k labels looks r₀ l₀ ws r l = labels - l
 
 loop-holds : tie.Need-loop-holds Inv-loop μ-loop
 unfolding ring
@@ -22,17 +23,12 @@ loop-holds c =
     let a = c .before .args in
     (omega arith, refl, (built-start (succIn (a .ws .now) (a .p)) (a .p) (a .b) (a .ws .now) (omega arith), λ l h. absurd (omega arith)))
 
-visit-label-requires : tie.Need-visit-label-requires Inv-loop μ-loop
-visit-label-requires c κs =
-    let s = c .before .before .before .before in
-    let a = s .args in
-    let h = c .before .before .loop in (
-      subst (Room (a .p)) (sym (h .inv .1)) (s .pre .0),
-      (
-        omega (arith, s .pre .1, c .before .loop-test .taken, h .inv .2 .0 .more, h .inv .2 .0 .most),
-        λ f t.
-            same-succ (λ g. Ring g (a .p) (listed (a .p .c) (h .r)) (h .ws) (seen (a .p .looks) f) (a .k + 1) (a .k)) (a .p) (h .ws) (a .ws .now) (sym (h .inv .2 .0 .fill .low)) (h .inv .2 .1 f t),
-      ),
+visit-row-requires : tie.Need-visit-row-requires Inv-loop μ-loop
+visit-row-requires c κs =
+    let s = c .before .before .before .before .before in
+    let h = c .before .before .before .loop in (
+      subst (Room (s .args .p)) (sym (h .inv .1)) (s .pre .0),
+      omega (arith, s .pre .1, c .before .before .loop-test .taken, h .inv .2 .0 .more, h .inv .2 .0 .most),
     )
 
 add-l : tie.Need-add-l Inv-loop μ-loop
@@ -42,15 +38,31 @@ loop-less : tie.Need-loop-less Inv-loop μ-loop
 loop-less c = omega arith
 
 loop-again : tie.Need-loop-again Inv-loop μ-loop
+unfolding seen
 loop-again c =
-    let a = c .before .before .before .before .before .before .before .args in
-    let h = c .before .before .before .before .before .loop in
-    let v = c .before .before .visit-label in
-    let t = c .before .before .before .before .loop-test .taken in
-    let turn = same-succ (λ t. Labelled t (a .p) (h .r) (v .result) (h .ws) (v .last .0) (h .l) (a .k)) (a .p) (a .ws .now) (h .ws) (h .inv .2 .0 .fill .low) (v .ensures) in (
+    let s = c .before .before .before .before in
+    let a = s .args in
+    let h = c .before .before .loop in
+    let f = succIn (a .ws .now) (a .p) in
+    let t = c .before .loop-test .taken in
+    let turn : (length (c .if1 .ws) ≡ length (h .ws)) × Labelled f (a .p) (h .r) (c .if1 .r) (h .ws) (c .if1 .ws) (h .l) (a .k) =
+    ⊎-elim
+    (λ w.
+    let v = w .2 in
+    rw (w .5, w .6) (
+      v .kept .0,
+      label-visited f (a .p) (h .r) (v .result) (h .ws) (v .last .0) (h .l) (a .k) (w .0 .taken)
+          (same-succ (λ g. Rowed g (a .p) (h .r) (v .result) (h .ws) (v .last .0) (h .l) (a .k) (a .k + 1)) (a .p) (a .ws .now) (h .ws) (h .inv .2 .0 .fill .low) (v .ensures)),
+    ))
+    (λ w. rw (w .1, w .2) (
+      refl,
+      label-passed f (a .p) (h .r) (h .r) (h .ws) (h .ws) (h .l) (a .k) (s .pre .0 .blind (take (a .p .base) (a .ws .now)) (h .l)) (h .inv .2 .0 .most)
+          (h .inv .2 .1 (seen (a .p .looks) (h .l)) (w .0 .left)),
+    ))
+    (c .if1 .came) in (
       omega arith,
-      v .kept .0 ∙ h .inv .1,
-      ring-step (succIn (a .ws .now) (a .p)) (a .p) (a .b) (h .r) (v .result) (a .ws .now) (h .ws) (v .last .0) (h .l) (a .k) t (h .inv .2) turn,
+      turn .0 ∙ h .inv .1,
+      ring-step f (a .p) (a .b) (h .r) (c .if1 .r) (a .ws .now) (h .ws) (c .if1 .ws) (h .l) (a .k) t (h .inv .2) (turn .1),
     )
 
 same-length : tie.Need-same-length Inv-loop μ-loop
@@ -70,7 +82,7 @@ visit-ring-spec =
     Inv-loop
     μ-loop
     loop-holds
-    visit-label-requires
+    visit-row-requires
     add-l
     loop-less
     loop-again

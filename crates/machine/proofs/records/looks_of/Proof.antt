@@ -1,4 +1,5 @@
--- `looks_of` meets its contract. Each arm is the definition's clause for that kind; what is left are the atoms. Assumes nothing.
+-- `looks_of` meets its contract. Each arm is the definition's clause for that kind; what is left are the atoms with two variables.
+-- Assumes nothing.
 use borrow.Author.Needs.{needs}
 use Prim.Native.Nat.{ℕ}
 use mathlib.Core.List.{[], _∷_}
@@ -13,19 +14,19 @@ use Rattle.machine.proofs.explore.Kind.{the-type}
 use Rattle.machine.proofs.records.looks_of.Statement.{statement}
 use Rattle.machine.proofs.records.looks_of.Tie as tie
 
--- an atom
-atom : (k : Kind) (wx wy f g : ℕ) → OneOf (0 ∷ 1 ∷ 2 ∷ 3 ∷ 4 ∷ []) (tagOf the-type k) → bitOr wx wy ≡ looksOf k wx wy f g
+-- an atom with two variables
+atom : (k : Kind) (wx wy f g : ℕ) → OneOf (0 ∷ 2 ∷ 3 ∷ []) (tagOf the-type k) → bitOr wx wy ≡ looksOf k wx wy f g
 unfolding looksOf
 atom Subset wx wy f g h = refl
-atom Single wx wy f g h = refl
+atom Single wx wy f g h = absurd (miss (0 ∷ 2 ∷ 3 ∷ []) 1 tt h)
 atom Child1 wx wy f g h = refl
 atom Child2 wx wy f g h = refl
-atom Root wx wy f g h = refl
-atom Not wx wy f g h = absurd (miss (0 ∷ 1 ∷ 2 ∷ 3 ∷ 4 ∷ []) 5 tt h)
-atom Or wx wy f g h = absurd (miss (0 ∷ 1 ∷ 2 ∷ 3 ∷ 4 ∷ []) 6 tt h)
-atom And wx wy f g h = absurd (miss (0 ∷ 1 ∷ 2 ∷ 3 ∷ 4 ∷ []) 7 tt h)
-atom Exists wx wy f g h = absurd (miss (0 ∷ 1 ∷ 2 ∷ 3 ∷ 4 ∷ []) 8 tt h)
-atom Close wx wy f g h = absurd (miss (0 ∷ 1 ∷ 2 ∷ 3 ∷ 4 ∷ []) 9 tt h)
+atom Root wx wy f g h = absurd (miss (0 ∷ 2 ∷ 3 ∷ []) 4 tt h)
+atom Not wx wy f g h = absurd (miss (0 ∷ 2 ∷ 3 ∷ []) 5 tt h)
+atom Or wx wy f g h = absurd (miss (0 ∷ 2 ∷ 3 ∷ []) 6 tt h)
+atom And wx wy f g h = absurd (miss (0 ∷ 2 ∷ 3 ∷ []) 7 tt h)
+atom Exists wx wy f g h = absurd (miss (0 ∷ 2 ∷ 3 ∷ []) 8 tt h)
+atom Close wx wy f g h = absurd (miss (0 ∷ 2 ∷ 3 ∷ []) 9 tt h)
 
 returns : tie.Need-returns
 unfolding looksOf
@@ -41,19 +42,29 @@ returns-3 c = rw (c .enum-told3 .given .1)
 
 returns-4 : tie.Need-returns-4
 unfolding looksOf
-returns-4 c = rw (c .before .enum-told4 .given .1) (c .cleared .ensures .0)
+returns-4 c = rw (c .enum-told4 .given .1)
 
 returns-5 : tie.Need-returns-5
 unfolding looksOf
 returns-5 c = rw (c .enum-told5 .given .1)
 
 returns-6 : tie.Need-returns-6
-returns-6 c = let a = c .before .args in atom (a .kind) (a .wx) (a .wy) (a .f) (a .g) (c .match .keys6)
+unfolding looksOf
+returns-6 c = rw (c .before .enum-told6 .given .1) (c .cleared .ensures .0)
+
+returns-7 : tie.Need-returns-7
+unfolding looksOf
+returns-7 c = rw (c .enum-told7 .given .1)
+
+returns-8 : tie.Need-returns-8
+returns-8 c = let a = c .before .args in atom (a .kind) (a .wx) (a .wy) (a .f) (a .g) (c .match .keys8)
 
 pub looks-of-spec : {M : Type 1} → statement M
 looks-of-spec =
     tie.close
     (tie.spec
+    (λ c. search needs)
+    (λ c. search needs)
     (λ c. search needs)
     (λ c. search needs)
     (λ c. search needs)
@@ -65,4 +76,6 @@ looks-of-spec =
     returns-3
     returns-4
     returns-5
-    returns-6)
+    returns-6
+    returns-7
+    returns-8)
