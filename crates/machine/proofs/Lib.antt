@@ -11,6 +11,7 @@ pub mod Labels
 pub mod Loops
 pub mod Masks
 pub mod Members
+pub mod Order
 pub mod Pigeon
 pub mod Place
 pub mod RowLaws

@@ -18,6 +18,11 @@ unfoldable pub place : ℕ → List ℕ → ℕ
 place x [] = zero
 place x (y ∷ ys) = pick (eqb y x) zero (suc (place x ys))
 
+-- the numbers below n, in order
+unfoldable pub upTo : ℕ → List ℕ
+upTo zero = []
+upTo (suc n) = upTo n ++ (n ∷ [])
+
 -- the list with x in it: as it is where x stands there, else with x put last. None where x is new and there are c codes already
 unfoldable pub insert : ℕ → ℕ → List ℕ → Option (List ℕ)
 insert c x cs = pick (ltb (place x cs) (length cs)) (some cs) (pick (ltb (length cs) c) (some (cs ++ (x ∷ []))) none)
