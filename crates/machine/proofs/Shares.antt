@@ -10,11 +10,12 @@ use borrow.Author.Tests.{le-leb, lt-leb}
 use lib.Arith.{digits-lt}
 use lib.ListN.{length, getD, take, drop, set, length-append, List·getD-append}
 use lib.Seq.{getD-take, getD-set-same, getD-set-other, getD-append-seam, length-take-le}
-use Rattle.machine.specs.Explore.{explore, place}
+use Rattle.machine.specs.Explore.{upTo, explore, place}
 use Rattle.machine.specs.Table.{seen, listed, addr, Cell, Explored}
-use Rattle.machine.specs.Succ.{Room, entry, through, kindCode, successorOf, succIn, startOf, existsStart}
+use Rattle.machine.specs.Succ.{Room, entry, through, notCode, kindCode, successorOf, succIn, startOf, existsStart}
 use Rattle.machine.specs.Machine.{startCode, codesOf, stepOf, acceptBy, acceptOf, Holds}
 use Rattle.machine.proofs.Found.{Ok, explore-ok}
+use Rattle.machine.proofs.Order.{order}
 use Rattle.machine.proofs.Held.{Part, Parts, Same, record-same}
 use Rattle.machine.specs.Rule.{Mach, noMach, Outcome, built, over, machFrom, after, planOf, Fits, Before, Sound, At, Made}
 use Rattle.machine.specs.declared.explore.Kind.{Kind}
@@ -138,6 +139,72 @@ module _ (x : Decoded) (r c labels : ℕ) (s : Machines) (ws : List ℕ) (ms : L
   unfolding codesOf startCode successorOf startOf existsStart kindCode
   from-tables = refl
 
+  -- the record's machine has the codes cs; its table is in its share, and nothing before the share is changed
+  module _ (cs : List ℕ) (found : codesOf (x .kind) (f .step) (g .step) (x .wx) (x .wy) c labels ≡ some cs) (bits : ℕ) (t : Machines) (ws′ : List ℕ)
+      (old-byte : (k : ℕ) → k < r * share → getD ws′ k 0 ≡ getD ws k 0)
+      (new-holds : Holds ws′ c labels (r * share) bits (length cs) (machFrom x f g cs .step))
+      (at-count : t .counts ≡ set (s .counts) r (length cs))
+      (at-accept : t .accepts ≡ set (s .accepts) r (acceptOf (x .kind) (getD (s .accepts) (x .first) 0) (getD (s .accepts) (x .second) 0) cs))
+      (at-looks : t .looks ≡ set (s .looks) r bits)
+      (wide : length (s .counts) ≡ 128) (wide′ : length (s .accepts) ≡ 128) (wide″ : length (s .looks) ≡ 128) (size : length ms ≡ r) where
+    abbrev new : Mach
+    new = machFrom x f g cs
+
+    ok : Ok (kindCode (x .kind) (f .step) (g .step) (x .wx) (x .wy)) c labels (startCode (x .kind) (f .step) (x .wx) c) (some cs)
+    unfolding codesOf
+    ok =
+        subst (Ok (kindCode (x .kind) (f .step) (g .step) (x .wx) (x .wy)) c labels (startCode (x .kind) (f .step) (x .wx) c)) found
+        (explore-ok (kindCode (x .kind) (f .step) (g .step) (x .wx) (x .wy)) c labels (startCode (x .kind) (f .step) (x .wx) c) (fits .some-state))
+
+    new-order : explore (notCode (new .step)) c labels 0 ≡ some (upTo (length cs))
+    unfolding codesOf
+    new-order = order (kindCode (x .kind) (f .step) (g .step) (x .wx) (x .wy)) c labels (startCode (x .kind) (f .step) (x .wx) c) cs (fits .some-state) (fits .ceiling) found
+
+    new-at : At c labels r new t ws′
+    new-at = record {
+      count = ap (λ (l : List ℕ). getD l r 0) at-count ∙ getD-set-same (s .counts) r (length cs) 0 (omega (arith, fits .here-in));
+      accept =
+          ap (λ (l : List ℕ). getD l r 0) at-accept ∙ getD-set-same (s .accepts) r _ 0 (omega (arith, fits .here-in))
+          ∙ accept-parts (x .kind) (x .first) (x .second) r (getD (s .accepts) (x .first) 0) (getD (s .accepts) (x .second) 0) (f .accept) (g .accept) cs (sound .before)
+          (λ h. made (x .first) h .accept) (λ h. made (x .second) h .accept);
+      holds =
+          subst (λ (b : ℕ). Holds ws′ c labels (r * share) b (length cs) (new .step))
+          (sym (ap (λ (l : List ℕ). getD l r 0) at-looks ∙ getD-set-same (s .looks) r bits 0 (omega (arith, fits .here-in)))) new-holds;
+      some-state = ok .2;
+      few = ok .1;
+      in-order = new-order;
+    }
+
+    old-at : (a : ℕ) → a < r → At c labels a (getD ms a noMach) t ws′
+    unfolding entry
+    old-at a h =
+        let m = made a h in
+        let no′ : a ≡ r → ⊥ = λ e. omega arith in
+        let look = getD (s .looks) a 0 in
+        let same-looks : look ≡ getD (t .looks) a 0 = sym (ap (λ (l : List ℕ). getD l a 0) at-looks ∙ getD-set-other (s .looks) r a bits 0 no′) in
+        record {
+          count = ap (λ (l : List ℕ). getD l a 0) at-count ∙ getD-set-other (s .counts) r a (length cs) 0 no′ ∙ m .count;
+          accept = ap (λ (l : List ℕ). getD l a 0) at-accept ∙ getD-set-other (s .accepts) r a _ 0 no′ ∙ m .accept;
+          holds =
+              subst (λ (b : ℕ). Holds ws′ c labels (a * share) b (length (getD ms a noMach .codes)) (getD ms a noMach .step)) same-looks λ l i j hl hi hj.
+              (old-byte (a * share + addr c (seen look l) i j) (near a look l i j h hl (omega (arith, m .few)) (omega (arith, m .few))) ∙ m .holds l i j hl hi hj .0, m .holds l i j hl hi hj .1);
+          some-state = m .some-state;
+          few = m .few;
+          in-order = m .in-order;
+        }
+
+    pub made-new : t .over ≡ 128 → Made (after c labels r x (built ms)) c labels (r + 1) t ws′
+    unfolding after
+    made-new ov = rw found (ov, length-append ms (new ∷ []) ∙ omega (arith, size), all)
+      where
+        all : (a : ℕ) → a < r + 1 → At c labels a (getD (ms ++ (new ∷ [])) a noMach) t ws′
+        all a h = ⊎-elim
+            (λ (e : a ≡ r). subst (λ (n : ℕ). At c labels n (getD (ms ++ (new ∷ [])) n noMach) t ws′) (sym e)
+            (subst (λ (m : Mach). At c labels r m t ws′) (sym (ap (λ (n : ℕ). getD (ms ++ (new ∷ [])) n noMach) (sym size) ∙ getD-append-seam ms new [] noMach)) new-at))
+            (λ (l : a < r). subst (λ (m : Mach). At c labels a m t ws′) (sym (List·getD-append ms (new ∷ []) noMach a (omega (arith, size)))) (old-at a l))
+            (eq-or-lt-of-le (omega arith))
+
+  -- the record is explored
   module _ (b : Builder) (ws′ : List ℕ) (done : Explored (succIn ws plan) plan (startOf low plan) b ws ws′) where
     pub found-codes : listed c b ≡ codesOf (x .kind) (f .step) (g .step) (x .wx) (x .wy) c labels
     found-codes = done .list ∙ from-tables ∙ same .codes
@@ -153,9 +220,6 @@ module _ (x : Decoded) (r c labels : ℕ) (s : Machines) (ws : List ℕ) (ms : L
       abbrev cs : List ℕ
       cs = take (b .count) (b .codes)
 
-      abbrev new : Mach
-      new = machFrom x f g cs
-
       is-cs : listed c b ≡ some cs
       is-cs = rw (le-leb (b .count) c few)
 
@@ -163,7 +227,7 @@ module _ (x : Decoded) (r c labels : ℕ) (s : Machines) (ws : List ℕ) (ms : L
       count-cs = length-take-le (b .count) (b .codes) (omega (arith, fits .ceiling))
 
       -- the new table
-      new-holds : Holds ws′ c labels (r * share) (plan .looks) (length cs) (new .step)
+      new-holds : Holds ws′ c labels (r * share) (plan .looks) (length cs) (machFrom x f g cs .step)
       unfolding entry stepOf successorOf
       new-holds l i j hl hi hj =
           let m = seen (plan .looks) l in
@@ -174,47 +238,9 @@ module _ (x : Decoded) (r c labels : ℕ) (s : Machines) (ws : List ℕ) (ms : L
           let eq = alike ∙ same .steps cs (sym from-tables ∙ sym (done .list) ∙ is-cs) l i j hl hi hj in
           (cell .3 ∙ eq, subst (λ (n : ℕ). n < length cs) eq (cell .2 .2))
 
-      new-at : At c labels r new t ws′
-      new-at = record {
-        count = ap (λ (l : List ℕ). getD l r 0) at-count ∙ getD-set-same (s .counts) r (b .count) 0 (omega (arith, fits .here-in)) ∙ sym count-cs;
-        accept =
-            ap (λ (l : List ℕ). getD l r 0) at-accept ∙ getD-set-same (s .accepts) r _ 0 (omega (arith, fits .here-in))
-            ∙ accept-parts (x .kind) (x .first) (x .second) r (getD (s .accepts) (x .first) 0) (getD (s .accepts) (x .second) 0) (f .accept) (g .accept) cs (sound .before)
-            (λ h. made (x .first) h .accept) (λ h. made (x .second) h .accept);
-        holds =
-            subst (λ (b : ℕ). Holds ws′ c labels (r * share) b (length cs) (new .step))
-            (sym (ap (λ (l : List ℕ). getD l r 0) at-looks ∙ getD-set-same (s .looks) r (plan .looks) 0 (omega (arith, fits .here-in)))) new-holds;
-        some-state = subst (Ok (succIn ws plan) c labels (startOf low plan)) (sym (done .list) ∙ is-cs) (explore-ok (succIn ws plan) c labels (startOf low plan) (fits .some-state)) .2;
-        few = omega (arith, count-cs);
-      }
-
-      old-at : (a : ℕ) → a < r → At c labels a (getD ms a noMach) t ws′
-      unfolding entry
-      old-at a h =
-          let m = made a h in
-          let no′ : a ≡ r → ⊥ = λ e. omega arith in
-          let bits = getD (s .looks) a 0 in
-          let same-looks : bits ≡ getD (t .looks) a 0 = sym (ap (λ (l : List ℕ). getD l a 0) at-looks ∙ getD-set-other (s .looks) r a _ 0 no′) in
-          record {
-            count = ap (λ (l : List ℕ). getD l a 0) at-count ∙ getD-set-other (s .counts) r a (b .count) 0 no′ ∙ m .count;
-            accept = ap (λ (l : List ℕ). getD l a 0) at-accept ∙ getD-set-other (s .accepts) r a _ 0 no′ ∙ m .accept;
-            holds =
-                subst (λ (b : ℕ). Holds ws′ c labels (a * share) b (length (getD ms a noMach .codes)) (getD ms a noMach .step)) same-looks λ l i j hl hi hj.
-                (old-byte (a * share + addr c (seen bits l) i j) (near a bits l i j h hl (omega (arith, m .few)) (omega (arith, m .few))) ∙ m .holds l i j hl hi hj .0, m .holds l i j hl hi hj .1);
-            some-state = m .some-state;
-            few = m .few;
-          }
-
       pub made-more : t .over ≡ 128 → Made (after c labels r x (built ms)) c labels (r + 1) t ws′
-      unfolding after
-      made-more ov = rw (sym found-codes ∙ is-cs) (ov, length-append ms (new ∷ []) ∙ omega (arith, size), all)
-        where
-          all : (a : ℕ) → a < r + 1 → At c labels a (getD (ms ++ (new ∷ [])) a noMach) t ws′
-          all a h = ⊎-elim
-              (λ (e : a ≡ r). subst (λ (n : ℕ). At c labels n (getD (ms ++ (new ∷ [])) n noMach) t ws′) (sym e)
-              (subst (λ (m : Mach). At c labels r m t ws′) (sym (ap (λ (n : ℕ). getD (ms ++ (new ∷ [])) n noMach) (sym size) ∙ getD-append-seam ms new [] noMach)) new-at))
-              (λ (l : a < r). subst (λ (m : Mach). At c labels a m t ws′) (sym (List·getD-append ms (new ∷ []) noMach a (omega (arith, size)))) (old-at a l))
-              (eq-or-lt-of-le (omega arith))
+      made-more =
+          made-new cs (sym found-codes ∙ is-cs) (plan .looks) t ws′ old-byte new-holds (at-count ∙ ap (set (s .counts) r) (sym count-cs)) at-accept at-looks wide wide′ wide″ size
 
     pub made-too-many : (t : Machines) → c < b .count → t .over ≡ r → Made (after c labels r x (built ms)) c labels (r + 1) t ws′
     unfolding after

@@ -138,6 +138,7 @@ module _ (c labels a : ℕ) (s : Machines) (ws ws′ : List ℕ) (few : labels �
     );
     some-state = h .some-state;
     few = h .few;
+    in-order = h .in-order;
   }
 
   old-at : (b : ℕ) → b < a → (m : Mach) → At c labels b m s ws → At c labels b m t ws′
@@ -156,6 +157,7 @@ module _ (c labels a : ℕ) (s : Machines) (ws ws′ : List ℕ) (few : labels �
         );
         some-state = h .some-state;
         few = h .few;
+        in-order = h .in-order;
       }
 
   pub made-spread : (o : Outcome) → Made o c labels (a + 1) s ws → Made o c labels (a + 1) t ws′

@@ -6,8 +6,9 @@ use mathlib.Core.Path.{_≡_}
 use mathlib.Core.List.{List, [], _∷_, _++_}
 use mathlib.Core.Option.{Option, none, some}
 use lib.ListN.{length, getD}
+use Rattle.machine.specs.Explore.{upTo, explore}
 use Rattle.machine.specs.Table.{seen}
-use Rattle.machine.specs.Succ.{Step, kindCode, looksOf}
+use Rattle.machine.specs.Succ.{Step, notCode, kindCode, looksOf}
 use Rattle.machine.specs.Machine.{codesOf, stepOf, acceptOf, Holds, Bit}
 use Rattle.machine.specs.declared.explore.Kind.{Kind}
 use Rattle.machine.specs.declared.explore.Kind.the-variants.{Subset, Single, Child1, Child2, Root, Not, Or, And, Exists, Close}
@@ -103,13 +104,15 @@ pub record Sound (x : Decoded) (r labels : ℕ) : Type 0 where
   pub before : Before (x .kind) (x .first) (x .second) r
   pub bit : Bit (x .wx) labels
 
--- record a's machine is kept: its number of states, its accepting states, and in its share its table, at the labels that it tells apart
+-- record a's machine is kept: its number of states, its accepting states, and in its share its table, at the labels that it tells apart.
+-- Its states are in the order in which an exploration of it finds them
 pub record At (c labels a : ℕ) (m : Mach) (s : Machines) (ws : List ℕ) : Type 0 where
   pub count : getD (s .counts) a 0 ≡ length (m .codes)
   pub accept : getD (s .accepts) a 0 ≡ m .accept
   pub holds : Holds ws c labels (a * (labels * c * c)) (getD (s .looks) a 0) (length (m .codes)) (m .step)
   pub some-state : 0 < length (m .codes)
   pub few : length (m .codes) ≤ c
+  pub in-order : explore (notCode (m .step)) c labels 0 ≡ some (upTo (length (m .codes)))
 
 abbrev pub Made : Outcome → ℕ → ℕ → ℕ → Machines → List ℕ → Type 0
 Made (over k) c labels r s ws = (s .over ≡ k) × (k < 128)
