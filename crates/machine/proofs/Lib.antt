@@ -2,6 +2,7 @@ pub mod Accept
 pub mod Any
 pub mod AtomRuns
 pub mod Cong
+pub mod Copies
 pub mod Exists
 pub mod Fill
 pub mod Found

@@ -5,3 +5,4 @@ pub mod Rows
 pub mod Word
 pub mod Machine
 pub mod Rule
+pub mod Complement

@@ -1,0 +1,76 @@
+-- `flipped` meets its contract. The invariant: the word holds the states below i that are not in a. Assumes nothing.
+use borrow.Author.Needs.{needs}
+use Prim.Native.Nat.{ℕ, _-_, _^_, _≤_, _<_, _%_}
+use mathlib.Core.Bool.{Bool, not, _||_, _&&_}
+use mathlib.Core.Logic.{⊎-elim}
+use mathlib.Core.Path.{_≡_, sym, ap, _∙_}
+use native.Mathlib.Omega.{arith}
+use borrow.Author.Tests.{le-ltb}
+use lib.Dec.{eqb, ltb}
+use Rattle.machine.specs.Word.{mem}
+use Rattle.machine.proofs.WordLaws.{mem-zero}
+use Rattle.machine.proofs.Members.{accept-more, accept-same}
+use Rattle.machine.proofs.Copies.{flipped-law}
+use Rattle.machine.proofs.complement.flipped.Statement.{statement}
+use Rattle.machine.proofs.complement.flipped.Tie as tie
+
+abbrev Inv-loop : tie.InvT-loop
+Inv-loop a n r₀ i₀ r i = (i ≤ n) × (n ≤ 64) × (r < 2 ^ 64) × ((q : ℕ) → mem q r ≡ (ltb q i && not (mem q a)))
+
+abbrev μ-loop : tie.MeasureT-loop
+μ-loop a n r₀ i₀ r i = n - i
+
+loop-holds : tie.Need-loop-holds Inv-loop μ-loop
+loop-holds c = (omega arith, omega arith, omega arith, λ q. rw (le-ltb q 0 (omega arith)) (mem-zero q))
+
+has-requires : tie.Need-has-requires Inv-loop μ-loop
+has-requires c κs = search needs
+
+with-member-requires : tie.Need-with-member-requires Inv-loop μ-loop
+with-member-requires c κs = search needs
+
+add-i : tie.Need-add-i Inv-loop μ-loop
+add-i c = search needs
+
+loop-less : tie.Need-loop-less Inv-loop μ-loop
+loop-less c = search needs
+
+loop-again : tie.Need-loop-again Inv-loop μ-loop
+loop-again c =
+    let a = c .before .before .before .before .args in
+    let h = c .before .before .before .loop in
+    let v = c .before .has in
+    let A : ℕ → Bool = λ q. not (mem q (a .a)) in
+    let e : not (v .result) ≡ A (h .i) = ap not (v .ensures) in
+    ⊎-elim
+    (λ w.
+    let m : h .i % 64 ≡ h .i = omega arith in (
+      omega arith,
+      omega arith,
+      omega (arith, w .2, w .1 .ok),
+      λ q.
+          ap (mem q) (w .2) ∙ w .1 .ensures q ∙ ap (λ (k : ℕ). mem q (h .r) || eqb k q) m ∙ accept-more (h .i) q A (mem q (h .r)) (sym e ∙ w .0 .taken) (h .inv .3 q),
+    ))
+    (λ w. (omega arith, omega arith, omega (arith, w .1, h .inv .2), λ q. ap (mem q) (w .1) ∙ accept-same (h .i) q A (mem q (h .r)) (sym e ∙ w .0 .left) (h .inv .3 q)))
+    (c .if1 .came)
+
+returns : tie.Need-returns Inv-loop μ-loop
+returns c =
+    let a = c .before .before .args in
+    let h = c .before .loop in
+    let e : h .i ≡ a .n = omega arith in
+    flipped-law (a .a) (a .n) (h .r) (h .inv .1) (h .inv .2) (rw e at (h .inv .3))
+
+pub flipped-spec : {M : Type 1} → statement M
+flipped-spec =
+    tie.close
+    (tie.spec
+    Inv-loop
+    μ-loop
+    loop-holds
+    has-requires
+    with-member-requires
+    add-i
+    loop-less
+    loop-again
+    returns)
