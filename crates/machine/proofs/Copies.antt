@@ -3,6 +3,7 @@ use Prim.Native.Nat.{ℕ, suc, _+_, _*_, _%_, _^_, _≤_, _<_}
 use mathlib.Core.Bool.{Bool, true, false, not, _&&_}
 use mathlib.Core.Logic.{⊎-elim}
 use mathlib.Core.List.{List}
+use mathlib.Core.Option.{some}
 use mathlib.Core.Path.{_≡_, refl, sym, ap, _∙_, subst}
 use native.Mathlib.Nat.{mul-le-mul-right, suc-mul, eq-or-lt-of-le}
 use native.Mathlib.Numerals.{add-one}
@@ -10,16 +11,22 @@ use native.Mathlib.Omega.{arith}
 use borrow.Author.Tests.{ltb-true}
 use lib.Arith.{digits-lt}
 use lib.Dec.{ltb}
-use lib.ListN.{length, getD, drop}
-use Rattle.machine.specs.Explore.{upTo}
+use lib.ListN.{length, getD, drop, set}
+use Rattle.machine.specs.Explore.{upTo, explore}
 use Rattle.machine.specs.Word.{mem}
-use Rattle.machine.specs.Machine.{acceptBy, acceptOf}
+use Rattle.machine.specs.Succ.{Step, entry, notCode, kindCode}
+use Rattle.machine.specs.Machine.{startCode, codesOf, stepOf, acceptBy, acceptOf, Holds}
+use Rattle.machine.specs.Rule.{Mach, noMach, Outcome, built, over, machFrom, after, Fits, Before, Sound, At, Made}
+use Rattle.machine.specs.declared.explore.Kind.{Kind}
 use Rattle.machine.specs.declared.explore.Kind.the-variants.{Not}
+use Rattle.machine.specs.declared.records.Decoded.{Decoded}
+use Rattle.machine.specs.declared.records.Machines.{Machines}
 use Rattle.machine.specs.Table.{addr, seen, Copied}
 use Rattle.machine.specs.Complement.{RowsCopied, TableCopied}
-use Rattle.machine.proofs.Order.{length-upto, getD-upto}
+use Rattle.machine.proofs.Order.{length-upto, getD-upto, own-step}
 use Rattle.machine.proofs.WordLaws.{word-ext}
-use Rattle.machine.proofs.Shares.{next-share}
+use Rattle.machine.proofs.Masks.{seen-le, seen-seen}
+use Rattle.machine.proofs.Shares.{made-new, next-share}
 use Rattle.machine.proofs.Start.{drop-later}
 
 -- ---- the places of the rows
@@ -121,3 +128,72 @@ flipped-law a n r top h all =
         let l : q < n = omega (arith, ltb-true q (length (upTo n)) e, length-upto n) in
         let s : q ≡ getD (upTo n) q 0 % 64 = omega (arith, getD-upto n q l) in
         ap (λ (k : ℕ). not (mem k a)) s
+
+-- "not" goes by its one part
+accept-not : (k : Kind) (a b : ℕ) (cs : List ℕ) → k ≡ Not → acceptOf Not a 0 cs ≡ acceptOf k a b cs
+unfolding acceptOf acceptBy
+accept-not k a b cs e = subst (λ (k : Kind). acceptOf Not a 0 cs ≡ acceptOf k a b cs) (sym e) refl
+
+step-not : (k : Kind) (f g : Step) (wx wy n l i j : ℕ) → k ≡ Not → n ≤ 64 → i < n → j < n → f l i j < n → stepOf (kindCode k f g wx wy) (upTo n) l i j ≡ f l i j
+unfolding kindCode
+step-not k f g wx wy n l i j e top hi hj h = subst (λ (k : Kind). stepOf (kindCode k f g wx wy) (upTo n) l i j ≡ f l i j) (sym e) (own-step f n l i j top hi hj h)
+
+codes-not : (k : Kind) (f g : Step) (wx wy c labels n : ℕ) → k ≡ Not → explore (notCode f) c labels 0 ≡ some (upTo n) → codesOf k f g wx wy c labels ≡ some (upTo n)
+unfolding codesOf startCode kindCode
+codes-not k f g wx wy c labels n e found = subst (λ (k : Kind). codesOf k f g wx wy c labels ≡ some (upTo n)) (sym e) found
+
+-- ---- the machine of "not" is kept with the others
+pub not-first : (x : Decoded) (r labels : ℕ) → Sound x r labels → x .kind ≡ Not → x .first < r
+not-first x r labels sound e = subst (λ (k : Kind). Before k (x .first) (x .second) r) e (sound .before)
+
+module _ (x : Decoded) (r c labels : ℕ) (s t : Machines) (ws ws′ : List ℕ) (sound : Sound x r labels) (is-not : x .kind ≡ Not) (none-over : 128 ≤ s .over) where
+  -- no machine that is kept has more than c states
+  pub never-more : c < getD (s .counts) (x .first) 0 → (o : Outcome) → Made o c labels r s ws → Made (after c labels r x o) c labels (r + 1) t ws′
+  never-more h (over k) m = absurd (omega (arith, m .0, m .1))
+  never-more h (built ms) m = let a = m .2 (x .first) (not-first x r labels sound is-not) in absurd (omega (arith, a .count, a .few))
+
+  abbrev share : ℕ
+  share = labels * c * c
+
+  -- the number of states of the part, and the bits that it looks at
+  abbrev n : ℕ
+  n = getD (s .counts) (x .first) 0
+
+  abbrev bits : ℕ
+  bits = getD (s .looks) (x .first) 0
+
+  module _ (copied : TableCopied ws ws′ (x .first * share) (r * share) c bits n labels) (fits : Fits x r c labels (length ws)) (at-count : t .counts ≡ set (s .counts) r n)
+      (at-accept : t .accepts ≡ set (s .accepts) r (acceptOf Not (getD (s .accepts) (x .first) 0) 0 (upTo n)))
+      (at-looks : t .looks ≡ set (s .looks) r bits)
+      (wide : length (s .counts) ≡ 128) (wide′ : length (s .accepts) ≡ 128) (wide″ : length (s .looks) ≡ 128) (same-over : t .over ≡ s .over) where
+    kept : (ms : List Mach) → Made (built ms) c labels r s ws → Made (after c labels r x (built ms)) c labels (r + 1) t ws′
+    unfolding entry
+    kept ms m =
+        made-new x r c labels s ws ms fits sound (m .2) (upTo n)
+        (codes-not (x .kind) (f .step) (g .step) (x .wx) (x .wy) c labels n is-not (part .in-order ∙ ap (λ (k : ℕ). some (upTo k)) (sym (part .count))))
+        bits t ws′ (copied .low) holds (at-count ∙ ap (set (s .counts) r) (sym (length-upto n)))
+        (at-accept ∙ ap (set (s .accepts) r) (accept-not (x .kind) (getD (s .accepts) (x .first) 0) (getD (s .accepts) (x .second) 0) (upTo n) is-not))
+        at-looks wide wide′ wide″ (m .1) (same-over ∙ m .0)
+      where
+        f : Mach
+        f = getD ms (x .first) noMach
+
+        g : Mach
+        g = getD ms (x .second) noMach
+
+        part : At c labels (x .first) f s ws
+        part = m .2 (x .first) (not-first x r labels sound is-not)
+
+        holds : Holds ws′ c labels (r * share) bits (length (upTo n)) (machFrom x f g (upTo n) .step)
+        holds l i j hl hi hj =
+            let hi′ : i < n = omega (arith, length-upto n) in
+            let hj′ : j < n = omega (arith, length-upto n) in
+            let old = part .holds l i j hl (omega (arith, part .count)) (omega (arith, part .count)) in
+            let step = step-not (x .kind) (f .step) (g .step) (x .wx) (x .wy) n l i j is-not (omega (arith, part .count, part .few, fits .ceiling)) hi′ hj′ (omega (arith, part .count, old .1)) in
+            let near : seen bits l < labels = omega (arith, seen-le bits l) in
+            let own : seen bits l ≤ seen bits (seen bits l) = omega (arith, seen-seen bits l) in
+            (copied .there (seen bits l) i j near own hi′ hj′ ∙ old .0 ∙ sym step, omega (arith, step, old .1, part .count, length-upto n))
+
+    pub after-not : (o : Outcome) → Made o c labels r s ws → Made (after c labels r x o) c labels (r + 1) t ws′
+    after-not (over k) m = absurd (omega (arith, m .0, m .1))
+    after-not (built ms) m = kept ms m

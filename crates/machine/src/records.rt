@@ -6,6 +6,8 @@ ghost use lib.ListN.{length, getD, take, drop, replicate};
 ghost use Rattle.machine.specs.Machine.{acceptBy, acceptOf};
 ghost use Rattle.machine.specs.Rule.{planOf, Fits, Sound, Outcome, Made, Spread, Finished, after, upto, noDecoded};
 ghost use Rattle.machine.specs.Succ.{looksOf};
+use crate::complement::copy_table;
+use crate::complement::flipped;
 use crate::explore::Builder;
 use crate::explore::Kind;
 use crate::explore::Plan;
@@ -110,8 +112,8 @@ pub fn plan_of(x: Decoded, r: usize, c: usize, labels: usize, f: usize, g: usize
     }
 }
 
-// The machine of record r, after those of the records before it.
-pub fn build_next(
+// The machine of record r by exploring its states, where no record before it has too many.
+pub fn explore_next(
     ws: &mut [u8],
     x: Decoded,
     s: Machines,
@@ -121,13 +123,10 @@ pub fn build_next(
 ) -> Machines
     requires { ⌜ Fits x r c labels (length (now ws)) ⌝ }
     requires { ⌜ Sound x r labels ⌝ }
+    requires { ⌜ 128 ≤ s .over ⌝ }
     ensures { λ t. ⌜ ((o : Outcome) → Made o c labels r s (now (ws .entry)) → Made (after c labels r x o) c labels (r + 1) t (now (ws .exit))) ⌝ }
     ensures { λ t. ⌜ drop (r * (labels * c * c) + labels * c * c) (now (ws .exit)) ≡ drop (r * (labels * c * c) + labels * c * c) (now (ws .entry)) ⌝ }
 {
-    let over = s.over;
-    if over < 128 {
-        return s;
-    }
     let first = x.first;
     let second = x.second;
     let looks = s.looks;
@@ -146,6 +145,66 @@ pub fn build_next(
     t.accepts[r] = a;
     t.looks[r] = p.looks;
     t
+}
+
+// The machine of record r, a "not", from its part's: the table is copied, and the other states accept.
+pub fn complement_next(
+    ws: &mut [u8],
+    x: Decoded,
+    s: Machines,
+    r: usize,
+    c: usize,
+    labels: usize,
+) -> Machines
+    requires { ⌜ Fits x r c labels (length (now ws)) ⌝ }
+    requires { ⌜ Sound x r labels ⌝ }
+    requires { ⌜ (128 ≤ s .over) × (x .kind ≡ Kind.Not) ⌝ }
+    ensures { λ t. ⌜ ((o : Outcome) → Made o c labels r s (now (ws .entry)) → Made (after c labels r x o) c labels (r + 1) t (now (ws .exit))) ⌝ }
+    ensures { λ t. ⌜ drop (r * (labels * c * c) + labels * c * c) (now (ws .exit)) ≡ drop (r * (labels * c * c) + labels * c * c) (now (ws .entry)) ⌝ }
+{
+    let first = x.first;
+    let counts = s.counts;
+    let n = counts[first];
+    // No machine that is kept has more states: the test bounds what is copied.
+    if c < n {
+        return s;
+    }
+    let looks = s.looks;
+    let bits = looks[first];
+    let share = labels * c * c;
+    copy_table(ws, first * share, r * share, c, labels, bits, n);
+    let accepts = s.accepts;
+    let a = flipped(accepts[first], n);
+    let mut t = s;
+    t.counts[r] = n;
+    t.accepts[r] = a;
+    t.looks[r] = bits;
+    t
+}
+
+// The machine of record r, after those of the records before it.
+pub fn build_next(
+    ws: &mut [u8],
+    x: Decoded,
+    s: Machines,
+    r: usize,
+    c: usize,
+    labels: usize,
+) -> Machines
+    requires { ⌜ Fits x r c labels (length (now ws)) ⌝ }
+    requires { ⌜ Sound x r labels ⌝ }
+    ensures { λ t. ⌜ ((o : Outcome) → Made o c labels r s (now (ws .entry)) → Made (after c labels r x o) c labels (r + 1) t (now (ws .exit))) ⌝ }
+    ensures { λ t. ⌜ drop (r * (labels * c * c) + labels * c * c) (now (ws .exit)) ≡ drop (r * (labels * c * c) + labels * c * c) (now (ws .entry)) ⌝ }
+{
+    let over = s.over;
+    if over < 128 {
+        return s;
+    }
+    let kind = x.kind;
+    match kind {
+        Kind::Not => complement_next(ws, x, s, r, c, labels),
+        _ => explore_next(ws, x, s, r, c, labels),
+    }
 }
 
 // Record a's table gets its entries at every label, if no record has too many states.

@@ -1,51 +1,12 @@
--- `build_next` meets its contract. Assumes nothing.
-use mathlib.Core.Path.{refl, ap}
-use native.Mathlib.Omega.{arith}
-use lib.ListN.{length, getD, set}
-use Rattle.machine.proofs.Shares.{room-of, made-over, after-too-many, after-more, after-high}
-use Rattle.machine.proofs.Steps.{id-length}
+-- `build_next` meets its contract: there were too many states before, or the machine is made by the record's kind. Assumes nothing.
 use borrow.Author.Needs.{needs}
+use mathlib.Core.Path.{refl}
+use Rattle.machine.proofs.Shares.{made-over}
 use Rattle.machine.proofs.records.build_next.Statement.{statement}
 use Rattle.machine.proofs.records.build_next.Tie as tie
 
 returns : tie.Need-returns
 returns c = let a = c .before .before .args in (made-over (a .x) (a .c) (a .labels) (a .r) (a .s) (a .ws .now) (a .ws .now) (c .if1 .taken), refl)
-
-build-plan-requires : tie.Need-build-plan-requires
-build-plan-requires c κs =
-    let s = c .before .before .before .before .before in
-    let a = s .args in
-    let e = c .before .plan-of .ensures in
-    rw e (room-of (a .x) (a .r) (a .c) (a .labels) (length (a .ws .now)) (getD (a .s .looks) (a .x .first) 0) (getD (a .s .looks) (a .x .second) 0) (s .pre .0), omega arith)
-
-returns-2 : tie.Need-returns-2
-returns-2 c =
-    let s = c .before .before .before .before .before .before .before .before .before in
-    let a = s .args in
-    let b = c .before .before .before .build-plan in
-    let q = c .before .before .before .before .before .plan-of in (
-      after-too-many (a .x) (a .r) (a .c) (a .labels) (a .s) (record { counts = a .s .counts; accepts = a .s .accepts; looks = a .s .looks; over = a .r }) (a .ws .now) (b .last .0) (q .result) (b .result)
-          (s .pre .0) (s .pre .1) (q .ensures) (b .ensures) (c .before .before .before .before .before .before .before .if1 .left) (c .if2 .taken) refl,
-      after-high (a .x) (a .r) (a .c) (a .labels) (a .s) (record { counts = a .s .counts; accepts = a .s .accepts; looks = a .s .looks; over = a .r }) (a .ws .now) (b .last .0) (q .result) (b .result)
-          (s .pre .0) (s .pre .1) (q .ensures) (b .ensures) (c .before .before .before .before .before .before .before .if1 .left),
-    )
-
-returns-3 : tie.Need-returns-3
-returns-3 c =
-    let s = c .before .before .before .before .before .before .before .before .before .before .before in
-    let a = s .args in
-    let b = c .before .before .before .before .before .build-plan in
-    let q = c .before .before .before .before .before .before .before .plan-of in
-    let w = c .accept-word in (
-      after-more (a .x) (a .r) (a .c) (a .labels) (a .s)
-          (record { counts = set (a .s .counts) (a .r) (b .result .count); accepts = set (a .s .accepts) (a .r) (w .result); looks = set (a .s .looks) (a .r) (q .result .looks); over = a .s .over })
-          (a .ws .now) (b .last .0) (q .result) (b .result) (s .pre .0) (s .pre .1) (q .ensures) (b .ensures) (c .before .before .before .before .before .before .before .before .before .if1 .left)
-          (id-length 64 (b .result .codes) (b .ok .1 .1 .0 .1 .0 .1)) (omega arith) refl (ap (set (a .s .accepts) (a .r)) (w .ensures)) refl
-          (id-length 128 (a .s .counts) (s .good .1 .1 .0 .1 .1 .0 .1 .0 .1)) (id-length 128 (a .s .accepts) (s .good .1 .1 .0 .1 .1 .1 .0 .1 .0 .1)) (id-length 128 (a .s .looks) (s .good .1 .1 .0 .1 .1 .1 .1 .0 .1 .0 .1)) refl,
-      after-high (a .x) (a .r) (a .c) (a .labels) (a .s)
-          (record { counts = set (a .s .counts) (a .r) (b .result .count); accepts = set (a .s .accepts) (a .r) (w .result); looks = set (a .s .looks) (a .r) (q .result .looks); over = a .s .over })
-          (a .ws .now) (b .last .0) (q .result) (b .result) (s .pre .0) (s .pre .1) (q .ensures) (b .ensures) (c .before .before .before .before .before .before .before .before .before .if1 .left),
-    )
 
 pub build-next-spec : {M : Type 1} → statement M
 build-next-spec =
@@ -53,23 +14,9 @@ build-next-spec =
     (tie.spec
     returns
     (λ c. search needs)
-    (λ c. search needs)
-    (λ c. search needs)
-    (λ c. search needs)
     (λ c κs. search needs)
-    build-plan-requires
-    (λ c. search needs)
-    returns-2
-    (λ c. search needs)
-    (λ c. search needs)
-    (λ c. search needs)
-    (λ c. search needs)
     (λ c κs. search needs)
     (λ c. search needs)
     (λ c. search needs)
     (λ c. search needs)
-    (λ c. search needs)
-    (λ c. search needs)
-    (λ c. search needs)
-    (λ c. search needs)
-    returns-3)
+    (λ c. search needs))
