@@ -1,4 +1,5 @@
--- A table that is copied, row by row and label by label. Assumes nothing.
+-- A table that is copied, row by row and label by label; and the machine of "not", which has its part's table and the other states
+-- accepting, is kept with the others. Assumes nothing.
 use Prim.Native.Nat.{ℕ, suc, _+_, _*_, _%_, _^_, _≤_, _<_}
 use mathlib.Core.Bool.{Bool, true, false, not, _&&_}
 use mathlib.Core.Logic.{⊎-elim}
@@ -11,7 +12,7 @@ use native.Mathlib.Omega.{arith}
 use borrow.Author.Tests.{ltb-true}
 use lib.Arith.{digits-lt}
 use lib.Dec.{ltb}
-use lib.ListN.{length, getD, drop, set}
+use lib.ListN.{length, getD, set}
 use Rattle.machine.specs.Explore.{upTo, explore}
 use Rattle.machine.specs.Word.{mem}
 use Rattle.machine.specs.Succ.{Step, entry, notCode, kindCode}
@@ -41,16 +42,16 @@ entry-at c l i j = refl
 row-next : (c l i : ℕ) → (l * c + (i + 1)) * c ≡ (l * c + i) * c + c
 row-next c l i = let e : l * c + (i + 1) ≡ suc (l * c + i) = omega arith in ap (λ (n : ℕ). n * c) e ∙ suc-mul (l * c + i) c
 
-pub row-end : (c l i n : ℕ) → i ≤ n → (l * c + i) * c ≤ (l * c + n) * c
+row-end : (c l i n : ℕ) → i ≤ n → (l * c + i) * c ≤ (l * c + n) * c
 row-end c l i n h = mul-le-mul-right c (omega arith)
 
 pub row-room : (c l i : ℕ) → i < c → (l * c + i) * c + c ≤ (l * c + c) * c
 row-room c l i h = omega (arith, row-next c l i, row-end c l (i + 1) c (omega arith))
 
-pub label-first : (c l : ℕ) → l * c * c ≡ (l * c + 0) * c
+label-first : (c l : ℕ) → l * c * c ≡ (l * c + 0) * c
 label-first c l = let e : l * c ≡ l * c + 0 = omega arith in ap (λ (n : ℕ). n * c) e
 
-pub label-last : (c l : ℕ) → (l + 1) * c * c ≡ (l * c + c) * c
+label-last : (c l : ℕ) → (l + 1) * c * c ≡ (l * c + c) * c
 label-last c l = let e : (l + 1) * c ≡ l * c + c = ap (λ (n : ℕ). n * c) (add-one l) ∙ suc-mul l c in ap (λ (n : ℕ). n * c) e
 
 pub label-in : (c l labels : ℕ) → l < labels → (l * c + c) * c ≤ labels * c * c
