@@ -17,7 +17,7 @@ use Rattle.machine.specs.Explore.{upTo, explore}
 use Rattle.machine.specs.Word.{mem}
 use Rattle.machine.specs.Succ.{Step, entry, notCode, kindCode}
 use Rattle.machine.specs.Machine.{startCode, codesOf, stepOf, acceptBy, acceptOf, Holds}
-use Rattle.machine.specs.Rule.{Mach, noMach, Outcome, built, over, machFrom, after, Fits, Before, Sound, At, Made}
+use Rattle.machine.specs.Rule.{Mach, noMach, Outcome, built, over, machFrom, after, Fits, Before, Sound, At, Made, SomeMade}
 use Rattle.machine.specs.declared.explore.Kind.{Kind}
 use Rattle.machine.specs.declared.explore.Kind.the-variants.{Not}
 use Rattle.machine.specs.declared.records.Decoded.{Decoded}
@@ -147,12 +147,15 @@ codes-not k f g wx wy c labels n e found = subst (λ (k : Kind). codesOf k f g w
 pub not-first : (x : Decoded) (r labels : ℕ) → Sound x r labels → x .kind ≡ Not → x .first < r
 not-first x r labels sound e = subst (λ (k : Kind). Before k (x .first) (x .second) r) e (sound .before)
 
-module _ (x : Decoded) (r c labels : ℕ) (s t : Machines) (ws ws′ : List ℕ) (sound : Sound x r labels) (is-not : x .kind ≡ Not) (none-over : 128 ≤ s .over) where
-  -- no machine that is kept has more than c states
-  pub never-more : c < getD (s .counts) (x .first) 0 → (o : Outcome) → Made o c labels r s ws → Made (after c labels r x o) c labels (r + 1) t ws′
-  never-more h (over k) m = absurd (omega (arith, m .0, m .1))
-  never-more h (built ms) m = let a = m .2 (x .first) (not-first x r labels sound is-not) in absurd (omega (arith, a .count, a .few))
+-- no machine that is kept has more than c states
+pub part-few : (x : Decoded) (r c labels : ℕ) (s : Machines) (ws : List ℕ) → Sound x r labels → x .kind ≡ Not → 128 ≤ s .over → SomeMade c labels r s ws → getD (s .counts) (x .first) 0 ≤ c
+part-few x r c labels s ws sound is-not none-over h = go (h .0) (h .1)
+  where
+    go : (o : Outcome) → Made o c labels r s ws → getD (s .counts) (x .first) 0 ≤ c
+    go (over k) m = absurd (omega (arith, m .0, m .1))
+    go (built ms) m = let a = m .2 (x .first) (not-first x r labels sound is-not) in omega (arith, a .count, a .few)
 
+module _ (x : Decoded) (r c labels : ℕ) (s t : Machines) (ws ws′ : List ℕ) (sound : Sound x r labels) (is-not : x .kind ≡ Not) (none-over : 128 ≤ s .over) where
   abbrev share : ℕ
   share = labels * c * c
 

@@ -89,7 +89,7 @@ module _ (f : Step) (n c labels w : ℕ) (zero-in : 0 < n) (few : n ≤ 64) (roo
   start-found none ok =
       let ds = ok .0 in
       let m : length ds ≤ n =
-      pigeon n (length ds) (λ (i : ℕ). getD ds i 0) (λ i h. close-valid (getD ds i 0) (ok .1 .reach i h)) (λ i j hi hj e. ok .1 .distinct i j hi hj e) in
+      pigeon n (length ds) (λ (i : ℕ). getD ds i 0) (λ i h. close-valid (getD ds i 0) (ok .1 .all i h)) (λ i j hi hj e. ok .1 .distinct i j hi hj e) in
       absurd (omega (arith, ok .2))
 
   abbrev start : ℕ
@@ -104,7 +104,7 @@ module _ (f : Step) (n c labels w : ℕ) (zero-in : 0 < n) (few : n ≤ 64) (roo
       sym (word-mem 64 q (λ (q : ℕ). any (λ (j : ℕ). eqb (getD cs j 0 % 64) q) (length cs)) hq) ∙ subst (λ (o : Option (List ℕ)). mem q (wordFound o) ≡ true) (s .1) t in
       let j = any-true (λ (j : ℕ). eqb (getD cs j 0 % 64) q) (length cs) a in
       let ok′ : Ok (closeCode f w) c 2 0 (some cs) = subst (Ok (closeCode f w) c 2 0) (s .1) ok in
-      let r = ok′ .0 .reach (j .0) (j .1) in
+      let r = ok′ .0 .all (j .0) (j .1) in
       let e : getD cs (j .0) 0 ≡ q = omega (arith, close-valid (getD cs (j .0) 0) r, eqb-true (getD cs (j .0) 0 % 64) q (j .2)) in
       subst (Reach (closeCode f w) 2 0) e r
 

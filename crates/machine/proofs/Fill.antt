@@ -5,7 +5,7 @@ use mathlib.Core.Logic.{_≢_}
 use mathlib.Core.Path.{_≡_, refl, sym, ap, _∙_, subst}
 use mathlib.Core.List.{List, [], _∷_, _++_}
 use mathlib.Core.Option.{Option, none, some}
-use native.Mathlib.Decide.{ℕ-discrete}
+use native.Mathlib.Decide.{ℕ-discrete, decLt}
 use native.Mathlib.Omega.{arith}
 use borrow.Author.Tests.{ltb-false, le-leb, lt-leb}
 use lib.Arith.{digits-lt, digits-div, digits-mod}
@@ -16,10 +16,10 @@ use lib.Seq.{getD-take, getD-set-same, getD-set-other, take-set-le, drop-set-lt,
 use Rattle.machine.specs.Explore.{Has, pick, place, insert, visit}
 use Rattle.machine.proofs.Place.{place-le, place-append, place-last}
 use Rattle.machine.proofs.Grow.{Grows, insert-grows, has-grows, visit-has}
-use Rattle.machine.specs.Table.{listed, addr, Cell, Filled, Built}
+use Rattle.machine.specs.Table.{listed, addr, Cell, Filled, Built, Noted, Visited}
 use Rattle.machine.specs.Succ.{Room}
 use Rattle.machine.specs.declared.explore.Plan.{Plan}
-use Rattle.machine.proofs.Steps.{cell-small}
+use Rattle.machine.proofs.Steps.{cell-small, put-old}
 
 pub addr-small : (c l i j : ℕ) → c ≤ 64 → l < 512 → i < 64 → j < 64 → addr c l i j < 4194304
 unfolding addr
@@ -154,3 +154,31 @@ module _ (succ : ℕ → ℕ → ℕ → ℕ) (p : Plan) (b r : Builder) (ws : L
   pub visited : b .count ≤ r .count → r .count ≤ p .c + 1
       → Built succ p b r ws (set ws (p .base + k) at) (visit succ (p .c) l i j (listed (p .c) b)) × Cell succ (p .c) (p .base) (listed (p .c) r) (set ws (p .base + k) at) l i j
   visited m n = (record { more = m; most = n; list = stepped .0; fill = stepped .1 .0 }, stepped .1 .1)
+
+-- a place that is not taken is that of a new code
+pub no-more : (p : Plan) (count at : ℕ) → count ≤ at → (p .c < count → at < count) → count ≤ p .c
+no-more p count at h passed = go (decLt (p .c) count)
+  where
+    go : Dec (p .c < count) → count ≤ p .c
+    go (yes y) = let z = passed y in omega arith
+    go (no y) = omega arith
+
+-- a code is looked up, its place written, and it is put in if it is new
+module _ (succ : ℕ → ℕ → ℕ → ℕ) (p : Plan) (b : Builder) (ws ws′ : List ℕ) (l i j x at : ℕ) (room : Room p (length ws))
+    (hl : l < p .labels) (hi : i < b .count) (hj : j < b .count) (hm : b .count ≤ p .c + 1) (full : length (b .codes) ≡ 64)
+    (ex : b .count ≤ p .c → x ≡ succ l (getD (b .codes) i 0) (getD (b .codes) j 0)) (noted : Noted p (b .codes) (b .count) l i j x at ws ws′) where
+  pub entered-old : at < b .count → Visited succ p b b ws ws′ l i j
+  entered-old h = go (decLt (p .c) (b .count))
+    where
+      go : Dec (p .c < b .count) → Visited succ p b b ws ws′ l i j
+      go (yes y) = subst (λ (v : List ℕ). Visited succ p b b ws v l i j) (sym (noted .passed y .1)) (passed succ p b ws l i j y hm)
+      go (no y) =
+          let hc : b .count ≤ p .c = omega arith in
+          rw (noted .written hc)
+          (visited succ p b b ws l i j x at (addr (p .c) l i j) room hl hi hj hc full (ex hc) (noted .found hc)
+          (put-old (p .c) x (b .count) (b .codes) full (room .ceiling) hc (omega (arith, noted .found hc))) refl (omega arith) (omega arith))
+
+  pub entered-new : (r : Builder) → b .count ≤ at → (b .count ≤ r .count) × (r .count ≤ p .c + 1) × (listed (p .c) r ≡ insert (p .c) x (take (b .count) (b .codes))) → Visited succ p b r ws ws′ l i j
+  entered-new r h e =
+      let hc = no-more p (b .count) at h (λ y. noted .passed y .0) in
+      rw (noted .written hc) (visited succ p b r ws l i j x at (addr (p .c) l i j) room hl hi hj hc full (ex hc) (noted .found hc) (e .2) refl (e .0) (e .1))

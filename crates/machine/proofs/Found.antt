@@ -12,14 +12,10 @@ use borrow.Author.Tests.{ltb-true, ltb-false}
 use lib.ListN.{length, getD, length-append, List·getD-append}
 use lib.Seq.{getD-append-seam}
 use lib.Dec.{ltb}
-use Rattle.machine.specs.Explore.{Has, pick, place, insert, visit, row, ring, next, grow, explore, found}
+use Rattle.machine.specs.Explore.{Distinct, Has, pick, place, insert, visit, row, ring, next, grow, explore, found}
 use Rattle.machine.proofs.Place.{place-at, place-in}
 use Rattle.machine.proofs.Pigeon.{pigeon}
-use Rattle.machine.proofs.Grow.{Long, long-grows, row-grows, visit-grows, ring-grows, grow-has}
-
--- no code stands twice
-abbrev pub Distinct : List ℕ → Type 0
-Distinct cs = (i j : ℕ) → i < length cs → j < length cs → getD cs i 0 ≡ getD cs j 0 → i ≡ j
+use Rattle.machine.proofs.Grow.{Grows, Long, long-down, long-grows, row-grows, visit-grows, ring-grows, grow-grows, grow-has}
 
 -- what is reachable from the start by successors under the labels below m
 pub data Reach (succ : ℕ → ℕ → ℕ → ℕ) (labels start : ℕ) : ℕ → Type 0 where
@@ -53,82 +49,94 @@ all-last P x cs all here i h =
     (λ (l : i < length cs). subst P (sym (List·getD-append cs (x ∷ []) 0 i l)) (all i l))
     (eq-or-lt-of-le (omega (arith, length-append cs (x ∷ []))))
 
-module _ (succ : ℕ → ℕ → ℕ → ℕ) (c labels start : ℕ) where
-  -- distinct reachable codes
-  pub record Codes (cs : List ℕ) : Type 0 where
-    pub distinct : Distinct cs
-    pub reach : (i : ℕ) → i < length cs → Reach succ labels start (getD cs i 0)
+-- distinct codes, of each of which P holds
+pub record Codes (P : ℕ → Type 0) (cs : List ℕ) : Type 0 where
+  pub distinct : Distinct cs
+  pub all : (i : ℕ) → i < length cs → P (getD cs i 0)
 
+-- a list of one code
+pub one-code : (P : ℕ → Type 0) (x : ℕ) → P x → Codes P (x ∷ [])
+one-code P x p = record { distinct = λ i j hi hj e. omega arith; all = one }
+  where
+    one : (i : ℕ) → i < 1 → P (getD (x ∷ []) i 0)
+    one zero h = p
+    one (suc i) h = absurd (not-suc-le-zero (le-of-suc-le-suc h))
+
+module _ (succ : ℕ → ℕ → ℕ → ℕ) (c labels : ℕ) (P : ℕ → Type 0) (closed : (l a b : ℕ) → l < labels → P a → P b → P (succ l a b)) where
   -- the list so far is good, or there is a list of c + 1 such codes
-  abbrev pub Ok : Option (List ℕ) → Type 0
-  Ok none = (cs : List ℕ) × Codes cs × (length cs ≡ suc c)
-  Ok (some cs) = Codes cs × (length cs ≤ c) × (0 < length cs) × (getD cs 0 0 ≡ start)
+  abbrev pub Good : Option (List ℕ) → Type 0
+  Good none = (cs : List ℕ) × Codes P cs × (length cs ≡ suc c)
+  Good (some cs) = Codes P cs × (length cs ≤ c)
 
-  insert-ok : (x : ℕ) (cs : List ℕ) → Ok (some cs) → Reach succ labels start x → Ok (insert c x cs)
+  insert-good : (x : ℕ) (cs : List ℕ) → Good (some cs) → P x → Good (insert c x cs)
   unfolding insert
-  insert-ok x cs ok r = go (ltb (place x cs) (length cs)) (ltb (length cs) c) refl refl
+  insert-good x cs ok r = go (ltb (place x cs) (length cs)) (ltb (length cs) c) refl refl
     where
-      more : length cs ≤ place x cs → Codes (cs ++ (x ∷ []))
-      more h = record { distinct = distinct-last x cs (ok .0 .distinct) h; reach = all-last (Reach succ labels start) x cs (ok .0 .reach) r }
+      more : length cs ≤ place x cs → Codes P (cs ++ (x ∷ []))
+      more h = record { distinct = distinct-last x cs (ok .0 .distinct) h; all = all-last P x cs (ok .0 .all) r }
 
-      go : (a b : Bool) → ltb (place x cs) (length cs) ≡ a → ltb (length cs) c ≡ b → Ok (pick a (some cs) (pick b (some (cs ++ (x ∷ []))) none))
+      go : (a b : Bool) → ltb (place x cs) (length cs) ≡ a → ltb (length cs) c ≡ b → Good (pick a (some cs) (pick b (some (cs ++ (x ∷ []))) none))
       go true b e f = ok
       go false true e f =
           let n = length-append cs (x ∷ []) in
           let h = ltb-true (length cs) c f in
-          (more (ltb-false _ _ e), omega (arith, ok .1), omega (arith, ok .1), List·getD-append cs (x ∷ []) 0 0 (ok .2) ∙ ok .3)
+          (more (ltb-false _ _ e), omega (arith, ok .1))
       go false false e f =
           let h = ltb-false (length cs) c f in
           (cs ++ (x ∷ []), more (ltb-false _ _ e), omega (arith, length-append cs (x ∷ []), ok .1))
 
-  pub visit-ok : (l i j : ℕ) (o : Option (List ℕ)) → l < labels → Long i o → Long j o → Ok o → Ok (visit succ c l i j o)
+  pub visit-good : (l i j : ℕ) (o : Option (List ℕ)) → l < labels → Long i o → Long j o → Good o → Good (visit succ c l i j o)
   unfolding visit
-  visit-ok l i j none hl hi hj ok = ok
-  visit-ok l i j (some cs) hl hi hj ok = insert-ok _ cs ok (by-step l (getD cs i 0) (getD cs j 0) hl (ok .0 .reach i hi) (ok .0 .reach j hj))
+  visit-good l i j none hl hi hj ok = ok
+  visit-good l i j (some cs) hl hi hj ok = insert-good _ cs ok (closed l (getD cs i 0) (getD cs j 0) hl (ok .0 .all i hi) (ok .0 .all j hj))
 
-  pub row-ok : (l k m : ℕ) (o : Option (List ℕ)) → l < labels → m ≤ suc k → Long k o → Ok o → Ok (row succ c l k m o)
+  pub row-good : (l k m : ℕ) (o : Option (List ℕ)) → l < labels → m ≤ suc k → Long k o → Good o → Good (row succ c l k m o)
   unfolding row
-  row-ok l k zero o hl h hk ok = ok
-  row-ok l k (suc m) o hl h hk ok =
+  row-good l k zero o hl h hk ok = ok
+  row-good l k (suc m) o hl h hk ok =
       let r = row succ c l k m o in
       let s = visit succ c l m k r in
       let rk : Long k r = long-grows k o r (row-grows succ c l k m o) hk in
       let rm : Long m r = long-down m k r (le-of-suc-le-suc h) rk in
       let sk = long-grows k r s (visit-grows succ c l m k r) rk in
       let sm = long-grows m r s (visit-grows succ c l m k r) rm in
-      visit-ok l k m s hl sk sm (visit-ok l m k r hl rm rk (row-ok l k m o hl (omega arith) hk ok))
-    where
-      long-down : (m k : ℕ) (o : Option (List ℕ)) → m ≤ k → Long k o → Long m o
-      long-down m k none h l = tt
-      long-down m k (some cs) h l = omega arith
+      visit-good l k m s hl sk sm (visit-good l m k r hl rm rk (row-good l k m o hl (omega arith) hk ok))
 
-  pub ring-ok : (k m : ℕ) (o : Option (List ℕ)) → m ≤ labels → Long k o → Ok o → Ok (ring succ c k m o)
+  pub ring-good : (k m : ℕ) (o : Option (List ℕ)) → m ≤ labels → Long k o → Good o → Good (ring succ c k m o)
   unfolding ring
-  ring-ok k zero o h hk ok = ok
-  ring-ok k (suc l) o h hk ok =
-      row-ok l k (suc k) (ring succ c k l o) (omega arith) (omega arith) (long-grows k o (ring succ c k l o) (ring-grows succ c k l o) hk)
-      (ring-ok k l o (omega arith) hk ok)
+  ring-good k zero o h hk ok = ok
+  ring-good k (suc l) o h hk ok =
+      row-good l k (suc k) (ring succ c k l o) (omega arith) (omega arith) (long-grows k o (ring succ c k l o) (ring-grows succ c k l o) hk)
+      (ring-good k l o (omega arith) hk ok)
 
-  pub grow-ok : (k : ℕ) (o : Option (List ℕ)) → Ok o → Ok (grow succ c labels k o)
+  pub grow-good : (k : ℕ) (o : Option (List ℕ)) → Good o → Good (grow succ c labels k o)
   unfolding grow next
-  grow-ok zero o ok = ok
-  grow-ok (suc k) o ok = from (grow succ c labels k o) (grow-ok k o ok)
+  grow-good zero o ok = ok
+  grow-good (suc k) o ok = from (grow succ c labels k o) (grow-good k o ok)
     where
-      from : (p : Option (List ℕ)) → Ok p → Ok (next succ c labels k p)
+      from : (p : Option (List ℕ)) → Good p → Good (next succ c labels k p)
       from none ok = ok
       from (some cs) ok = go (ltb k (length cs)) refl
         where
-          go : (t : Bool) → ltb k (length cs) ≡ t → Ok (pick t (ring succ c k labels (some cs)) (some cs))
+          go : (t : Bool) → ltb k (length cs) ≡ t → Good (pick t (ring succ c k labels (some cs)) (some cs))
           go false e = ok
-          go true e = ring-ok k labels (some cs) (omega arith) (ltb-true k (length cs) e) ok
+          go true e = ring-good k labels (some cs) (omega arith) (ltb-true k (length cs) e) ok
+
+module _ (succ : ℕ → ℕ → ℕ → ℕ) (c labels start : ℕ) where
+  -- what exploration gives: reachable codes, the start first, or c + 1 of them
+  abbrev pub Ok : Option (List ℕ) → Type 0
+  Ok none = (cs : List ℕ) × Codes (Reach succ labels start) cs × (length cs ≡ suc c)
+  Ok (some cs) = Codes (Reach succ labels start) cs × (length cs ≤ c) × (0 < length cs) × (getD cs 0 0 ≡ start)
 
   pub explore-ok : 0 < c → Ok (explore succ c labels start)
   unfolding explore
-  explore-ok h = grow-ok c (some (start ∷ [])) (record { distinct = λ i j hi hj e. omega arith; reach = one }, h, omega arith, refl)
+  explore-ok h =
+      go (grow succ c labels c (some (start ∷ []))) (grow-grows succ c labels c (some (start ∷ [])))
+      (grow-good succ c labels (Reach succ labels start) by-step c (some (start ∷ [])) (one-code (Reach succ labels start) start at-start, h))
     where
-      one : (i : ℕ) → i < 1 → Reach succ labels start (getD (start ∷ []) i 0)
-      one zero h = at-start
-      one (suc i) h = absurd (not-suc-le-zero (le-of-suc-le-suc h))
+      go : (o : Option (List ℕ)) → Grows (some (start ∷ [])) o → Good succ c labels (Reach succ labels start) by-step o → Ok o
+      go none g ok = ok
+      go (some cs) g ok = (ok .0, ok .1, omega (arith, ap length (g .1)), ap (λ (l : List ℕ). getD l 0 0) (g .1))
 
   -- every successor of codes that were found was found
   unfoldable pub Closed : List ℕ → Type 0
@@ -153,14 +161,14 @@ module _ (succ : ℕ → ℕ → ℕ → ℕ) (c labels start : ℕ) where
       rw (place-at a cs pa, place-at b cs pb) at (cl l (place a cs) (place b cs) hl pa pb)
 
   -- no list of distinct reachable codes is longer
-  pub most : (cs : List ℕ) → Ok (some cs) → Closed cs → (ds : List ℕ) → Codes ds → length ds ≤ length cs
+  pub most : (cs : List ℕ) → Ok (some cs) → Closed cs → (ds : List ℕ) → Codes (Reach succ labels start) ds → length ds ≤ length cs
   most cs ok cl ds d = pigeon (length cs) (length ds) at at-in at-one
     where
       at : ℕ → ℕ
       at i = place (getD ds i 0) cs
 
       at-in : (i : ℕ) → i < length ds → at i < length cs
-      at-in i h = complete cs ok cl (getD ds i 0) (d .reach i h)
+      at-in i h = complete cs ok cl (getD ds i 0) (d .all i h)
 
       at-one : (i j : ℕ) → i < length ds → j < length ds → at i ≡ at j → i ≡ j
       at-one i j hi hj e =
@@ -168,10 +176,10 @@ module _ (succ : ℕ → ℕ → ℕ → ℕ) (c labels start : ℕ) where
           (sym (place-at (getD ds i 0) cs (at-in i hi)) ∙ ap (λ (n : ℕ). getD cs n 0) e ∙ place-at (getD ds j 0) cs (at-in j hj))
 
   -- exploration gives up exactly if there are c + 1 distinct reachable codes
-  pub too-many : 0 < c → (explore succ c labels start ≡ none) ↔ ((ds : List ℕ) × Codes ds × (length ds ≡ suc c))
+  pub too-many : 0 < c → (explore succ c labels start ≡ none) ↔ ((ds : List ℕ) × Codes (Reach succ labels start) ds × (length ds ≡ suc c))
   too-many h = (λ e. subst Ok e (explore-ok h), λ d. go d (explore succ c labels start) refl)
     where
-      go : ((ds : List ℕ) × Codes ds × (length ds ≡ suc c)) → (o : Option (List ℕ)) → explore succ c labels start ≡ o → explore succ c labels start ≡ none
+      go : ((ds : List ℕ) × Codes (Reach succ labels start) ds × (length ds ≡ suc c)) → (o : Option (List ℕ)) → explore succ c labels start ≡ o → explore succ c labels start ≡ none
       go d none e = e
       go d (some cs) e =
           let ok : Ok (some cs) = subst Ok e (explore-ok h) in

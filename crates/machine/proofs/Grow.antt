@@ -39,6 +39,10 @@ long-grows i o none g h = tt
 long-grows i none (some ds) g h = absurd g
 long-grows i (some cs) (some ds) g h = omega (arith, ap length (g .1), length-append cs (g .0))
 
+pub long-down : (m k : ℕ) (o : Option (List ℕ)) → m ≤ k → Long k o → Long m o
+long-down m k none h l = tt
+long-down m k (some cs) h l = omega arith
+
 module _ (succ : ℕ → ℕ → ℕ → ℕ) where
   pub has-append : (l i j : ℕ) (cs ys : List ℕ) → Has succ l i j (some cs) → Has succ l i j (some (cs ++ ys))
   has-append l i j cs ys h =
@@ -102,6 +106,11 @@ module _ (succ : ℕ → ℕ → ℕ → ℕ) (c : ℕ) where
       go true = ring-grows k m (some cs)
       go false = grows-refl (some cs)
 
+  pub grow-grows : (m k : ℕ) (o : Option (List ℕ)) → Grows o (grow succ c m k o)
+  unfolding grow
+  grow-grows m zero o = grows-refl o
+  grow-grows m (suc k) o = grows-trans o (grow succ c m k o) (next succ c m k (grow succ c m k o)) (grow-grows m k o) (next-grows m k (grow succ c m k o))
+
   -- what is visited is there
   pub visit-has : (l i j : ℕ) (o : Option (List ℕ)) → Long i o → Long j o → Has succ l i j (visit succ c l i j o)
   unfolding visit
@@ -138,10 +147,6 @@ module _ (succ : ℕ → ℕ → ℕ → ℕ) (c : ℕ) where
       (has-grows succ l m k s t (visit-grows l k m s) (visit-has l m k r rm rk), visit-has l k m s sk sm))
       (λ (lt : i < m). (has-grows succ l i k r t gt (old i lt .0), has-grows succ l k i r t gt (old i lt .1)))
       (eq-or-lt-of-le (le-of-suc-le-suc hi))
-    where
-      long-down : (m k : ℕ) (o : Option (List ℕ)) → m ≤ k → Long k o → Long m o
-      long-down m k none h l = tt
-      long-down m k (some cs) h l = omega arith
 
   pub ring-has : (k m : ℕ) (o : Option (List ℕ)) → Long k o → (l i : ℕ) → l < m → i ≤ k → Has succ l i k (ring succ c k m o) × Has succ l k i (ring succ c k m o)
   unfolding ring

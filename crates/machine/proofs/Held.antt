@@ -134,14 +134,14 @@ module _ (c labels n m wx wy : ℕ) (e f d g : Step) (top : c ≤ 64) (pos : 0 <
       sym (word-mem 64 i (λ (q : ℕ). any (λ (j : ℕ). eqb (getD cs j 0 % 64) q) (length cs)) hi) ∙ t in
       let j = any-true (λ (j : ℕ). eqb (getD cs j 0 % 64) i) (length cs) a in
       let v : getD cs (j .0) 0 < n =
-      reach-valid (closeCode e wx) (closeCode f wx) c 2 0 (λ (x : ℕ). x < n) zero-in close-step (getD cs (j .0) 0) (ok .0 .reach (j .0) (j .1)) in
+      reach-valid (closeCode e wx) (closeCode f wx) c 2 0 (λ (x : ℕ). x < n) zero-in close-step (getD cs (j .0) 0) (ok .0 .all (j .0) (j .1)) in
       omega (arith, eqb-true (getD cs (j .0) 0 % 64) i (j .2))
 
   start-same : (k : Kind) → startCode k e wx c ≡ startCode k f wx c
   unfolding startCode
   start-same k = ap (λ (o : Option (List ℕ)). startBy k (wordFound o)) close-same
 
-  start-valid : (k : Kind) → Valid k n m (startCode k e wx c)
+  pub start-valid : (k : Kind) → Valid k n m (startCode k e wx c)
   unfolding startCode
   start-valid Subset = tt
   start-valid Single = tt
@@ -168,7 +168,7 @@ module _ (c labels n m wx wy : ℕ) (e f d g : Step) (top : c ≤ 64) (pos : 0 <
   steps-same k cs h l i j hl hi hj =
       let ok : Ok (kindCode k e d wx wy) c labels (startCode k e wx c) (some cs) = subst (Ok (kindCode k e d wx wy) c labels (startCode k e wx c)) h (explore-ok (kindCode k e d wx wy) c labels (startCode k e wx c) pos) in
       let valid : (i : ℕ) → i < length cs → Valid k n m (getD cs i 0) =
-      λ i hi. reach-valid (kindCode k e d wx wy) (kindCode k f g wx wy) c labels (startCode k e wx c) (Valid k n m) (start-valid k) (kind-step k) (getD cs i 0) (ok .0 .reach i hi) in
+      λ i hi. reach-valid (kindCode k e d wx wy) (kindCode k f g wx wy) c labels (startCode k e wx c) (Valid k n m) (start-valid k) (kind-step k) (getD cs i 0) (ok .0 .all i hi) in
       ap (λ (x : ℕ). Rattle.machine.specs.Explore.place x cs) (kind-step k l (getD cs i 0) (getD cs j 0) hl (valid i hi) (valid j hj) .0)
 
 -- ---- a record's parts, by its kind: the tables e and d hold the steps f and g

@@ -7,6 +7,7 @@ pub mod Exists
 pub mod Fill
 pub mod Found
 pub mod Grow
+pub mod Guide
 pub mod Held
 pub mod Labels
 pub mod Loops

@@ -10,6 +10,7 @@ use lib.Bits.{bitOr, bitAnd, and-le-l}
 use lib.Count.{ones, onesIn, ones-step, trailingZeros}
 use lib.Dec.{eqb, ltb, eqb·zero-suc, eqb·suc-zero, eqb·suc-suc}
 use lib.Pow.{pow-lt}
+use Rattle.machine.specs.Rows.{Below}
 use Rattle.machine.specs.Word.{mem, any, Smallest, Without}
 use Rattle.machine.proofs.Any.{any-in, any-skip, any-first}
 use Rattle.machine.proofs.WordLaws.{mem-zero, mem-shr, mem-or, mem-one, mem-trailing, not-below, mem-and}
@@ -163,3 +164,7 @@ accept-same i q A R t e = go (eqb i q) refl
         let z : A q ≡ false = ap A (sym s) ∙ t in
         e ∙ ap (λ (b : Bool). ltb q i && b) z ∙ and-false (ltb q i) ∙ sym (ap (λ (b : Bool). ltb q (i + 1) && b) z ∙ and-false (ltb q (i + 1)))
     go false f = e ∙ ap (λ (b : Bool). b && A q) (same-ltb i q (eqb-false i q f))
+
+-- a set without one of its members has no new one
+pub below-without : (n x q r : ℕ) → Below n x → Without x q r → Below n r
+below-without n x q r b o t h m = b t h (o .same t ∙ ap (λ (u : Bool). eqb q t || u) m ∙ or-true (eqb q t))

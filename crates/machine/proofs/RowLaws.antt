@@ -1,20 +1,21 @@
 -- The rows of "exists": their filling, and the successors that their unions are. Assumes nothing.
-use Prim.Native.Nat.{ℕ, _+_, _-_, _<_}
+use Prim.Native.Nat.{ℕ, _+_, _-_, _*_, _≤_, _<_}
 use mathlib.Core.Bool.{Bool, true, false, _&&_, _||_}
 use mathlib.Core.List.{List}
 use mathlib.Core.Path.{_≡_, sym, ap, _∙_}
 use native.Mathlib.Decide.{ℕ-discrete}
+use native.Mathlib.Nat.{mul-le-mul-right}
 use native.Mathlib.Omega.{arith}
+use borrow.Author.Count.{below-more}
 use borrow.Author.Tests.{ne-eqb}
 use lib.Count.{ones}
 use lib.ListN.{length, getD, set, length-set}
 use lib.Seq.{getD-set-same, getD-set-other}
-use Rattle.machine.specs.Rows.{hitColumn, unionOf, Follows, Serves}
+use Rattle.machine.specs.Rows.{Below, hitColumn, unionOf, Follows, Serves}
 use Rattle.machine.specs.Succ.{Step, through, off, on, hit, hitRow, hitSet, existsCode}
 use Rattle.machine.specs.Table.{seen}
-use Rattle.machine.specs.declared.explore.Kind.the-variants.{Exists}
 use Rattle.machine.specs.Word.{mem, any, Without}
-use Rattle.machine.proofs.Any.{and-cong, any-cong, any-in, any-swap}
+use Rattle.machine.proofs.Any.{and-cong, any-cong, any-in, any-swap, any-true}
 use Rattle.machine.proofs.Members.{none-in}
 use Rattle.machine.proofs.WordLaws.{word-cong}
 
@@ -78,11 +79,48 @@ module _ (f : Step) (w l s seen : ℕ) (left right : List ℕ) (rows : (t : ℕ)
       (λ t h. and-cong (mem t x) (mem q (getD left t 0)) (any (hitColumn f (off w l) (on w l) s q t) 64) (λ m. rows t (within t m) .after q))
       ∙ any-swap 64 64 (λ (t : ℕ). mem t x) (λ (i : ℕ). mem i s) (λ t i. hit f (off w l) (on w l) q i t)
 
--- the rows of set k serve each set up to k
-pub serves : (f : Step) (w l : ℕ) (sets : List ℕ) (k seen : ℕ) (left right : List ℕ)
+-- the unions of the rows of set k are the successors of set k and each set up to it
+pub serves : (f : Step) (w l : ℕ) (sets : List ℕ) (k seen : ℕ) (lefts rights left right : List ℕ)
     → ((q : ℕ) → mem q seen ≡ any (λ (i : ℕ). mem q (getD sets i 0)) (k + 1))
-    → ((t : ℕ) → mem t seen ≡ true → Follows f (off w l) (on w l) (getD sets k 0) t left right) → Serves Exists f w l sets k left right
-serves f w l sets k seen left right all rows i h =
+    → ((t : ℕ) → mem t seen ≡ true → Follows f (off w l) (on w l) (getD sets k 0) t lefts rights)
+    → ((i : ℕ) → i ≤ k → (getD right i 0 ≡ unionOf rights (getD sets i 0)) × (getD left i 0 ≡ unionOf lefts (getD sets i 0)))
+    → Serves (existsCode f w) l sets k left right
+serves f w l sets k seen lefts rights left right all rows is i h =
     let within : (t : ℕ) → mem t (getD sets i 0) ≡ true → mem t seen ≡ true =
-    λ t m. all t ∙ any-in (λ (j : ℕ). mem t (getD sets j 0)) (k + 1) i (omega arith) m in
-    (right-is f w l (getD sets k 0) seen left right rows (getD sets i 0) within, left-is f w l (getD sets k 0) seen left right rows (getD sets i 0) within)
+    λ t m. all t ∙ any-in (λ (j : ℕ). mem t (getD sets j 0)) (k + 1) i (omega arith) m in (
+      is i h .0 ∙ right-is f w l (getD sets k 0) seen lefts rights rows (getD sets i 0) within,
+      is i h .1 ∙ left-is f w l (getD sets k 0) seen lefts rights rows (getD sets i 0) within,
+    )
+
+-- no member of the sets up to k is missed
+pub joined-below : (n : ℕ) (sets : List ℕ) (k seen : ℕ) → ((q : ℕ) → mem q seen ≡ any (λ (i : ℕ). mem q (getD sets i 0)) (k + 1))
+    → ((i : ℕ) → i ≤ k → Below n (getD sets i 0)) → Below n seen
+joined-below n sets k seen all below q h m =
+    let i = any-true (λ (i : ℕ). mem q (getD sets i 0)) (k + 1) (sym (all q) ∙ m) in
+    below (i .0) (omega (arith, i .1)) q h (i .2)
+
+-- two arrays, whose first n words are given
+pub record Written (F G : ℕ → ℕ) (n : ℕ) (left right : List ℕ) : Type 0 where
+  pub long-left : length left ≡ 64
+  pub long-right : length right ≡ 64
+  pub done : (i : ℕ) → i < n → (getD right i 0 ≡ F i) × (getD left i 0 ≡ G i)
+
+pub written-first : (F G : ℕ → ℕ) (left right : List ℕ) → length left ≡ 64 → length right ≡ 64 → Written F G 0 left right
+written-first F G left right hl hr = record { long-left = hl; long-right = hr; done = λ i h. absurd (omega arith) }
+
+pub written-next : (F G : ℕ → ℕ) (n : ℕ) (left right : List ℕ) (x y : ℕ) → n < 64 → Written F G n left right → x ≡ F n → y ≡ G n → Written F G (n + 1) (set left n y) (set right n x)
+written-next F G n left right x y h w ex ey = record {
+  long-left = length-set left n y ∙ w .long-left;
+  long-right = length-set right n x ∙ w .long-right;
+  done = below-more (λ (i : ℕ). (getD (set right n x) i 0 ≡ F i) × (getD (set left n y) i 0 ≡ G i)) n
+      (λ i hi.
+      let far : i ≡ n → ⊥ = λ e. omega arith in
+      (getD-set-other right n i x 0 far ∙ w .done i hi .0, getD-set-other left n i y 0 far ∙ w .done i hi .1))
+      (getD-set-same right n x 0 (omega (arith, w .long-right)) ∙ ex, getD-set-same left n y 0 (omega (arith, w .long-left)) ∙ ey);
+}
+
+-- the entries of an earlier label lie before those of a later one
+pub share-below : (a c m n z : ℕ) → m ≤ n → a + n * c * c + c * c ≤ z → a + m * c * c + c * c ≤ z
+share-below a c m n z h s =
+    let p : m * c * c ≤ n * c * c = mul-le-mul-right c (mul-le-mul-right c h) in
+    omega arith

@@ -11,13 +11,14 @@ use lib.Arith.{digits-lt}
 use lib.ListN.{length, getD, take, drop, set, length-append, List·getD-append}
 use lib.Seq.{getD-take, getD-set-same, getD-set-other, getD-append-seam, length-take-le}
 use Rattle.machine.specs.Explore.{upTo, explore, place}
+use Rattle.machine.specs.Rows.{Inside, Led}
 use Rattle.machine.specs.Table.{seen, listed, addr, Cell, Explored}
 use Rattle.machine.specs.Succ.{Room, entry, through, notCode, kindCode, successorOf, succIn, startOf, existsStart}
 use Rattle.machine.specs.Machine.{startCode, codesOf, stepOf, acceptBy, acceptOf, Holds}
 use Rattle.machine.proofs.Found.{Ok, explore-ok}
 use Rattle.machine.proofs.Order.{order}
 use Rattle.machine.proofs.Held.{Part, Parts, Same, record-same}
-use Rattle.machine.specs.Rule.{Mach, noMach, Outcome, built, over, machFrom, after, planOf, Fits, Before, Sound, At, Made}
+use Rattle.machine.specs.Rule.{Mach, noMach, Outcome, built, over, machFrom, after, planOf, Fits, Before, Sound, At, Made, SomeMade}
 use Rattle.machine.specs.declared.explore.Kind.{Kind}
 use Rattle.machine.specs.declared.explore.Kind.the-variants.{Subset, Single, Child1, Child2, Root, Not, Or, And, Exists, Close}
 use Rattle.machine.specs.declared.explore.Plan.{Plan}
@@ -60,6 +61,9 @@ pub made-over : (x : Decoded) (c labels r : ℕ) (s : Machines) (ws ws′ : List
 unfolding after
 made-over x c labels r s ws ws′ h (over k) m = m
 made-over x c labels r s ws ws′ h (built ms) m = absurd (omega (arith, m .0))
+
+pub next-share : (r m s : ℕ) → r < m → r * s + s ≤ m * s
+next-share r m s h = subst (λ (n : ℕ). n ≤ m * s) (suc-mul r s) (mul-le-mul-right s h)
 
 -- the accepting states go by those of the parts that the kind has
 accept-parts : (k : Kind) (x y r a b a′ b′ : ℕ) (cs : List ℕ) → Before k x y r → (x < r → a ≡ a′) → (y < r → b ≡ b′) → acceptOf k a b cs ≡ acceptOf k a′ b′ cs
@@ -132,6 +136,20 @@ module _ (x : Decoded) (r c labels : ℕ) (s : Machines) (ws : List ℕ) (ms : L
   same =
       record-same (x .wx) (x .wy) c labels (length (f .codes)) (length (g .codes)) (through look₁ (entry low c (x .first * share))) (f .step) (through look₂ (entry low c (x .second * share))) (g .step)
       (fits .ceiling) (fits .some-state) (sound .bit) (x .kind) (parts-of (x .kind) (sound .before))
+
+  -- the table of the part of an "exists" lies before the share, and leads to the part's states
+  pub inside-of : x .kind ≡ Exists → Inside low plan (length (f .codes))
+  unfolding through
+  inside-of e =
+      let h : x .first < r = subst (λ (k : Kind). Before k (x .first) (x .second) r) e (sound .before) in
+      let p = part-at (x .first) h in
+      record {
+        some-state = p .zero-in;
+        few = made (x .first) h .few;
+        share = omega (arith, next-share (x .first) r share h, length-take-le (r * share) ws (omega (arith, fits .share)));
+        bit = sound .bit;
+        stays = λ l i j hl hi hj. let s = p .same l i j hl hi hj in omega (arith, s .0, s .1);
+      }
 
   -- the exploration from the tables
   from-tables : explore (successorOf low plan) c labels (startOf low plan)
@@ -272,5 +290,11 @@ module _ (x : Decoded) (r c labels : ℕ) (s t : Machines) (ws ws′ : List ℕ)
   after-more full few ec ea el wide wide′ wide″ ov (built ms) m =
       made-more x r c labels s ws ms fits sound (m .2) b ws′ done′ full few t ec ea (el ∙ ap (λ (p : Plan). set (s .looks) r (p .looks)) is-plan) wide wide′ wide″ (m .1) (ov ∙ m .0)
 
-pub next-share : (r m s : ℕ) → r < m → r * s + s ≤ m * s
-next-share r m s h = subst (λ (n : ℕ). n ≤ m * s) (suc-mul r s) (mul-le-mul-right s h)
+-- what an "exists" needs of its part
+pub led-of : (x : Decoded) (r c labels : ℕ) (s : Machines) (ws : List ℕ) → Fits x r c labels (length ws) → Sound x r labels → 128 ≤ s .over → SomeMade c labels r s ws
+    → Led (take (r * (labels * c * c)) ws) (planOf x r c labels (getD (s .looks) (x .first) 0) (getD (s .looks) (x .second) 0))
+led-of x r c labels s ws fits sound none-over h e = go (h .0) (h .1)
+  where
+    go : (o : Outcome) → Made o c labels r s ws → (n : ℕ) × Inside (take (r * (labels * c * c)) ws) (planOf x r c labels (getD (s .looks) (x .first) 0) (getD (s .looks) (x .second) 0)) n
+    go (over k) m = absurd (omega (arith, m .0, m .1))
+    go (built ms) m = (length (getD ms (x .first) noMach .codes), inside-of x r c labels s ws ms fits sound (m .2) e)

@@ -5,6 +5,7 @@ use Prim.Native.Nat.{ℕ, zero, suc, _<_}
 use mathlib.Core.Bool.{Bool, true, false}
 use mathlib.Core.List.{List, [], _∷_, _++_}
 use mathlib.Core.Option.{Option, none, some}
+use mathlib.Core.Path.{_≡_}
 use lib.ListN.{length, getD}
 use lib.Dec.{ltb, eqb}
 
@@ -26,6 +27,10 @@ upTo (suc n) = upTo n ++ (n ∷ [])
 -- the list with x in it: as it is where x stands there, else with x put last. None where x is new and there are c codes already
 unfoldable pub insert : ℕ → ℕ → List ℕ → Option (List ℕ)
 insert c x cs = pick (ltb (place x cs) (length cs)) (some cs) (pick (ltb (length cs) c) (some (cs ++ (x ∷ []))) none)
+
+-- no code stands twice
+abbrev pub Distinct : List ℕ → Type 0
+Distinct cs = (i j : ℕ) → i < length cs → j < length cs → getD cs i 0 ≡ getD cs j 0 → i ≡ j
 
 -- what a test of a found list gives
 abbrev pub found : Option (List ℕ) → (List ℕ → Option (List ℕ)) → Option (List ℕ)

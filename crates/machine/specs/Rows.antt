@@ -1,13 +1,19 @@
--- The rows from which "exists" takes its successors. Document 01, "Machines": "At a node it collects all steps with the bound bit 0 or 1."
+-- The successors of a new code and the codes before it, and for "exists" what they are the unions of. Document 01, "Machines": "At a node
+-- it collects all steps with the bound bit 0 or 1."
 -- Assumes nothing.
-use Prim.Native.Nat.{ℕ, _≤_}
-use mathlib.Core.Bool.{Bool, _&&_}
+use Prim.Native.Nat.{ℕ, _+_, _*_, _≤_, _<_}
+use mathlib.Core.Bool.{Bool, true, _&&_}
 use mathlib.Core.List.{List}
+use mathlib.Core.Option.{Option, none, some}
 use mathlib.Core.Path.{_≡_}
-use lib.ListN.{getD}
-use Rattle.machine.specs.Succ.{Step, hit, hitRow, existsCode}
+use lib.ListN.{length, getD}
+use Rattle.machine.specs.Explore.{Distinct}
+use Rattle.machine.specs.Table.{seen}
+use Rattle.machine.specs.Machine.{Bit}
+use Rattle.machine.specs.Succ.{Step, entry, on, hit, hitRow}
 use Rattle.machine.specs.Word.{mem, any, wordOf}
 use Rattle.machine.specs.declared.explore.Kind.{Kind}
+use Rattle.machine.specs.declared.explore.Plan.{Plan}
 use Rattle.machine.specs.declared.explore.Kind.the-variants.{Subset, Single, Child1, Child2, Root, Not, Or, And, Exists, Close}
 
 -- does state q follow an i that is a member of x and state j under the label l or m
@@ -23,21 +29,46 @@ pub record Follows (f : Step) (l m s t : ℕ) (left right : List ℕ) : Type 0 w
   pub after : (q : ℕ) → mem q (getD left t 0) ≡ any (hitColumn f l m s q t) 64
   pub before : (q : ℕ) → mem q (getD right t 0) ≡ any (hitRow f l m s q t) 64
 
--- for "exists", the successor of x and y is the union of what a row has at the members of z; any other kind needs no row
-abbrev pub GivenBy : Kind → Step → ℕ → ℕ → ℕ → ℕ → List ℕ → ℕ → Type 0
-GivenBy Subset f w l x y row z = Unit {0}
-GivenBy Single f w l x y row z = Unit {0}
-GivenBy Child1 f w l x y row z = Unit {0}
-GivenBy Child2 f w l x y row z = Unit {0}
-GivenBy Root f w l x y row z = Unit {0}
-GivenBy Not f w l x y row z = Unit {0}
-GivenBy Or f w l x y row z = Unit {0}
-GivenBy And f w l x y row z = Unit {0}
-GivenBy Exists f w l x y row z = unionOf row z ≡ existsCode f w l x y
-GivenBy Close f w l x y row z = Unit {0}
+-- the rows have the successors of code k and each code up to it, on either side
+abbrev pub Serves : (ℕ → ℕ → ℕ → ℕ) → ℕ → List ℕ → ℕ → List ℕ → List ℕ → Type 0
+Serves succ l codes k left right =
+    (i : ℕ) → i ≤ k → (getD right i 0 ≡ succ l (getD codes i 0) (getD codes k 0)) × (getD left i 0 ≡ succ l (getD codes k 0) (getD codes i 0))
 
--- the rows give the successors of code k and each code up to it, on either side
-abbrev pub Serves : Kind → Step → ℕ → ℕ → List ℕ → ℕ → List ℕ → List ℕ → Type 0
-Serves kind f w l codes k left right =
-    (i : ℕ) → i ≤ k
-    → GivenBy kind f w l (getD codes i 0) (getD codes k 0) right (getD codes i 0) × GivenBy kind f w l (getD codes k 0) (getD codes i 0) left (getD codes i 0)
+-- a kind whose successors are not unions
+abbrev pub Plain : Kind → Type 0
+Plain Subset = Unit {0}
+Plain Single = Unit {0}
+Plain Child1 = Unit {0}
+Plain Child2 = Unit {0}
+Plain Root = Unit {0}
+Plain Not = Unit {0}
+Plain Or = Unit {0}
+Plain And = Unit {0}
+Plain Exists = ⊥
+Plain Close = Unit {0}
+
+-- the members of a set are below n
+abbrev pub Below : ℕ → ℕ → Type 0
+Below n x = (q : ℕ) → q < 64 → mem q x ≡ true → q < n
+
+-- the entries that the successors of the sets up to k are taken from lie within `low`
+pub record Ready (low : List ℕ) (c a w l : ℕ) (sets : List ℕ) (k : ℕ) : Type 0 where
+  pub share : a + on w l * c * c + c * c ≤ length low
+  pub states : (i : ℕ) → i ≤ k → Below c (getD sets i 0)
+
+-- the table of the part of an "exists" lies within `low`, and leads from its n states to its states
+pub record Inside (low : List ℕ) (p : Plan) (n : ℕ) : Type 0 where
+  pub some-state : 0 < n
+  pub few : n ≤ p .c
+  pub share : p .first + p .labels * p .c * p .c ≤ length low
+  pub bit : Bit (p .wx) (p .labels)
+  pub stays : (l i j : ℕ) → l < p .labels → i < n → j < n → entry low (p .c) (p .first) (seen (p .look1) l) i j < n
+
+-- the part's table is there, if the record is an "exists"
+abbrev pub Led : List ℕ → Plan → Type 0
+Led low p = p .kind ≡ Exists → (n : ℕ) × Inside low p n
+
+-- no code stands twice, and those of an "exists" are sets of states of its part
+abbrev pub Guided : List ℕ → Plan → Option (List ℕ) → Type 0
+Guided low p none = Unit {0}
+Guided low p (some cs) = Distinct cs × (p .kind ≡ Exists → (n : ℕ) × Inside low p n × ((i : ℕ) → i < length cs → Below n (getD cs i 0)))

@@ -118,6 +118,10 @@ abbrev pub Made : Outcome → ℕ → ℕ → ℕ → Machines → List ℕ → 
 Made (over k) c labels r s ws = (s .over ≡ k) × (k < 128)
 Made (built ms) c labels r s ws = (s .over ≡ 128) × (length ms ≡ r) × ((a : ℕ) → a < r → At c labels a (getD ms a noMach) s ws)
 
+-- the machines of some records are kept
+abbrev pub SomeMade : ℕ → ℕ → ℕ → Machines → List ℕ → Type 0
+SomeMade c labels r s ws = (o : Outcome) × Made o c labels r s ws
+
 -- where no record has too many states, the table of record a has its entries at every label
 abbrev pub Spread : ℕ → ℕ → Machines → Type 0
 Spread a labels s = 128 ≤ s .over → (l : ℕ) → l < labels → seen (getD (s .looks) a 0) l ≡ l

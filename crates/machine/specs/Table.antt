@@ -4,7 +4,7 @@ use Prim.Native.Nat.{ℕ, _+_, _*_, _≤_, _<_}
 use mathlib.Core.Path.{_≡_}
 use mathlib.Core.List.{List}
 use mathlib.Core.Option.{Option, none, some}
-use lib.ListN.{getD, take, drop}
+use lib.ListN.{getD, take, drop, set}
 use lib.Bits.{bitAnd}
 use lib.Dec.{leb}
 use Rattle.machine.specs.Explore.{Has, pick, place, visit, row, ring, next, grow, explore}
@@ -46,6 +46,13 @@ pub record Built (succ : ℕ → ℕ → ℕ → ℕ) (p : Plan) (b r : Builder)
 unfoldable pub seen : ℕ → ℕ → ℕ
 seen f l = bitAnd l f
 
+-- the code x is looked up among the first codes, and its place written for label l and states i and j; where there are too many codes,
+-- nothing is written, and the place is one that is taken
+pub record Noted (p : Plan) (codes : List ℕ) (count l i j x at : ℕ) (ws ws′ : List ℕ) : Type 0 where
+  pub found : count ≤ p .c → at ≡ place x (take count codes)
+  pub written : count ≤ p .c → ws′ ≡ set ws (p .base + addr (p .c) l i j) at
+  pub passed : p .c < count → (at < count) × (ws′ ≡ ws)
+
 -- what a visit, a row and a ring of visits ensure
 abbrev pub Visited : (ℕ → ℕ → ℕ → ℕ) → Plan → Builder → Builder → List ℕ → List ℕ → ℕ → ℕ → ℕ → Type 0
 Visited succ p b r ws ws′ l i j = Built succ p b r ws ws′ (visit succ (p .c) l i j (listed (p .c) b)) × Cell succ (p .c) (p .base) (listed (p .c) r) ws′ l i j
@@ -56,12 +63,6 @@ Rowed succ p b r ws ws′ l k i = Built succ p b r ws ws′ (row succ (p .c) l k
 abbrev pub Ringed : (ℕ → ℕ → ℕ → ℕ) → Plan → Builder → Builder → List ℕ → List ℕ → ℕ → ℕ → Type 0
 Ringed succ p b r ws ws′ k m =
     Built succ p b r ws ws′ (ring succ (p .c) k m (listed (p .c) b)) × ((l : ℕ) → l < m → Ring succ p (listed (p .c) r) ws′ (seen (p .looks) l) (k + 1) k)
-
--- what the turn for state k ensures: the entries of state k with those up to it, if there is a state k
-pub record Nexted (succ : ℕ → ℕ → ℕ → ℕ) (p : Plan) (b r : Builder) (ws ws′ : List ℕ) (k : ℕ) : Type 0 where
-  pub step : Built succ p b r ws ws′ (next succ (p .c) (p .labels) k (listed (p .c) b))
-  pub idle : b .count ≤ k → r .count ≡ b .count
-  pub cells : (l : ℕ) → l < p .labels → k < r .count → Ring succ p (listed (p .c) r) ws′ (seen (p .looks) l) (k + 1) k
 
 -- the entries of the states below k with each other
 abbrev pub Square : (ℕ → ℕ → ℕ → ℕ) → Plan → Builder → List ℕ → ℕ → Type 0

@@ -1,11 +1,13 @@
 // The exploration of a record's states: one for every kind of record, which differ in the successor and the start.
 ghost use mathlib.Core.Path.{_≡_};
 ghost use Prim.Native.Nat.{ℕ, _+_, _≤_, _<_};
+ghost use mathlib.Core.List.{List, [], _∷_};
+ghost use mathlib.Core.Option.{some};
 ghost use lib.ListN.{length, getD, take};
-ghost use Rattle.machine.specs.Explore.{place, insert};
-ghost use Rattle.machine.specs.Rows.{GivenBy, Serves};
+ghost use Rattle.machine.specs.Explore.{Distinct, place, insert};
+ghost use Rattle.machine.specs.Rows.{Plain, Guided, Led, Serves};
 ghost use Rattle.machine.specs.Succ.{Room, entry, through, off, notCode, pairCode, closeCode, successorOf, succIn, wordFound, existsStart, startOf};
-ghost use Rattle.machine.specs.Table.{listed, addr, Visited, Rowed, Ringed, Nexted, Explored, Kept};
+ghost use Rattle.machine.specs.Table.{listed, addr, Noted, Rowed, Ringed, Explored, Kept};
 use crate::atoms::atom_index;
 use crate::atoms::child1_at;
 use crate::atoms::child2_at;
@@ -13,7 +15,6 @@ use crate::atoms::root_at;
 use crate::atoms::single_at;
 use crate::atoms::subset_at;
 use crate::rows::rows_of;
-use crate::rows::union_of;
 use crate::words::with_member;
 
 // The codes found so far, in the order of discovery: those below count, where count is at most the ceiling. A count above the
@@ -184,11 +185,10 @@ pub fn close_code(
     entry_at(low, c, a, l & f, (x % 64) as usize, (y % 64) as usize)
 }
 
-// The successor of x and y by the kind of record; for "exists" it is the union of what the row has at the members of z.
-pub fn successor(low: &[u8], p: Plan, l: usize, x: u64, y: u64, row: &[u64; 64], z: u64) -> u64
+// The successor of x and y by the kind of record; "exists" has rows instead.
+pub fn successor(low: &[u8], p: Plan, l: usize, x: u64, y: u64) -> u64
     requires { ⌜ (p .c ≤ 64) × (l < 256) × (p .first < 4294967296) × (p .second < 4294967296) ⌝ }
-    requires { ⌜ (0 < p .wx) × (p .wx ≤ 128) × (0 < p .wy) × (p .wy ≤ 128) ⌝ }
-    requires { ⌜ GivenBy (p .kind) (through (p .look1) (entry (now low) (p .c) (p .first))) (p .wx) l x y (now row) z ⌝ }
+    requires { ⌜ (0 < p .wx) × (p .wx ≤ 128) × (0 < p .wy) × (p .wy ≤ 128) × Plain (p .kind) ⌝ }
     ensures { λ r. ⌜ r ≡ successorOf (now (low .entry)) p l x y ⌝ }
 {
     let kind = p.kind;
@@ -208,33 +208,59 @@ pub fn successor(low: &[u8], p: Plan, l: usize, x: u64, y: u64, row: &[u64; 64],
         Kind::Not => not_code(low, c, a, f, l, x, y),
         Kind::Or => pair_code(low, c, a, b, f, g, l, x, y),
         Kind::And => pair_code(low, c, a, b, f, g, l, x, y),
-        Kind::Exists => union_of(row, z),
+        Kind::Exists => 0,
         Kind::Close => close_code(low, c, a, f, wx, l, x, y),
     }
 }
 
-// The successor x of states i and j under label l is put in and written to the table.
-pub fn enter(ws: &mut [u8], p: Plan, b: Builder, l: usize, i: usize, j: usize, x: u64) -> Builder
+// Where x stands among the first codes, none of which stands twice; their count where it does not. What is kept for x among the hints is
+// tried first: it may be any number, for it is held to the codes.
+pub fn locate(codes: &[u64; 64], count: usize, x: u64, hints: &mut [u8; 256]) -> usize
+    requires { ⌜ (count ≤ 64) × (length (now codes) ≡ 64) × Distinct (take count (now codes)) ⌝ }
+    ensures { λ r. ⌜ r ≡ place x (take count (now (codes .entry))) ⌝ }
+{
+    let h = (x % 251) as usize;
+    let g = wide(hints[h]) as usize;
+    if g < count {
+        if codes[g] == x {
+            return g;
+        }
+    }
+    let at = find(codes, count, x);
+    hints[h] = at as u8;
+    at
+}
+
+// The place of the code x is written to the table, for states i and j and label l. Nothing is done where there are too many codes.
+pub fn note(
+    ws: &mut [u8],
+    p: Plan,
+    codes: &[u64; 64],
+    count: usize,
+    l: usize,
+    i: usize,
+    j: usize,
+    x: u64,
+    hints: &mut [u8; 256],
+) -> usize
     requires { ⌜ Room p (length (now ws)) ⌝ }
-    requires { ⌜ (l < p .labels) × (i < b .count) × (j < b .count) × (b .count ≤ p .c + 1) ⌝ }
-    requires { ⌜ (b .count ≤ p .c → x ≡ succIn (now ws) p l (getD (b .codes) i 0) (getD (b .codes) j 0)) ⌝ }
-    ensures { λ r. ⌜ Visited (succIn (now (ws .entry)) p) p b r (now (ws .entry)) (now (ws .exit)) l i j ⌝ }
+    requires { ⌜ (l < p .labels) × (i < count) × (j < count) × (length (now codes) ≡ 64) ⌝ }
+    requires { ⌜ (count ≤ p .c → Distinct (take count (now codes))) ⌝ }
+    ensures { λ r. ⌜ Noted p (now (codes .entry)) count l i j x r (now (ws .entry)) (now (ws .exit)) ⌝ }
 {
     let c = p.c;
     let base = p.base;
-    let count = b.count;
     if c < count {
-        return b;
+        return 0;
     }
-    let codes = b.codes;
-    let at = find(&codes, count, x);
-    let r = put(b, x, at, c);
+    let at = locate(codes, count, x, hints);
     let k = base + cell(c, l, i, j);
     ws[k] = at as u8;
-    r
+    at
 }
 
-// The pairs of state k with those up to k, both ways, under label l, by the rows of state k.
+// The pairs of state k with those up to k, both ways, under label l, where `right` and `left` have their successors. The builder is
+// passed on for a new code alone.
 pub fn visit_pairs(
     ws: &mut [u8],
     p: Plan,
@@ -243,45 +269,30 @@ pub fn visit_pairs(
     k: usize,
     left: &[u64; 64],
     right: &[u64; 64],
+    hints: &mut [u8; 256],
 ) -> Builder
     requires { ⌜ Room p (length (now ws)) ⌝ }
-    requires { ⌜ (l < p .labels) × (k < b .count) × (b .count ≤ p .c) ⌝ }
-    requires { ⌜ Serves (p .kind) (through (p .look1) (entry (take (p .base) (now ws)) (p .c) (p .first))) (p .wx) l (b .codes) k (now left) (now right) ⌝ }
-    ensures { λ r. ⌜ Rowed (succIn (now (ws .entry)) p) p b r (now (ws .entry)) (now (ws .exit)) l k (k + 1) ⌝ }
-{
-    let base = p.base;
-    let codes = b.codes;
-    let new = codes[k];
-    let mut r = b;
-    let mut i = 0;
-    while i <= k {
-        let old = codes[i];
-        let x = successor(&ws[..base], p, l, old, new, right, old);
-        r = enter(ws, p, r, l, i, k, x);
-        let y = successor(&ws[..base], p, l, new, old, left, old);
-        r = enter(ws, p, r, l, k, i, y);
-        i += 1;
-    }
-    r
-}
-
-// The pairs of state k with those up to k, both ways, under label l.
-pub fn visit_row(ws: &mut [u8], p: Plan, b: Builder, l: usize, k: usize) -> Builder
-    requires { ⌜ Room p (length (now ws)) ⌝ }
-    requires { ⌜ (l < p .labels) × (k < b .count) × (b .count ≤ p .c + 1) ⌝ }
+    requires { ⌜ (l < p .labels) × (k < b .count) × (b .count ≤ p .c) × Distinct (take (b .count) (b .codes)) ⌝ }
+    requires { ⌜ Serves (succIn (now ws) p) l (b .codes) k (now left) (now right) ⌝ }
     ensures { λ r. ⌜ Rowed (succIn (now (ws .entry)) p) p b r (now (ws .entry)) (now (ws .exit)) l k (k + 1) ⌝ }
 {
     let c = p.c;
-    let base = p.base;
-    let count = b.count;
-    if c < count {
-        return b;
+    let mut r = b;
+    let mut i = 0;
+    while i <= k {
+        let x = right[i];
+        let at = note(ws, p, &r.codes, r.count, l, i, k, x, hints);
+        if r.count <= at {
+            r = put(r, x, at, c);
+        }
+        let y = left[i];
+        let to = note(ws, p, &r.codes, r.count, l, k, i, y, hints);
+        if r.count <= to {
+            r = put(r, y, to, c);
+        }
+        i += 1;
     }
-    let codes = b.codes;
-    let rows = rows_of(&ws[..base], p, l, &codes, k);
-    let left = rows.left;
-    let right = rows.right;
-    visit_pairs(ws, p, b, l, k, &left, &right)
+    r
 }
 
 // The label l with the bit of weight w cleared.
@@ -294,54 +305,51 @@ pub fn cleared(w: usize, l: usize) -> usize
 
 // The pairs of state k with those up to k, both ways, under every label: there is nothing to do for a label that the record does not
 // tell from an earlier one.
-pub fn visit_ring(ws: &mut [u8], p: Plan, b: Builder, k: usize) -> Builder
+pub fn visit_ring(ws: &mut [u8], p: Plan, b: Builder, k: usize, hints: &mut [u8; 256]) -> Builder
     requires { ⌜ Room p (length (now ws)) ⌝ }
-    requires { ⌜ (k < b .count) × (b .count ≤ p .c + 1) ⌝ }
+    requires { ⌜ (k < b .count) × (b .count ≤ p .c) ⌝ }
+    requires { ⌜ Guided (take (p .base) (now ws)) p (listed (p .c) b) ⌝ }
     ensures { λ r. ⌜ Ringed (succIn (now (ws .entry)) p) p b r (now (ws .entry)) (now (ws .exit)) k (p .labels) ⌝ }
 {
+    let c = p.c;
+    let base = p.base;
     let labels = p.labels;
     let looks = p.looks;
+    let mut left = [0u64; 64];
+    let mut right = [0u64; 64];
     let mut r = b;
     let mut l = 0;
     while l < labels {
+        if c < r.count {
+            return r;
+        }
         if l <= l & looks {
-            r = visit_row(ws, p, r, l, k);
+            rows_of(&ws[..base], p, l, &r.codes, k, &mut left, &mut right);
+            r = visit_pairs(ws, p, r, l, k, &left, &right, hints);
         }
         l += 1;
     }
     r
 }
 
-// State k is paired with those up to it, if there is a state k.
-pub fn visit_next(ws: &mut [u8], p: Plan, b: Builder, k: usize) -> Builder
-    requires { ⌜ Room p (length (now ws)) ⌝ }
-    requires { ⌜ b .count ≤ p .c + 1 ⌝ }
-    ensures { λ r. ⌜ Nexted (succIn (now (ws .entry)) p) p b r (now (ws .entry)) (now (ws .exit)) k ⌝ }
-{
-    let c = p.c;
-    let count = b.count;
-    if c < count {
-        return b;
-    }
-    if count <= k {
-        return b;
-    }
-    visit_ring(ws, p, b, k)
-}
-
 // The machine of a plan, from its start code: its codes, and its table in the plan's share of the workspace.
 pub fn build(ws: &mut [u8], p: Plan, start: u64) -> Builder
     requires { ⌜ Room p (length (now ws)) ⌝ }
+    requires { ⌜ Guided (take (p .base) (now ws)) p (some (start ∷ [])) ⌝ }
     ensures { λ r. ⌜ Explored (succIn (now (ws .entry)) p) p start r (now (ws .entry)) (now (ws .exit)) ⌝ }
 {
     let c = p.c;
+    let mut hints = [0u8; 256];
     let mut b = Builder {
         codes: [start; 64],
         count: 1,
     };
     let mut k = 0;
-    while k < c {
-        b = visit_next(ws, p, b, k);
+    while k < b.count {
+        if c < b.count {
+            return b;
+        }
+        b = visit_ring(ws, p, b, k, &mut hints);
         k += 1;
     }
     b
@@ -407,6 +415,7 @@ pub fn start_code(ws: &mut [u8], p: Plan) -> u64
 pub fn build_plan(ws: &mut [u8], p: Plan) -> Builder
     requires { ⌜ Room p (length (now ws)) ⌝ }
     requires { ⌜ 2 ≤ p .labels ⌝ }
+    requires { ⌜ Led (take (p .base) (now ws)) p ⌝ }
     ensures { λ r. ⌜ Explored (succIn (now (ws .entry)) p) p (startOf (take (p .base) (now (ws .entry))) p) r (now (ws .entry)) (now (ws .exit)) ⌝ }
 {
     let start = start_code(ws, p);

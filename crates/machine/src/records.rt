@@ -4,7 +4,7 @@ ghost use mathlib.Core.Path.{_≡_};
 ghost use Prim.Native.Nat.{ℕ, _+_, _*_, _≤_, _<_};
 ghost use lib.ListN.{length, getD, take, drop, replicate};
 ghost use Rattle.machine.specs.Machine.{acceptBy, acceptOf};
-ghost use Rattle.machine.specs.Rule.{planOf, Fits, Sound, Outcome, Made, Spread, Finished, after, upto, noDecoded};
+ghost use Rattle.machine.specs.Rule.{SomeMade, planOf, Fits, Sound, Outcome, Made, Spread, Finished, after, upto, noDecoded};
 ghost use Rattle.machine.specs.Succ.{looksOf};
 use crate::complement::copy_table;
 use crate::complement::flipped;
@@ -124,6 +124,7 @@ pub fn explore_next(
     requires { ⌜ Fits x r c labels (length (now ws)) ⌝ }
     requires { ⌜ Sound x r labels ⌝ }
     requires { ⌜ 128 ≤ s .over ⌝ }
+    requires { ⌜ SomeMade c labels r s (now ws) ⌝ }
     ensures { λ t. ⌜ ((o : Outcome) → Made o c labels r s (now (ws .entry)) → Made (after c labels r x o) c labels (r + 1) t (now (ws .exit))) ⌝ }
     ensures { λ t. ⌜ drop (r * (labels * c * c) + labels * c * c) (now (ws .exit)) ≡ drop (r * (labels * c * c) + labels * c * c) (now (ws .entry)) ⌝ }
 {
@@ -159,16 +160,13 @@ pub fn complement_next(
     requires { ⌜ Fits x r c labels (length (now ws)) ⌝ }
     requires { ⌜ Sound x r labels ⌝ }
     requires { ⌜ (128 ≤ s .over) × (x .kind ≡ Kind.Not) ⌝ }
+    requires { ⌜ SomeMade c labels r s (now ws) ⌝ }
     ensures { λ t. ⌜ ((o : Outcome) → Made o c labels r s (now (ws .entry)) → Made (after c labels r x o) c labels (r + 1) t (now (ws .exit))) ⌝ }
     ensures { λ t. ⌜ drop (r * (labels * c * c) + labels * c * c) (now (ws .exit)) ≡ drop (r * (labels * c * c) + labels * c * c) (now (ws .entry)) ⌝ }
 {
     let first = x.first;
     let counts = s.counts;
     let n = counts[first];
-    // No machine that is kept has more states: the test bounds what is copied.
-    if c < n {
-        return s;
-    }
     let looks = s.looks;
     let bits = looks[first];
     let share = labels * c * c;
@@ -193,6 +191,7 @@ pub fn build_next(
 ) -> Machines
     requires { ⌜ Fits x r c labels (length (now ws)) ⌝ }
     requires { ⌜ Sound x r labels ⌝ }
+    requires { ⌜ SomeMade c labels r s (now ws) ⌝ }
     ensures { λ t. ⌜ ((o : Outcome) → Made o c labels r s (now (ws .entry)) → Made (after c labels r x o) c labels (r + 1) t (now (ws .exit))) ⌝ }
     ensures { λ t. ⌜ drop (r * (labels * c * c) + labels * c * c) (now (ws .exit)) ≡ drop (r * (labels * c * c) + labels * c * c) (now (ws .entry)) ⌝ }
 {

@@ -1,26 +1,36 @@
-// For "exists": the states that follow a new set and a single state, on either side, from which the successor of the new set and any
-// other is a union.
+// The successors of a new code and each code up to it, on either side. For "exists" they are unions: of the states that follow the new
+// set and a single state.
 ghost use mathlib.Core.Bool.{true, _||_};
 ghost use mathlib.Core.Path.{_≡_};
-ghost use Prim.Native.Nat.{ℕ, _+_, _≤_, _<_};
-ghost use lib.ListN.{getD};
-ghost use Rattle.machine.specs.Rows.{hitColumn, unionOf, Follows, Serves};
-ghost use Rattle.machine.specs.Succ.{entry, through, hit, hitRow};
+ghost use Prim.Native.Nat.{ℕ, _+_, _*_, _≤_, _<_};
+ghost use lib.ListN.{length, getD};
+ghost use Rattle.machine.specs.Rows.{Below, Plain, Ready, hitColumn, unionOf, Follows, Serves};
+ghost use Rattle.machine.specs.Succ.{entry, through, hit, hitRow, pairCode, existsCode, successorOf};
 ghost use Rattle.machine.specs.Word.{mem, any};
 use crate::explore::Kind;
 use crate::explore::Plan;
 use crate::explore::cleared;
-use crate::explore::entry_at;
+use crate::explore::pair_code;
+use crate::explore::successor;
+use crate::explore::wide;
 use crate::words::size;
 use crate::words::smallest;
 use crate::words::union;
 use crate::words::with_member;
 use crate::words::without;
 
-// At a state q, `left` has the states that follow a member of the set and q, and `right` those that follow q and a member.
-pub struct Rows {
-    pub left: [u64; 64],
-    pub right: [u64; 64],
+// At a state t, the states that follow a member of a set and t, and those that follow t and a member.
+pub struct Both {
+    pub left: u64,
+    pub right: u64,
+}
+
+// The entry for label l and states i and j of the table that starts at a.
+pub fn entry_within(low: &[u8], c: usize, a: usize, l: usize, i: usize, j: usize) -> u64
+    requires { ⌜ (c ≤ 64) × (l < 512) × (a < 4294967296) × (i < c) × (j < c) × (a + l * c * c + c * c ≤ length (now low)) ⌝ }
+    ensures { λ r. ⌜ r ≡ entry (now (low .entry)) c a l i j ⌝ }
+{
+    wide(low[a + l * c * c + (i * c + j)])
 }
 
 // The set s with the states that follow states i and j under the labels l and m.
@@ -34,64 +44,63 @@ pub fn with_steps(
     j: usize,
     s: u64,
 ) -> u64
-    requires { ⌜ (c ≤ 64) × (l < 512) × (m < 512) × (i < 64) × (j < 64) × (a < 4294967296) ⌝ }
+    requires { ⌜ (c ≤ 64) × (l < 512) × (m < 512) × (a < 4294967296) × (i < c) × (j < c) ⌝ }
+    requires { ⌜ (a + l * c * c + c * c ≤ length (now low)) × (a + m * c * c + c * c ≤ length (now low)) ⌝ }
     ensures { λ r. ⌜ ((q : ℕ) → mem q r ≡ (mem q s || hit (entry (now (low .entry)) c a) l m q i j)) ⌝ }
 {
-    let r = with_member(s, entry_at(low, c, a, l, i, j));
-    with_member(r, entry_at(low, c, a, m, i, j))
+    let r = with_member(s, entry_within(low, c, a, l, i, j));
+    with_member(r, entry_within(low, c, a, m, i, j))
 }
 
-// The states that follow state i and a member of y under the labels l and m.
-pub fn from_first(low: &[u8], c: usize, a: usize, l: usize, m: usize, i: usize, y: u64) -> u64
-    requires { ⌜ (c ≤ 64) × (l < 512) × (m < 512) × (i < 64) × (a < 4294967296) ⌝ }
-    ensures { λ r. ⌜ ((q : ℕ) → mem q r ≡ any (hitRow (entry (now (low .entry)) c a) l m y q i) 64) ⌝ }
+// The states that follow a member of s and state t, and t and a member, under the labels l and m.
+pub fn both_ways(low: &[u8], c: usize, a: usize, l: usize, m: usize, s: u64, t: usize) -> Both
+    requires { ⌜ (c ≤ 64) × (l < 512) × (m < 512) × (a < 4294967296) × (t < c) × Below c s ⌝ }
+    requires { ⌜ (a + l * c * c + c * c ≤ length (now low)) × (a + m * c * c + c * c ≤ length (now low)) ⌝ }
+    ensures { λ r. ⌜ ((q : ℕ) → mem q (r .left) ≡ any (hitColumn (entry (now (low .entry)) c a) l m s q t) 64) ⌝ }
+    ensures { λ r. ⌜ ((q : ℕ) → mem q (r .right) ≡ any (hitRow (entry (now (low .entry)) c a) l m s q t) 64) ⌝ }
 {
-    let mut r: u64 = 0;
-    let mut rest = y;
-    let mut left = size(y);
-    while 0 < left {
-        let j = smallest(rest);
-        r = with_steps(low, c, a, l, m, i, j, r);
-        rest = without(rest, j);
-        left -= 1;
-    }
-    r
-}
-
-// The states that follow a member of x and state j under the labels l and m.
-pub fn from_second(low: &[u8], c: usize, a: usize, l: usize, m: usize, x: u64, j: usize) -> u64
-    requires { ⌜ (c ≤ 64) × (l < 512) × (m < 512) × (j < 64) × (a < 4294967296) ⌝ }
-    ensures { λ r. ⌜ ((q : ℕ) → mem q r ≡ any (hitColumn (entry (now (low .entry)) c a) l m x q j) 64) ⌝ }
-{
-    let mut r: u64 = 0;
-    let mut rest = x;
-    let mut left = size(x);
-    while 0 < left {
+    let mut left: u64 = 0;
+    let mut right: u64 = 0;
+    let mut rest = s;
+    let mut n = size(s);
+    while 0 < n {
         let i = smallest(rest);
-        r = with_steps(low, c, a, l, m, i, j, r);
+        left = with_steps(low, c, a, l, m, i, t, left);
+        right = with_steps(low, c, a, l, m, t, i, right);
         rest = without(rest, i);
-        left -= 1;
+        n -= 1;
     }
-    r
+    Both { left, right }
 }
 
-// The rows of the set s, at each member of `seen`.
-pub fn fill(low: &[u8], c: usize, a: usize, l: usize, m: usize, s: u64, seen: u64) -> Rows
-    requires { ⌜ (c ≤ 64) × (l < 512) × (m < 512) × (a < 4294967296) ⌝ }
-    ensures { λ r. ⌜ ((t : ℕ) → mem t seen ≡ true → Follows (entry (now (low .entry)) c a) l m s t (r .left) (r .right)) ⌝ }
+// What follows the set s and each member of `seen`, on either side.
+pub fn fill(
+    low: &[u8],
+    c: usize,
+    a: usize,
+    l: usize,
+    m: usize,
+    s: u64,
+    seen: u64,
+    left: &mut [u64; 64],
+    right: &mut [u64; 64],
+)
+    requires { ⌜ (c ≤ 64) × (l < 512) × (m < 512) × (a < 4294967296) × Below c s × Below c seen ⌝ }
+    requires { ⌜ (a + l * c * c + c * c ≤ length (now low)) × (a + m * c * c + c * c ≤ length (now low)) ⌝ }
+    requires { ⌜ (length (now left) ≡ 64) × (length (now right) ≡ 64) ⌝ }
+    ensures { λ _. ⌜ (length (now (left .exit)) ≡ 64) × (length (now (right .exit)) ≡ 64) ⌝ }
+    ensures { λ _. ⌜ ((t : ℕ) → mem t seen ≡ true → Follows (entry (now (low .entry)) c a) l m s t (now (left .exit)) (now (right .exit))) ⌝ }
 {
-    let mut left = [0u64; 64];
-    let mut right = [0u64; 64];
     let mut rest = seen;
     let mut n = size(seen);
     while 0 < n {
         let t = smallest(rest);
-        left[t] = from_second(low, c, a, l, m, s, t);
-        right[t] = from_first(low, c, a, l, m, t, s);
+        let b = both_ways(low, c, a, l, m, s, t);
+        left[t] = b.left;
+        right[t] = b.right;
         rest = without(rest, t);
         n -= 1;
     }
-    Rows { left, right }
 }
 
 // The union of the first n sets.
@@ -124,8 +133,30 @@ pub fn union_of(row: &[u64; 64], s: u64) -> u64
     r
 }
 
-// The rows of set k under label l, for the sets up to k, where w is the weight of the bound variable's bit and the part looks at the
-// bits f.
+// The unions for each set up to k.
+pub fn unions(
+    lefts: &[u64; 64],
+    rights: &[u64; 64],
+    sets: &[u64; 64],
+    k: usize,
+    left: &mut [u64; 64],
+    right: &mut [u64; 64],
+)
+    requires { ⌜ k < 64 ⌝ }
+    requires { ⌜ (length (now left) ≡ 64) × (length (now right) ≡ 64) ⌝ }
+    ensures { λ _. ⌜ (length (now (left .exit)) ≡ 64) × (length (now (right .exit)) ≡ 64) ⌝ }
+    ensures { λ _. ⌜ ((i : ℕ) → i ≤ k → (getD (now (right .exit)) i 0 ≡ unionOf (now (rights .entry)) (getD (now (sets .entry)) i 0)) × (getD (now (left .exit)) i 0 ≡ unionOf (now (lefts .entry)) (getD (now (sets .entry)) i 0))) ⌝ }
+{
+    let mut i = 0;
+    while i <= k {
+        let z = sets[i];
+        left[i] = union_of(lefts, z);
+        right[i] = union_of(rights, z);
+        i += 1;
+    }
+}
+
+// The successors for "exists", where w is the weight of the bound variable's bit and the part looks at the bits f.
 pub fn exists_rows(
     low: &[u8],
     c: usize,
@@ -135,31 +166,117 @@ pub fn exists_rows(
     l: usize,
     sets: &[u64; 64],
     k: usize,
-) -> Rows
+    left: &mut [u64; 64],
+    right: &mut [u64; 64],
+)
     requires { ⌜ (c ≤ 64) × (l < 256) × (a < 4294967296) × (0 < w) × (w ≤ 128) × (k < 64) ⌝ }
-    ensures { λ r. ⌜ Serves Kind.Exists (through f (entry (now (low .entry)) c a)) w l (now (sets .entry)) k (r .left) (r .right) ⌝ }
+    requires { ⌜ Ready (now low) c a w l (now sets) k ⌝ }
+    requires { ⌜ (length (now left) ≡ 64) × (length (now right) ≡ 64) ⌝ }
+    ensures { λ _. ⌜ (length (now (left .exit)) ≡ 64) × (length (now (right .exit)) ≡ 64) ⌝ }
+    ensures { λ _. ⌜ Serves (existsCode (through f (entry (now (low .entry)) c a)) w) l (now (sets .entry)) k (now (left .exit)) (now (right .exit)) ⌝ }
 {
     let off = cleared(w, l);
     let on = off + w;
     let seen = joined(sets, k + 1);
-    fill(low, c, a, off & f, on & f, sets[k], seen)
+    let mut lefts = [0u64; 64];
+    let mut rights = [0u64; 64];
+    fill(
+        low,
+        c,
+        a,
+        off & f,
+        on & f,
+        sets[k],
+        seen,
+        &mut lefts,
+        &mut rights,
+    );
+    unions(&lefts, &rights, sets, k, left, right)
 }
 
-// The rows of code k under label l; empty but for "exists".
-pub fn rows_of(low: &[u8], p: Plan, l: usize, codes: &[u64; 64], k: usize) -> Rows
-    requires { ⌜ (p .c ≤ 64) × (l < 256) × (p .first < 4294967296) × (0 < p .wx) × (p .wx ≤ 128) × (k < 64) ⌝ }
-    ensures { λ r. ⌜ Serves (p .kind) (through (p .look1) (entry (now (low .entry)) (p .c) (p .first))) (p .wx) l (now (codes .entry)) k (r .left) (r .right) ⌝ }
+// The successors for "and" and "or".
+pub fn pair_rows(
+    low: &[u8],
+    c: usize,
+    a: usize,
+    b: usize,
+    f: usize,
+    g: usize,
+    l: usize,
+    codes: &[u64; 64],
+    k: usize,
+    left: &mut [u64; 64],
+    right: &mut [u64; 64],
+)
+    requires { ⌜ (c ≤ 64) × (l < 256) × (a < 4294967296) × (b < 4294967296) × (k < 64) ⌝ }
+    requires { ⌜ (length (now left) ≡ 64) × (length (now right) ≡ 64) ⌝ }
+    ensures { λ _. ⌜ (length (now (left .exit)) ≡ 64) × (length (now (right .exit)) ≡ 64) ⌝ }
+    ensures { λ _. ⌜ Serves (pairCode (through f (entry (now (low .entry)) c a)) (through g (entry (now (low .entry)) c b))) l (now (codes .entry)) k (now (left .exit)) (now (right .exit)) ⌝ }
+{
+    let new = codes[k];
+    let mut i = 0;
+    while i <= k {
+        let old = codes[i];
+        right[i] = pair_code(low, c, a, b, f, g, l, old, new);
+        left[i] = pair_code(low, c, a, b, f, g, l, new, old);
+        i += 1;
+    }
+}
+
+// The successors for a kind whose successors are read off one by one.
+pub fn plain_rows(
+    low: &[u8],
+    p: Plan,
+    l: usize,
+    codes: &[u64; 64],
+    k: usize,
+    left: &mut [u64; 64],
+    right: &mut [u64; 64],
+)
+    requires { ⌜ (p .c ≤ 64) × (l < 256) × (p .first < 4294967296) × (p .second < 4294967296) × (k < 64) ⌝ }
+    requires { ⌜ (0 < p .wx) × (p .wx ≤ 128) × (0 < p .wy) × (p .wy ≤ 128) × Plain (p .kind) ⌝ }
+    requires { ⌜ (length (now left) ≡ 64) × (length (now right) ≡ 64) ⌝ }
+    ensures { λ _. ⌜ (length (now (left .exit)) ≡ 64) × (length (now (right .exit)) ≡ 64) ⌝ }
+    ensures { λ _. ⌜ Serves (successorOf (now (low .entry)) p) l (now (codes .entry)) k (now (left .exit)) (now (right .exit)) ⌝ }
+{
+    let new = codes[k];
+    let mut i = 0;
+    while i <= k {
+        let old = codes[i];
+        right[i] = successor(low, p, l, old, new);
+        left[i] = successor(low, p, l, new, old);
+        i += 1;
+    }
+}
+
+// The successors of code k and each code up to it, on either side, under label l.
+pub fn rows_of(
+    low: &[u8],
+    p: Plan,
+    l: usize,
+    codes: &[u64; 64],
+    k: usize,
+    left: &mut [u64; 64],
+    right: &mut [u64; 64],
+)
+    requires { ⌜ (p .c ≤ 64) × (l < 256) × (p .first < 4294967296) × (p .second < 4294967296) × (k < 64) ⌝ }
+    requires { ⌜ (0 < p .wx) × (p .wx ≤ 128) × (0 < p .wy) × (p .wy ≤ 128) ⌝ }
+    requires { ⌜ (p .kind ≡ Kind.Exists → Ready (now low) (p .c) (p .first) (p .wx) l (now codes) k) ⌝ }
+    requires { ⌜ (length (now left) ≡ 64) × (length (now right) ≡ 64) ⌝ }
+    ensures { λ _. ⌜ (length (now (left .exit)) ≡ 64) × (length (now (right .exit)) ≡ 64) ⌝ }
+    ensures { λ _. ⌜ Serves (successorOf (now (low .entry)) p) l (now (codes .entry)) k (now (left .exit)) (now (right .exit)) ⌝ }
 {
     let kind = p.kind;
     let c = p.c;
     let a = p.first;
+    let b = p.second;
     let f = p.look1;
+    let g = p.look2;
     let wx = p.wx;
     match kind {
-        Kind::Exists => exists_rows(low, c, a, f, wx, l, codes, k),
-        _ => Rows {
-            left: [0u64; 64],
-            right: [0u64; 64],
-        },
+        Kind::Exists => exists_rows(low, c, a, f, wx, l, codes, k, left, right),
+        Kind::Or => pair_rows(low, c, a, b, f, g, l, codes, k, left, right),
+        Kind::And => pair_rows(low, c, a, b, f, g, l, codes, k, left, right),
+        _ => plain_rows(low, p, l, codes, k, left, right),
     }
 }

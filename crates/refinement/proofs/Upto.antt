@@ -135,7 +135,7 @@ module _ (n c : ℕ) (pos : 0 < c) (top : c ≤ 64) where
 
         reached : (q : ℕ) → q < length cs → Reached (machOf built-mach) (below (2 ^ n)) q
         reached q h =
-            let w = reach-tree succ labels start (getD cs q 0) (ok .0 .reach q h) in
+            let w = reach-tree succ labels start (getD cs q 0) (ok .0 .all q h) in
             let i = state-code (w .0) (w .1) in
             let e : stateOf (stepOf succ cs) (w .0) ≡ q = ok .0 .distinct _ _ (i .0) h (i .1 ∙ w .2) in
             subst (λ (z : ℕ). Reached (machOf built-mach) (below (2 ^ n)) z)
@@ -229,7 +229,7 @@ module _ (n c : ℕ) (pos : 0 < c) (top : c ≤ 64) where
             let w = (too-many succ c labels start pos) .0 (gave-up (x .kind) (f .step) (g .step) (x .wx) (x .wy) e) in (
               hm,
               over-index 2 n rs acc m hm (rawMachine x ns) M c (suc c) (λ i. getD (w .0) i 0)
-                  (λ i l. reached-code start succ (acceptBy (x .kind) (f .accept) (g .accept)) (getD (w .0) i 0) (w .1 .reach i (let z = w .2 in omega arith)))
+                  (λ i l. reached-code start succ (acceptBy (x .kind) (f .accept) (g .accept)) (getD (w .0) i 0) (w .1 .all i (let z = w .2 in omega arith)))
                   (λ i j p l q. let z = w .2 in let y = w .1 .distinct i j (omega arith) (omega arith) q in omega arith) (omega arith),
               few-states m ns (omega arith) (h .1),
             )

@@ -1,58 +1,103 @@
 -- `build` meets its contract. The invariant: the states below k are paired with each other. Assumes nothing.
 use mathlib.Core.Path.{_≡_, refl, sym, _∙_, subst}
-use Prim.Native.Nat.{_-_, _≤_}
+use mathlib.Core.List.{List, [], _∷_}
+use mathlib.Core.Logic.{inl, inr}
+use mathlib.Core.Option.{some}
+use Prim.Native.Nat.{ℕ, _+_, _-_, _≤_, _<_}
 use native.Mathlib.Omega.{arith}
-use lib.ListN.{length, replicate}
-use Rattle.machine.specs.Table.{Nexted, Grown}
+use lib.ListN.{length, replicate, take}
+use Rattle.machine.specs.Rows.{Guided}
+use Rattle.machine.specs.Table.{listed, Ringed, Grown}
 use Rattle.machine.specs.Succ.{Room, succIn}
+use Rattle.machine.specs.declared.explore.Builder.{Builder}
+use Rattle.machine.proofs.Guide.{ring-guided, start-listed}
 use Rattle.machine.proofs.Loops.{grown-start, same-succ, grow-step, explored}
+use Rattle.machine.proofs.Steps.{id-length}
 use Rattle.machine.proofs.explore.build.Statement.{statement}
 use Rattle.machine.proofs.explore.build.Tie as tie
 
+-- the builder that has the start alone
+abbrev first : ℕ → Builder
+first start = record { codes = replicate 64 start; count = 1 }
+
 abbrev Inv-loop : tie.InvT-loop
-Inv-loop ws₀ p start c b₀ k₀ ws b k =
-    (k ≤ c) × (length ws ≡ length ws₀) × Grown (succIn ws₀ p) p (record { codes = replicate 64 start; count = 1 }) b ws₀ ws k
+Inv-loop ws₀ p start c hints₀ b₀ k₀ ws hints b k =
+    (k ≤ p .c) × (length ws ≡ length ws₀) × (length (b .codes) ≡ 64) × (k ≤ b .count) × (b .count ≤ p .c → Guided (take (p .base) ws₀) p (listed (p .c) b)) × Grown (succIn ws₀ p) p (first start) b ws₀ ws k
 
 abbrev μ-loop : tie.MeasureT-loop
-μ-loop ws₀ p start c b₀ k₀ ws b k = c - k
+μ-loop ws₀ p start c hints₀ b₀ k₀ ws hints b k = p .c - k
 
 loop-holds : tie.Need-loop-holds Inv-loop μ-loop
 loop-holds c =
-    let a = c .before .args in
-    (omega arith, refl, grown-start (succIn (a .ws .now) (a .p)) (a .p) (record { codes = replicate 64 (a .start); count = 1 }) (a .ws .now) (omega arith))
-
-visit-next-requires : tie.Need-visit-next-requires Inv-loop μ-loop
-visit-next-requires c κs =
-    let s = c .before .before .before .before in
-    let h = c .before .before .loop in
-    (subst (Room (s .args .p)) (sym (h .inv .1)) (s .pre), omega (arith, h .inv .2 .step .most))
-
-add-k : tie.Need-add-k Inv-loop μ-loop
-add-k c = omega arith
-
-loop-less : tie.Need-loop-less Inv-loop μ-loop
-loop-less c = omega arith
-
-loop-again : tie.Need-loop-again Inv-loop μ-loop
-loop-again c =
-    let a = c .before .before .before .before .before .before .before .args in
-    let h = c .before .before .before .before .before .loop in
-    let v = c .before .before .visit-next in
-    let turn = same-succ (λ t. Nexted t (a .p) (h .b) (v .result) (h .ws) (v .last .0) (h .k)) (a .p) (a .ws .now) (h .ws) (h .inv .2 .step .fill .low) (v .ensures) in (
-      omega (arith, c .before .before .before .before .loop-test .taken),
-      v .kept .0 ∙ h .inv .1,
-      grow-step (succIn (a .ws .now) (a .p)) (a .p) (record { codes = replicate 64 (a .start); count = 1 }) (h .b) (v .result) (a .ws .now) (h .ws) (v .last .0) (h .k) (h .inv .2) turn,
+    let s = c .before in
+    let a = s .args in (
+      omega arith,
+      refl,
+      refl,
+      omega arith,
+      λ few. subst (Guided (take (a .p .base) (a .ws .now)) (a .p)) (sym (start-listed (a .p .c) (a .start) (s .pre .0 .some-state))) (s .pre .1),
+      grown-start (succIn (a .ws .now) (a .p)) (a .p) (first (a .start)) (a .ws .now) (omega arith),
     )
 
 same-length : tie.Need-same-length Inv-loop μ-loop
-same-length c = c .before .loop .inv .1
+same-length c = c .before .before .before .before .loop .inv .1
 
 returns : tie.Need-returns Inv-loop μ-loop
 returns c =
-    let a = c .before .before .before .args in
-    let h = c .before .loop in
-    let e : h .k ≡ a .p .c = omega arith in
-    explored (succIn (a .ws .now) (a .p)) (a .p) (a .start) (h .b) (a .ws .now) (h .ws) (omega arith) (rw e at (h .inv .2))
+    let s = c .before .before .before .before .before .before in
+    let a = s .args in
+    let h = c .before .before .before .before .loop in
+    explored (succIn (a .ws .now) (a .p)) (a .p) (a .start) (h .k) (h .b) (a .ws .now) (h .ws) (h .inv .2) (s .pre .0 .ceiling) (s .pre .0 .some-state) (h .inv .0) (inr (c .if2 .taken)) (h .inv .5)
+
+visit-ring-requires : tie.Need-visit-ring-requires Inv-loop μ-loop
+visit-ring-requires c κs =
+    let s = c .before .before .before .before .before .before .before .before in
+    let a = s .args in
+    let h = c .before .before .before .before .before .before .loop in
+    let few : h .b .count ≤ a .p .c = omega (arith, c .before .before .if2 .left) in (
+      subst (Room (a .p)) (sym (h .inv .1)) (s .pre .0),
+      (
+        (c .before .before .before .before .if1 .taken, few),
+        subst (λ (v : List ℕ). Guided v (a .p) (listed (a .p .c) (h .b))) (sym (h .inv .5 .step .fill .low)) (h .inv .4 few),
+      ),
+    )
+
+add-k : tie.Need-add-k Inv-loop μ-loop
+add-k c = omega (arith, c .before .before .before .before .before .before .before .if1 .taken, c .before .before .before .before .before .if2 .left, c .before .before .before .before .before .before .before .before .before .before .before .pre .0 .ceiling)
+
+loop-less : tie.Need-loop-less Inv-loop μ-loop
+loop-less c = omega (arith, c .before .before .before .before .before .before .before .if1 .taken, c .before .before .before .before .before .if2 .left)
+
+loop-again : tie.Need-loop-again Inv-loop μ-loop
+loop-again c =
+    let s = c .before .before .before .before .before .before .before .before .before .before .before in
+    let a = s .args in
+    let h = c .before .before .before .before .before .before .before .before .before .loop in
+    let t = c .before .before .before .before .before .before .before .if1 .taken in
+    let few : h .b .count ≤ a .p .c = omega (arith, c .before .before .before .before .before .if2 .left) in
+    let v = c .before .before .visit-ring in
+    let top = s .pre .0 .ceiling in
+    let full = id-length 64 (v .result .codes) (v .ok .1 .1 .0 .1 .0 .1) in
+    let f = succIn (a .ws .now) (a .p) in
+    let turn = same-succ (λ g. Ringed g (a .p) (h .b) (v .result) (h .ws) (v .last .0) (h .k) (a .p .labels)) (a .p) (a .ws .now) (h .ws) (h .inv .5 .step .fill .low) (v .ensures) in (
+      omega (arith, t, few),
+      v .kept .0 ∙ h .inv .1,
+      full,
+      omega (arith, t, turn .0 .more),
+      λ few₁.
+          ring-guided (take (a .p .base) (a .ws .now)) (a .p) top (h .b) (v .result) (h .inv .2) full few few₁ (h .k) (a .p .labels) t (omega arith) (turn .0 .list) (turn .0 .more) (h .inv .4 few),
+      grow-step f (a .p) (first (a .start)) (h .b) (v .result) (a .ws .now) (h .ws) (v .last .0) (h .k) (h .inv .2) top few t (h .inv .5) turn,
+    )
+
+same-length-2 : tie.Need-same-length-2 Inv-loop μ-loop
+same-length-2 c = c .before .before .loop .inv .1
+
+returns-2 : tie.Need-returns-2 Inv-loop μ-loop
+returns-2 c =
+    let s = c .before .before .before .before in
+    let a = s .args in
+    let h = c .before .before .loop in
+    explored (succIn (a .ws .now) (a .p)) (a .p) (a .start) (h .k) (h .b) (a .ws .now) (h .ws) (h .inv .2) (s .pre .0 .ceiling) (s .pre .0 .some-state) (h .inv .0) (inl (omega (arith, c .if1 .left))) (h .inv .5)
 
 pub build-spec : {M : Type 1} → statement M
 build-spec =
@@ -61,9 +106,11 @@ build-spec =
     Inv-loop
     μ-loop
     loop-holds
-    visit-next-requires
+    same-length
+    returns
+    visit-ring-requires
     add-k
     loop-less
     loop-again
-    same-length
-    returns)
+    same-length-2
+    returns-2)

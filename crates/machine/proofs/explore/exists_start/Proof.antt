@@ -1,15 +1,17 @@
 -- `exists_start` meets its contract. The exploration is the one of the plan's closing, in the same share. Assumes nothing.
 use mathlib.Core.Path.{ap, _∙_}
 use native.Mathlib.Omega.{arith}
-use lib.ListN.{length}
+use lib.ListN.{length, take}
 use Rattle.machine.specs.Succ.{existsStart, wordFound, closing, succIn}
-use Rattle.machine.proofs.Start.{room-closing, kept-closing}
+use Rattle.machine.proofs.Start.{room-closing, kept-closing, closing-guided}
 use borrow.Author.Needs.{needs}
 use Rattle.machine.proofs.explore.exists_start.Statement.{statement}
 use Rattle.machine.proofs.explore.exists_start.Tie as tie
 
 build-requires : tie.Need-build-requires
-build-requires c κs = let s = c .before .before in room-closing (s .args .p) (length (s .args .ws .now)) (omega arith) (s .pre .0)
+build-requires c κs =
+    let s = c .before .before in
+    (room-closing (s .args .p) (length (s .args .ws .now)) (omega arith) (s .pre .0), closing-guided (take (s .args .p .base) (s .args .ws .now)) (s .args .p) 0)
 
 word-found-requires : tie.Need-word-found-requires
 word-found-requires c κs = search needs

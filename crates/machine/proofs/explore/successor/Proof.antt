@@ -1,6 +1,7 @@
 -- `successor` meets its contract. Each arm is the definition's clause for that kind. Assumes nothing.
-use mathlib.Core.Path.{ap, _∙_}
+use mathlib.Core.Path.{ap, _∙_, subst}
 use borrow.Author.Needs.{needs}
+use Rattle.machine.specs.Rows.{Plain}
 use Rattle.machine.specs.Succ.{successorOf, kindCode, ruleAt, subsetRule, singleRule, child1Rule, child2Rule, rootRule}
 use Rattle.machine.proofs.explore.successor.Statement.{statement}
 use Rattle.machine.proofs.explore.successor.Tie as tie
@@ -38,10 +39,7 @@ unfolding successorOf kindCode
 returns-8 c = rw (c .before .enum-told8 .given .1) (c .pair-code2 .ensures)
 
 returns-9 : tie.Need-returns-9
-unfolding successorOf kindCode
-returns-9 c =
-    let told = c .before .enum-told9 .given .1 in
-    rw told (c .union-of .ensures ∙ (rw told at (c .before .before .before .before .pre .1 .1)))
+returns-9 c = absurd (subst Plain (c .enum-told9 .given .1) (c .before .before .before .pre .1 .4))
 
 returns-10 : tie.Need-returns-10
 unfolding successorOf kindCode
@@ -73,7 +71,6 @@ successor-spec =
     (λ c. search needs)
     (λ c κs. search needs)
     (λ c. search needs)
-    (λ c κs. search needs)
     (λ c. search needs)
     (λ c κs. search needs)
     returns

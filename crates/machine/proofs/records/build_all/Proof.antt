@@ -33,7 +33,7 @@ build-next-requires c κs =
     let h = c .before .before .before .loop in
     let a = s .args in
     let e = s .pre .1 (h .r) (c .before .before .loop-test .taken) in
-    (subst (Fits (getD (a .t2) (h .r) noDecoded) (h .r) (a .c) (a .labels)) (sym (h .inv .1)) (e .0), e .1)
+    (subst (Fits (getD (a .t2) (h .r) noDecoded) (h .r) (a .c) (a .labels)) (sym (h .inv .1)) (e .0), (e .1, (upto (a .t2) (a .c) (a .labels) (h .r), h .inv .2)))
 
 add-r : tie.Need-add-r Inv-loop μ-loop
 add-r c = search needs

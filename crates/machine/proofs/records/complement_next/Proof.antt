@@ -4,40 +4,40 @@ use Prim.Native.Nat.{_*_}
 use mathlib.Core.Path.{refl, ap}
 use native.Mathlib.Omega.{arith}
 use lib.ListN.{getD, set}
-use Rattle.machine.proofs.Copies.{not-first, never-more, after-not}
+use Rattle.machine.proofs.Copies.{not-first, part-few, after-not}
 use Rattle.machine.proofs.Shares.{share-small, times-small, next-share}
 use Rattle.machine.proofs.Steps.{id-length}
 use Rattle.machine.proofs.records.complement_next.Statement.{statement}
 use Rattle.machine.proofs.records.complement_next.Tie as tie
 
-returns : tie.Need-returns
-returns c =
-    let s = c .before .before .before in
-    let a = s .args in
-    (never-more (a .x) (a .r) (a .c) (a .labels) (a .s) (a .s) (a .ws .now) (a .ws .now) (s .pre .1 .0) (s .pre .1 .1 .1) (s .pre .1 .1 .0) (c .if1 .taken), refl)
-
 mul-share : tie.Need-mul-share
 mul-share c =
-    let s = c .before .before .before .before in
+    let s = c .before .before .before in
     let a = s .args in
     omega (arith, share-small (a .c) (a .labels) (s .pre .0 .ceiling) (s .pre .0 .few))
 
 mul-copy-table : tie.Need-mul-copy-table
 mul-copy-table c =
-    let s = c .before .before .before .before .before in
+    let s = c .before .before .before .before in
     let a = s .args in
     omega (arith, times-small (a .x .first) (a .c) (a .labels) (s .pre .0 .first-in) (s .pre .0 .ceiling) (s .pre .0 .few))
 
 copy-table-requires : tie.Need-copy-table-requires
 copy-table-requires c κs =
-    let s = c .before .before .before .before .before in
+    let s = c .before .before .before .before in
     let a = s .args in
-    let h = not-first (a .x) (a .r) (a .labels) (s .pre .1 .0) (s .pre .1 .1 .1) in
-    omega (arith, s .pre .0 .ceiling, s .pre .0 .few, s .pre .0 .share, c .before .before .if1 .left, next-share (a .x .first) (a .r) (a .labels * a .c * a .c) h)
+    let h = not-first (a .x) (a .r) (a .labels) (s .pre .1 .0) (s .pre .1 .1 .0 .1) in
+    omega (arith, s .pre .0 .ceiling, s .pre .0 .few, s .pre .0 .share, part-few (a .x) (a .r) (a .c) (a .labels) (a .s) (a .ws .now) (s .pre .1 .0) (s .pre .1 .1 .0 .1) (s .pre .1 .1 .0 .0) (s .pre .1 .1 .1), next-share (a .x .first) (a .r) (a .labels * a .c * a .c) h)
 
-returns-2 : tie.Need-returns-2
-returns-2 c =
-    let s = c .before .before .before .before .before .before .before .before .before .before in
+flipped-requires : tie.Need-flipped-requires
+flipped-requires c κs =
+    let s = c .before .before .before .before .before .before .before .before in
+    let a = s .args in
+    omega (arith, s .pre .0 .ceiling, part-few (a .x) (a .r) (a .c) (a .labels) (a .s) (a .ws .now) (s .pre .1 .0) (s .pre .1 .1 .0 .1) (s .pre .1 .1 .0 .0) (s .pre .1 .1 .1))
+
+returns : tie.Need-returns
+returns c =
+    let s = c .before .before .before .before .before .before .before .before .before in
     let a = s .args in
     let v = c .before .before .before .before .copy-table in
     let w = c .flipped in
@@ -45,7 +45,7 @@ returns-2 c =
     let bits = getD (a .s .looks) (a .x .first) 0 in (
       after-not (a .x) (a .r) (a .c) (a .labels) (a .s)
           (record { counts = set (a .s .counts) (a .r) n; accepts = set (a .s .accepts) (a .r) (w .result); looks = set (a .s .looks) (a .r) bits; over = a .s .over })
-          (a .ws .now) (v .last .0) (s .pre .1 .0) (s .pre .1 .1 .1) (s .pre .1 .1 .0) (v .ensures) (s .pre .0) refl (ap (set (a .s .accepts) (a .r)) (w .ensures)) refl
+          (a .ws .now) (v .last .0) (s .pre .1 .0) (s .pre .1 .1 .0 .1) (s .pre .1 .1 .0 .0) (v .ensures) (s .pre .0) refl (ap (set (a .s .accepts) (a .r)) (w .ensures)) refl
           (id-length 128 (a .s .counts) (s .good .1 .1 .0 .1 .1 .0 .1 .0 .1)) (id-length 128 (a .s .accepts) (s .good .1 .1 .0 .1 .1 .1 .0 .1 .0 .1)) (id-length 128 (a .s .looks) (s .good .1 .1 .0 .1 .1 .1 .1 .0 .1 .0 .1)) refl,
       v .ensures .high,
     )
@@ -56,7 +56,6 @@ complement-next-spec =
     (tie.spec
     (λ c. search needs)
     (λ c. search needs)
-    returns
     (λ c. search needs)
     (λ c. search needs)
     mul-share
@@ -66,7 +65,7 @@ complement-next-spec =
     copy-table-requires
     (λ c. search needs)
     (λ c. search needs)
-    (λ c κs. search needs)
+    flipped-requires
     (λ c. search needs)
     (λ c. search needs)
     (λ c. search needs)
@@ -74,4 +73,4 @@ complement-next-spec =
     (λ c. search needs)
     (λ c. search needs)
     (λ c. search needs)
-    returns-2)
+    returns)

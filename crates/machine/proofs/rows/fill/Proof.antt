@@ -1,64 +1,71 @@
 -- `fill` meets its contract. The invariant: the rows are right at each member of `seen` that is gone from what is left. Assumes nothing.
 use borrow.Author.Needs.{needs}
-use mathlib.Core.Path.{_≡_, refl}
+use Prim.Native.Nat.{_<_}
+use mathlib.Core.Path.{_≡_}
 use native.Mathlib.Omega.{arith}
+use Rattle.machine.specs.Rows.{Below}
 use Rattle.machine.specs.Succ.{entry}
-use Rattle.machine.proofs.Members.{some-in}
+use Rattle.machine.proofs.Members.{some-in, below-without}
 use Rattle.machine.proofs.RowLaws.{Filling, filling-first, filling-next, filling-last}
 use Rattle.machine.proofs.rows.fill.Statement.{statement}
 use Rattle.machine.proofs.rows.fill.Tie as tie
 
 abbrev Inv-loop : tie.InvT-loop
-Inv-loop low c a l m s seen left₀ right₀ rest₀ n₀ left right rest n = Filling (entry low c a) l m s seen rest n left right
+Inv-loop low c a l m s seen left₀ right₀ rest₀ n₀ left right rest n = Below c rest × Filling (entry low c a) l m s seen rest n left right
 
 abbrev μ-loop : tie.MeasureT-loop
 μ-loop low c a l m s seen left₀ right₀ rest₀ n₀ left right rest n = n
 
 loop-holds : tie.Need-loop-holds Inv-loop μ-loop
 loop-holds c =
-    let a = c .before .before .args in
-    filling-first (entry (a .low .now) (a .c) (a .a)) (a .l) (a .m) (a .s) (a .seen) (c .size .result) _ _ (c .size .ensures) refl refl
+    let s = c .before .before in
+    let a = s .args in
+    (s .pre .0 .5, filling-first (entry (a .low .now) (a .c) (a .a)) (a .l) (a .m) (a .s) (a .seen) (c .size .result) (a .left .now) (a .right .now) (c .size .ensures) (s .pre .1 .1 .0) (s .pre .1 .1 .1))
 
 smallest-requires : tie.Need-smallest-requires Inv-loop μ-loop
-smallest-requires c κs = let h = c .before .loop in some-in (h .rest) (omega (arith, h .inv .size, c .loop-test .taken))
+smallest-requires c κs = let h = c .before .loop in some-in (h .rest) (omega (arith, h .inv .1 .size, c .loop-test .taken))
 
-from-second-requires : tie.Need-from-second-requires Inv-loop μ-loop
-from-second-requires c κs = omega (arith, c .smallest .ensures .top)
+both-ways-requires : tie.Need-both-ways-requires Inv-loop μ-loop
+both-ways-requires c κs =
+    let s = c .before .before .before .before .before in
+    let t = c .smallest .ensures in
+    let h : c .smallest .result < s .args .c = c .before .before .loop .inv .0 (c .smallest .result) (t .top) (t .is) in
+    ((s .pre .0 .0, s .pre .0 .1, s .pre .0 .2, s .pre .0 .3, h, s .pre .0 .4), s .pre .1 .0)
 
 mul-left : tie.Need-mul-left Inv-loop μ-loop
 mul-left c = omega (arith, c .before .smallest .ensures .top)
 
-array-write-left : tie.Need-array-write-left Inv-loop μ-loop
-array-write-left c = omega (arith, c .before .smallest .ensures .top)
-
-from-first-requires : tie.Need-from-first-requires Inv-loop μ-loop
-from-first-requires c κs = omega (arith, c .before .smallest .ensures .top)
+element-write-left : tie.Need-element-write-left Inv-loop μ-loop
+element-write-left c = c .before .smallest .ensures .top
 
 mul-right : tie.Need-mul-right Inv-loop μ-loop
-mul-right c = omega (arith, c .before .before .smallest .ensures .top)
+mul-right c = omega (arith, c .before .smallest .ensures .top)
 
-array-write-right : tie.Need-array-write-right Inv-loop μ-loop
-array-write-right c = c .before .before .smallest .ensures .top
+element-write-right : tie.Need-element-write-right Inv-loop μ-loop
+element-write-right c = c .before .smallest .ensures .top
 
 without-requires : tie.Need-without-requires Inv-loop μ-loop
-without-requires c κs = (c .before .before .smallest .ensures .top, c .before .before .smallest .ensures .is)
+without-requires c κs = (c .before .smallest .ensures .top, c .before .smallest .ensures .is)
 
 loop-again : tie.Need-loop-again Inv-loop μ-loop
 loop-again c =
-    let a = c .before .before .before .before .before .before .before .before .args in
-    let h = c .before .before .before .before .before .loop in
-    let t = c .before .before .before .smallest in
-    let x = c .before .before .from-second in
-    let y = c .before .from-first in
-    filling-next (entry (a .low .now) (a .c) (a .a)) (a .l) (a .m) (a .s) (a .seen) (h .rest) (h .n) (h .left) (h .right) (t .result) (c .without .result) (x .result) (y .result)
-    (t .ensures .top) (h .inv) (c .without .ensures) (x .ensures) (y .ensures)
+    let a = c .before .before .before .before .before .before .before .args in
+    let h = c .before .before .before .before .loop in
+    let t = c .before .before .smallest in
+    let b = c .before .both-ways in
+    let o = c .without in (
+      below-without (a .c) (h .rest) (t .result) (o .result) (h .inv .0) (o .ensures),
+      filling-next (entry (a .low .now) (a .c) (a .a)) (a .l) (a .m) (a .s) (a .seen) (h .rest) (h .n) (h .left) (h .right) (t .result) (o .result) (b .result .left) (b .result .right)
+          (t .ensures .top) (h .inv .1) (o .ensures) (b .ensures .0) (b .ensures .1),
+    )
 
 returns : tie.Need-returns Inv-loop μ-loop
 returns c =
     let a = c .before .before .before .before .args in
     let h = c .before .loop in
     let e : h .n ≡ 0 = omega (arith, c .loop-test .left) in
-    filling-last (entry (a .low .now) (a .c) (a .a)) (a .l) (a .m) (a .s) (a .seen) (h .rest) (h .left) (h .right) (rw e at (h .inv))
+    let w = h .inv .1 in
+    ((w .long-left, w .long-right), filling-last (entry (a .low .now) (a .c) (a .a)) (a .l) (a .m) (a .s) (a .seen) (h .rest) (h .left) (h .right) (rw e at w))
 
 pub fill-spec : {M : Type 1} → statement M
 fill-spec =
@@ -69,12 +76,11 @@ fill-spec =
     (λ c κs. search needs)
     loop-holds
     smallest-requires
-    from-second-requires
+    both-ways-requires
     mul-left
-    array-write-left
-    from-first-requires
+    element-write-left
     mul-right
-    array-write-right
+    element-write-right
     without-requires
     (λ c. search needs)
     (λ c. search needs)
