@@ -11,7 +11,7 @@ pub fn atom_index(wx: usize, wy: usize, l: usize, x: u64, y: u64) -> usize
     l / wx % 2 * 32 + l / wy % 2 * 16 + ((x % 4) as usize) * 4 + ((y % 4) as usize)
 }
 
-const SUBSET: [u64; 64] = [
+const SUBSET: [u8; 64] = [
     0,
     1,
     1,
@@ -82,10 +82,10 @@ pub fn subset_at(k: usize) -> u64
     requires { ⌜ k < 64 ⌝ }
     ensures { λ r. ⌜ r ≡ subsetRule (k / 32) (k / 16 % 2) (k / 4 % 4) (k % 4) ⌝ }
 {
-    SUBSET[k]
+    SUBSET[k] as u64
 }
 
-const SINGLE: [u64; 64] = [
+const SINGLE: [u8; 64] = [
     0,
     1,
     2,
@@ -156,10 +156,10 @@ pub fn single_at(k: usize) -> u64
     requires { ⌜ k < 64 ⌝ }
     ensures { λ r. ⌜ r ≡ singleRule (k / 32) (k / 16 % 2) (k / 4 % 4) (k % 4) ⌝ }
 {
-    SINGLE[k]
+    SINGLE[k] as u64
 }
 
-const CHILD1: [u64; 64] = [
+const CHILD1: [u8; 64] = [
     0,
     3,
     2,
@@ -230,10 +230,10 @@ pub fn child1_at(k: usize) -> u64
     requires { ⌜ k < 64 ⌝ }
     ensures { λ r. ⌜ r ≡ child1Rule (k / 32) (k / 16 % 2) (k / 4 % 4) (k % 4) ⌝ }
 {
-    CHILD1[k]
+    CHILD1[k] as u64
 }
 
-const CHILD2: [u64; 64] = [
+const CHILD2: [u8; 64] = [
     0,
     3,
     2,
@@ -304,10 +304,10 @@ pub fn child2_at(k: usize) -> u64
     requires { ⌜ k < 64 ⌝ }
     ensures { λ r. ⌜ r ≡ child2Rule (k / 32) (k / 16 % 2) (k / 4 % 4) (k % 4) ⌝ }
 {
-    CHILD2[k]
+    CHILD2[k] as u64
 }
 
-const ROOT: [u64; 64] = [
+const ROOT: [u8; 64] = [
     0,
     2,
     2,
@@ -378,5 +378,5 @@ pub fn root_at(k: usize) -> u64
     requires { ⌜ k < 64 ⌝ }
     ensures { λ r. ⌜ r ≡ rootRule (k / 32) (k / 16 % 2) (k / 4 % 4) (k % 4) ⌝ }
 {
-    ROOT[k]
+    ROOT[k] as u64
 }

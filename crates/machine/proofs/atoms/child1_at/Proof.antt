@@ -1,24 +1,26 @@
 -- `child1_at` meets its contract: the table's rule is a test at each of its entries, which antt computes. Assumes nothing.
 use Prim.Native.Nat.{ℕ}
 use mathlib.Core.List.{List, [], _∷_}
+use native.Mathlib.Omega.{arith}
 use borrow.Author.Needs.{needs}
 use Rattle.machine.specs.Succ.{child1Rule}
-use Rattle.machine.proofs.Rules.{rule-at}
+use Rattle.machine.proofs.Rules.{rule-at, byte-at}
 use Rattle.machine.proofs.atoms.child1_at.Statement.{statement}
 use Rattle.machine.proofs.atoms.child1_at.Tie as tie
 
 entries : List ℕ
 entries = 0 ∷ 3 ∷ 2 ∷ 3 ∷ 3 ∷ 3 ∷ 3 ∷ 3 ∷ 2 ∷ 3 ∷ 3 ∷ 3 ∷ 3 ∷ 3 ∷ 3 ∷ 3 ∷ 3 ∷ 3 ∷ 3 ∷ 3 ∷ 2 ∷ 3 ∷ 3 ∷ 3 ∷ 3 ∷ 3 ∷ 3 ∷ 3 ∷ 3 ∷ 3 ∷ 3 ∷ 3 ∷ 1 ∷ 3 ∷ 3 ∷ 3 ∷ 3 ∷ 3 ∷ 3 ∷ 3 ∷ 3 ∷ 3 ∷ 3 ∷ 3 ∷ 3 ∷ 3 ∷ 3 ∷ 3 ∷ 3 ∷ 3 ∷ 3 ∷ 3 ∷ 3 ∷ 3 ∷ 3 ∷ 3 ∷ 3 ∷ 3 ∷ 3 ∷ 3 ∷ 3 ∷ 3 ∷ 3 ∷ 3 ∷ []
 
-mul-result : tie.Need-mul-result
-mul-result c = search needs
-
 array-read-result : tie.Need-array-read-result
 array-read-result c = search needs
+
+cast-result : tie.Need-cast-result
+unfolding entries
+cast-result c = let b = byte-at entries tt (c .args .k) (search needs) in omega arith
 
 returns : tie.Need-returns
 unfolding entries
 returns c = rule-at child1Rule entries tt (c .args .k) (search needs)
 
 pub child1-at-spec : {M : Type 1} → statement M
-child1-at-spec = tie.close (tie.spec mul-result array-read-result returns)
+child1-at-spec = tie.close (tie.spec array-read-result cast-result returns)
