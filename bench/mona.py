@@ -8,10 +8,14 @@
                                or judged: the rule must be satisfiable with just
                                their sets if the answer is shown or yes, and not
                                if it is no
+    mona.py --time PROGRAM RULE...  the verdict program's time and MONA's on rule
+                               files, each as a process of its own, the median of
+                               nine runs. Rules that are not accepted are left out
 """
 
 import argparse
 import os
+import statistics
 import subprocess
 import sys
 import tempfile
@@ -130,15 +134,47 @@ def compare(files, limit):
     return agreed + gave_up == asked and agreed > 0
 
 
+def median_of(run):
+    """The median time of nine runs, in milliseconds, and what the last one gave."""
+    times = []
+    for _ in range(9):
+        begin = time.monotonic()
+        given = run()
+        times.append(1000 * (time.monotonic() - begin))
+    return statistics.median(times), given
+
+
+def run_program(program, rule):
+    return subprocess.run([program], input=rule, capture_output=True).stdout.decode().split()
+
+
+def time_rules(program, rules, limit):
+    print(f"{'':28} {'verdict ms':>12} {'MONA ms':>12}   verdict")
+    idle = statistics.median(run_mona("ws2s;\ntrue;\n", limit)[1] for _ in range(9))
+    for name in rules:
+        rule = open(name, "rb").read()
+        ours, said = median_of(lambda: run_program(program, rule))
+        if said[0] == "refused" and int(said[1]) <= 10:
+            continue
+        text = to_mona(rule)
+        theirs = 1000 * statistics.median(run_mona(text, limit)[1] for _ in range(9))
+        print(f"{os.path.basename(name):28} {ours:12.2f} {theirs:12.2f}   {' '.join(said)}")
+    print(f"{'(MONA on a formula that is true)':41} {1000 * idle:12.2f}")
+
+
 def main():
     parser = argparse.ArgumentParser(description=__doc__,
                                      formatter_class=argparse.RawDescriptionHelpFormatter)
     parser.add_argument("--compare", action="store_true", help="compare vector files")
+    parser.add_argument("--time", metavar="PROGRAM", help="take the times on rule files")
     parser.add_argument("--limit", type=float, default=60, help="seconds for one rule (60)")
     parser.add_argument("argument", nargs="+")
     options = parser.parse_args()
     if options.compare:
         sys.exit(0 if compare(options.argument, options.limit) else 1)
+    if options.time:
+        time_rules(options.time, options.argument, options.limit)
+        return
     for rule in options.argument:
         strip = open(rule, "rb").read() if os.path.exists(rule) else bytes.fromhex(rule)
         sys.stdout.write(to_mona(strip))
