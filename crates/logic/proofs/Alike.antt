@@ -1,35 +1,27 @@
 -- Machines that tell the same trees apart: in whatever order a builder finds the states, the counts and the answers are the same.
 -- Assumes nothing.
-use Prim.Native.Nat.{ℕ, zero, suc, _+_, _*_, _/_, _%_, _^_, _≤_, _<_}
+use Prim.Native.Nat.{ℕ, _+_, _*_, _/_, _%_, _^_, _<_}
 use mathlib.Core.Path.{_≡_, refl, sym, ap, ap₂, subst, _∙_, fun-ext}
-use mathlib.Core.Logic.{_↔_, _⊎_, inl, inr, ⊎-elim}
-use mathlib.Core.Bool.{Bool, true, false, not, _&&_, _||_}
-use mathlib.Core.List.{List, [], _∷_}
-use native.Mathlib.Nat.{le-antisymm, div-add-mod'}
-use native.Mathlib.Omega.{arith}
-use native.Mathlib.Decide.{decLt}
-use lib.Dec.{T, eqb, eqb→eq}
+use mathlib.Core.Logic.{_↔_}
+use mathlib.Core.Bool.{Bool}
+use mathlib.Core.List.{List}
+use native.Mathlib.Nat.{div-add-mod'}
+use lib.Dec.{T}
 use lib.ListN.{length, getD}
 use lib.Pow.{pow-pos}
-use Rattle.logic.specs.Meaning.{Branch, Formula, subset, singleton, successor, root, negation, disjunction, conjunction, exists}
+use Rattle.logic.specs.Meaning.{Branch}
 use Rattle.logic.specs.Tree.{Tree, empty, node, Proper, low}
-use Rattle.logic.specs.Machine.{Machine, run, Decides, complement, product, withBit, Blank, none, grown, Projects, Simulates}
-use Rattle.logic.specs.Atom.{subsetMachine, singletonMachine, successorMachine, rootMachine}
-use Rattle.logic.specs.Reach.{elem, below, Reached, reach, position, numbered, projection}
-use Rattle.logic.specs.Table.{Table, codedProduct, build, productTable, projectionTable, complementTable, table}
-use Rattle.logic.specs.Alike.{Bounded, Full, Distinct, Closed, Lists, Alike, Agrees, MachineOf, Varies, Comes}
+use Rattle.logic.specs.Machine.{Machine, run, complement, product, withBit, Blank, none, grown, Projects}
+use Rattle.logic.specs.Reach.{elem, below, reach, position, numbered, projection}
+use Rattle.logic.specs.Table.{codedProduct, build}
+use Rattle.logic.specs.Alike.{Bounded, Closed, Alike, Varies, Comes}
 use Rattle.logic.proofs.Places.{T-ext}
 use Rattle.logic.proofs.Bits.{low-ext, put-lt}
-use Rattle.logic.proofs.Connectives.{run-complement, run-product, run-simulates, decides-simulated, decides-negation, decides-disjunction, decides-conjunction}
-use Rattle.logic.proofs.Atoms.{decides-subset, decides-singleton, decides-successor, decides-root}
-use Rattle.logic.proofs.Exists.{decides-exists}
+use Rattle.logic.proofs.Connectives.{run-complement, run-product, run-simulates}
 use Rattle.logic.proofs.Rounds.{reach-start, reach-closed}
-use Rattle.logic.proofs.Numbered.{getD-elem, reached-bound, bound, numbered-simulates, numbered-bounded, numbered-decides}
-use Rattle.logic.proofs.Counts.{position-getD}
+use Rattle.logic.proofs.Numbered.{bound, numbered-simulates}
 use Rattle.logic.proofs.Projection.{In, projection-bounded, projection-projects}
-use Rattle.logic.proofs.Satisfiable.{reached-tree}
-use Rattle.logic.proofs.Pigeon.{pigeon}
-use Rattle.logic.proofs.Tables.{Valid, Right, table-right, subset-bounded, singleton-bounded, successor-bounded, root-bounded, product-bounded, Codes, product-simulates}
+use Rattle.logic.proofs.Tables.{Codes, product-simulates}
 
 module _ {k : ℕ} (n : ℕ) where
   -- M tells apart no trees that N does not tell apart

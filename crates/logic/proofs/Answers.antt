@@ -1,30 +1,30 @@
 -- THE TOP THEOREMS: the answers of decide and judge are what the papers ask for, and the only such.
 -- Assumes nothing.
-use Prim.Native.Nat.{ℕ, zero, suc, _+_, _-_, _^_, _≤_, _<_}
-use mathlib.Core.Path.{_≡_, refl, sym, ap, ap₂, subst, _∙_, fun-ext}
+use Prim.Native.Nat.{ℕ, suc, _-_, _^_, _≤_, _<_}
+use mathlib.Core.Path.{_≡_, refl, sym, ap, ap₂, subst, _∙_}
 use mathlib.Core.Logic.{_↔_, _⊎_, inl, inr, ⊎-elim}
-use mathlib.Core.Bool.{Bool, true, false, cond, true≢false}
-use mathlib.Core.List.{List, [], _∷_}
+use mathlib.Core.Bool.{Bool, true, false, cond}
+use mathlib.Core.List.{List, []}
 use native.Mathlib.Omega.{arith}
 use lib.Dec.{T}
-use lib.ListN.{length, getD}
-use Rattle.logic.specs.Meaning.{Branch, Place, Assignment, Formula, root, Holds}
-use Rattle.logic.specs.Tree.{Tree, empty, node, positions, nodeAt, bitAt, Proper, Represents, TreeOf, SameSets}
+use lib.ListN.{length}
+use Rattle.logic.specs.Meaning.{Assignment, Holds}
+use Rattle.logic.specs.Tree.{Tree, empty, node, positions, nodeAt, Proper, Represents, TreeOf, SameSets}
 use Rattle.logic.specs.Order.{_≺_, _⪯_}
-use Rattle.logic.specs.Rule.{Record, extend, formulaAt, lastOf, Satisfies, goodFrom, Accepted}
+use Rattle.logic.specs.Rule.{Record, extend, formulaAt, lastOf, Satisfies, Accepted}
 use Rattle.logic.specs.Machine.{Machine, run, Decides}
 use Rattle.logic.specs.Reach.{below, Reached}
 use Rattle.logic.specs.Table.{Table, table, Built, over, built, buildAll}
 use Rattle.logic.specs.Trim.{trim, treeOf, bare, Trimmed}
 use Rattle.logic.specs.Search.{Sought, tree, large, absent, search}
-use Rattle.logic.specs.Claims.{Outcome, refused14, shown, none, larger, Judgement, unbuilt, yes, no, statesAt, FirstOver, Roomy, Model, Earliest, Demand2, Demand3, Answers, Judges, Shallow}
+use Rattle.logic.specs.Claims.{Outcome, refused14, shown, none, larger, Judgement, unbuilt, yes, no, statesAt, FirstOver, Roomy, Model, Earliest, Answers, Judges, Shallow}
 use Rattle.logic.specs.Decide.{report, conclude, decideOf, say, ruling, judgeOf, lastTable}
 use Rattle.logic.proofs.Places.{T→true, true→T}
 use Rattle.logic.proofs.Numbered.{reached-bound}
 use Rattle.logic.proofs.Reach.{elem-below}
 use Rattle.logic.proofs.Trees.{trim-bits, trim-trimmed, trim-proper}
 use Rattle.logic.proofs.Satisfiable.{setsOf, sets-represented}
-use Rattle.logic.proofs.Orders.{Tri, less, same, more, ℕ-tri, ⪯-antisym, ⪯-positions, empty-⪯, node-⪯}
+use Rattle.logic.proofs.Orders.{less, same, more, ℕ-tri, ⪯-antisym, ⪯-positions, empty-⪯, node-⪯}
 use Rattle.logic.proofs.Assignments.{tree-of, tree-of-only, tree-of-trimmed, tree-same, sets-same, own-tree}
 use Rattle.logic.proofs.Tables.{Right}
 use Rattle.logic.proofs.Rules.{record-right, extend-length, tablesOf, tables-at, Says, built-says}

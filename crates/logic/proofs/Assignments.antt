@@ -1,20 +1,20 @@
 -- Every assignment has one tree, and every trimmed tree is that of an assignment.
 -- Assumes nothing.
-use Prim.Native.Nat.{ℕ, zero, suc, _+_, _^_, _≤_, _<_}
-use mathlib.Core.Path.{_≡_, refl, sym, ap, ap₂, subst, _∙_, fun-ext}
-use mathlib.Core.Logic.{_↔_, _⊎_, inl, inr, ⊎-elim}
-use mathlib.Core.Bool.{Bool, true, false, cond, not, true≢false}
-use mathlib.Core.List.{List, [], _∷_, _++_}
+use Prim.Native.Nat.{ℕ, zero, suc, _+_, _<_}
+use mathlib.Core.Path.{_≡_, refl, sym, ap₂, subst, _∙_, fun-ext}
+use mathlib.Core.Logic.{_⊎_, inl, inr, ⊎-elim}
+use mathlib.Core.Bool.{Bool, true, false, true≢false}
+use mathlib.Core.List.{[], _∷_, _++_}
 use native.Mathlib.Nat.{not-suc-le-zero}
 use native.Mathlib.Omega.{arith}
-use lib.Dec.{T, T-not, eqb}
+use lib.Dec.{T, T-not}
 use lib.Pow.{pow-pos}
-use Rattle.logic.specs.Meaning.{Branch, Place, has, _∈_, Assignment}
-use Rattle.logic.specs.Tree.{Tree, empty, node, nodeAt, bitAt, Proper, Represents, Position, TreeOf, SameSets, bit}
+use Rattle.logic.specs.Meaning.{Branch, Place, Assignment}
+use Rattle.logic.specs.Tree.{Tree, empty, node, nodeAt, bitAt, Proper, Represents, TreeOf, SameSets, bit}
 use Rattle.logic.specs.Trim.{treeOf, isEmpty, bare, Trimmed}
-use Rattle.logic.proofs.Places.{T→true, true→T, not-T, T-ext, neqb}
+use Rattle.logic.proofs.Places.{T-ext}
 use Rattle.logic.proofs.Bits.{bit-zero, bit-ext}
-use Rattle.logic.proofs.Orders.{Tri, less, same, more, ℕ-tri, first}
+use Rattle.logic.proofs.Orders.{less, same, more, ℕ-tri, first}
 use Rattle.logic.proofs.Trees.{bare-iff, tree-represents, tree-proper, tree-trimmed}
 use Rattle.logic.proofs.Satisfiable.{setsOf, sets-represented}
 

@@ -1,16 +1,16 @@
 -- The atoms' machines decide the atoms.
 -- Assumes nothing.
-use Prim.Native.Nat.{ℕ, zero, suc, _+_, _≤_, _<_, min}
+use Prim.Native.Nat.{ℕ, _+_, _<_}
 use mathlib.Core.Path.{_≡_, refl, ap, ap₂, sym, subst, subst₂, _∙_, fun-ext}
 use mathlib.Core.Logic.{_↔_, _≢_, Iff·trans}
 use mathlib.Core.Bool.{Bool, true, false, cond, not, _&&_, _||_, true≢false}
-use mathlib.Core.List.{List, [], _∷_, _++_, nil≢cons, cons≢nil, head-eq-of-cons-eq, tail-eq-of-cons-eq}
+use mathlib.Core.List.{[], _∷_, _++_, nil≢cons, cons≢nil, head-eq-of-cons-eq, tail-eq-of-cons-eq}
 use native.Mathlib.Omega.{arith}
-use lib.Dec.{T, eqb, eqb→eq}
-use Rattle.logic.specs.Meaning.{Branch, Place, has, sameBranch, Assignment, Formula, subset, singleton, successor, root, Holds}
-use Rattle.logic.specs.Tree.{branches, sumOf, Tree, empty, node, bitAt, Represents, bit}
-use Rattle.logic.specs.Machine.{Machine, run, Decides, bitOf, allOf, anyOf}
-use Rattle.logic.specs.Atom.{idle, alone, subsetStep, singletonStep, successorStep, rootStep, subsetMachine, singletonMachine, successorMachine, rootMachine}
+use lib.Dec.{T}
+use Rattle.logic.specs.Meaning.{Branch, Place, has, Assignment, subset, singleton, successor, root, Holds}
+use Rattle.logic.specs.Tree.{branches, Tree, empty, node, bitAt, Represents, bit}
+use Rattle.logic.specs.Machine.{run, Decides, anyOf}
+use Rattle.logic.specs.Atom.{idle, alone, singletonStep, successorStep, rootStep, subsetMachine, singletonMachine, successorMachine, rootMachine}
 use Rattle.logic.proofs.Places.{T→true, true→T, not-T, branch-dec}
 use Rattle.logic.proofs.Connectives.{and-iff}
 use Rattle.logic.proofs.Branches.{eqb-iff, idle-iff, Alone, alone-iff, any-iff, total-zero, total-one}

@@ -1,28 +1,27 @@
 -- For a builder: its machine of each record, with the states in whatever order it found them, has document 01's count and gives the same answers.
 -- Assumes nothing.
-use Prim.Native.Nat.{ℕ, zero, suc, _+_, _*_, _^_, _≤_, _<_}
-use mathlib.Core.Path.{_≡_, refl, sym, ap, ap₂, subst, _∙_, fun-ext}
-use mathlib.Core.Logic.{_↔_, _⊎_, inl, inr, ⊎-elim}
+use Prim.Native.Nat.{ℕ, _*_, _^_, _≤_, _<_}
+use mathlib.Core.Path.{_≡_, refl, sym, ap, subst, _∙_, fun-ext}
+use mathlib.Core.Logic.{_↔_}
 use mathlib.Core.Bool.{Bool, true, false, not, _&&_, _||_}
-use mathlib.Core.List.{List, [], _∷_}
+use mathlib.Core.List.{List}
 use native.Mathlib.Nat.{le-antisymm}
 use native.Mathlib.Omega.{arith}
 use native.Mathlib.Decide.{decLt}
 use lib.Dec.{T}
 use lib.ListN.{length, getD}
 use Rattle.logic.specs.Meaning.{Branch, Assignment, Formula, subset, singleton, successor, root, negation, disjunction, conjunction, exists, Holds}
-use Rattle.logic.specs.Tree.{Tree, empty, node, Proper, Represents, TreeOf}
+use Rattle.logic.specs.Tree.{Tree, empty, node, Proper, TreeOf}
 use Rattle.logic.specs.Rule.{Record, formulaAt, lastOf, Accepted}
 use Rattle.logic.specs.Machine.{Machine, run, Decides, complement, product}
 use Rattle.logic.specs.Atom.{subsetMachine, singletonMachine, successorMachine, rootMachine}
 use Rattle.logic.specs.Reach.{elem, below, Reached, started, stepped, position, numbered, projection}
 use Rattle.logic.specs.Table.{Table, codedProduct, build, productTable, projectionTable, complementTable, table}
 use Rattle.logic.specs.Search.{search}
-use Rattle.logic.specs.Alike.{Bounded, Full, Distinct, Closed, Lists, Alike, Agrees, MachineOf, Comes}
-use Rattle.logic.specs.Claims.{Outcome, statesAt, FirstOver, Roomy, Answers, Judges}
+use Rattle.logic.specs.Alike.{Bounded, Full, Distinct, Lists, Alike, Agrees, MachineOf, Comes}
+use Rattle.logic.specs.Claims.{statesAt, Roomy, Answers, Judges}
 use Rattle.logic.specs.Decide.{report, decideOf, say, judgeOf}
-use Rattle.logic.proofs.Reach.{elem-below}
-use Rattle.logic.proofs.Connectives.{or-iff, and-iff, run-complement, run-product, run-simulates, decides-simulated, decides-negation, decides-disjunction, decides-conjunction}
+use Rattle.logic.proofs.Connectives.{or-iff, and-iff, run-complement, decides-simulated, decides-negation, decides-disjunction, decides-conjunction}
 use Rattle.logic.proofs.Atoms.{decides-subset, decides-singleton, decides-successor, decides-root}
 use Rattle.logic.proofs.Exists.{decides-exists}
 use Rattle.logic.proofs.Numbered.{getD-elem, getD-position, numbered-bounded, numbered-decides}
@@ -31,7 +30,7 @@ use Rattle.logic.proofs.Projection.{In, projection-bounded, projection-
 use Rattle.logic.proofs.Satisfiable.{reached-tree, tree-reached, setsOf, sets-represented}
 use Rattle.logic.proofs.Pigeon.{pigeon}
 use Rattle.logic.proofs.Tables.{Valid, Right, table-right, subset-bounded, singleton-bounded, successor-bounded, root-bounded, product-bounded, Codes, product-simulates}
-use Rattle.logic.proofs.Rules.{record-right, record-valid}
+use Rattle.logic.proofs.Rules.{record-right}
 use Rattle.logic.proofs.Settle.{run-below, search-right}
 use Rattle.logic.proofs.Answers.{sought-right, decide-only, judge-judges}
 use Rattle.logic.proofs.Alike.{alike-sym, alike-trans, complement-alike, numbered-alike, build-alike, product-kernel, product-alike, projection-kernel, projection-accepts, comes-alike, projection-alike}

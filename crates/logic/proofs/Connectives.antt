@@ -1,12 +1,12 @@
 -- Not, or and and: the machine of the parts, with another acceptance.
 -- Assumes nothing.
 use Prim.Native.Nat.{ℕ}
-use mathlib.Core.Path.{_≡_, refl, ap, ap₂, sym, _∙_, fun-ext}
+use mathlib.Core.Path.{_≡_, refl, ap, ap₂, fun-ext}
 use mathlib.Core.Logic.{_↔_, _⊎_, inl, inr, ⊎-elim}
 use mathlib.Core.Bool.{Bool, true, false, not, _&&_, _||_}
 use lib.Dec.{T}
-use Rattle.logic.specs.Meaning.{Branch, Assignment, Formula, negation, disjunction, conjunction, Holds}
-use Rattle.logic.specs.Tree.{Tree, empty, node, Proper, Represents}
+use Rattle.logic.specs.Meaning.{Formula, negation, disjunction, conjunction, Holds}
+use Rattle.logic.specs.Tree.{Tree, empty, node, Proper}
 use Rattle.logic.specs.Machine.{Machine, run, Decides, complement, product, Simulates}
 
 pub run-complement : {k : ℕ} {Q : Type 0} (M : Machine k Q) (t : Tree k) → run (complement M) t ≡ run M t

@@ -1,21 +1,20 @@
 -- The states of a built machine are exactly those that it reaches; and a count of states does not depend on the order in which they are found.
 -- Assumes nothing.
-use Prim.Native.Nat.{ℕ, zero, suc, _+_, _^_, _≤_, _<_}
-use mathlib.Core.Path.{_≡_, refl, ap, sym, subst, _∙_, fun-ext}
-use mathlib.Core.Logic.{_↔_, _≢_, _⊎_, inl, inr, ⊎-elim}
-use mathlib.Core.Bool.{Bool, true, false, cond, not, _||_}
+use Prim.Native.Nat.{ℕ, zero, suc, _^_, _≤_, _<_}
+use mathlib.Core.Path.{_≡_, refl, ap, sym, subst, fun-ext}
+use mathlib.Core.Logic.{_↔_, _⊎_, inl, inr, ⊎-elim}
+use mathlib.Core.Bool.{Bool, true, false, cond, not}
 use mathlib.Core.List.{List, [], _∷_}
 use native.Mathlib.Nat.{not-suc-le-zero, le-of-suc-le-suc, le-antisymm}
 use native.Mathlib.Omega.{arith}
 use lib.Dec.{T, not-T, eqb, eqb→eq, eqb-refl}
 use lib.ListN.{length, getD}
-use Rattle.logic.specs.Meaning.{Branch}
 use Rattle.logic.specs.Machine.{Machine}
 use Rattle.logic.specs.Reach.{elem, below, select, Reached, started, stepped, reach, position, numbered}
-use Rattle.logic.specs.Table.{Table, build}
-use Rattle.logic.proofs.Places.{T→true, true→T, not-T as false-of, neqb}
+use Rattle.logic.specs.Table.{build}
+use Rattle.logic.proofs.Places.{T→true, not-T as false-of, neqb}
 use Rattle.logic.proofs.Reach.{elem-cons, elem-below, elem-select}
-use Rattle.logic.proofs.Rounds.{without, select-distinct, reach-only, reach-all, reach-distinct}
+use Rattle.logic.proofs.Rounds.{without, reach-only, reach-all, reach-distinct}
 use Rattle.logic.specs.Alike.{Bounded, Distinct, Closed}
 use Rattle.logic.proofs.Numbered.{bound, build-bounded, getD-position, getD-elem, reached-bound}
 

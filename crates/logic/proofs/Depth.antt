@@ -1,8 +1,8 @@
 -- The earliest tree of its state has no downward path with as many positions as there are states.
 -- Assumes nothing.
-use Prim.Native.Nat.{ℕ, zero, suc, _+_, _^_, _≤_, _<_}
-use mathlib.Core.Path.{_≡_, refl, sym, ap, ap₂, subst, _∙_, fun-ext}
-use mathlib.Core.Logic.{_⊎_, inl, inr}
+use Prim.Native.Nat.{ℕ, zero, suc, _+_, _≤_, _<_}
+use mathlib.Core.Path.{_≡_, refl, sym, ap, subst, _∙_, fun-ext}
+use mathlib.Core.Logic.{inl, inr}
 use mathlib.Core.Bool.{Bool, true, false, cond}
 use mathlib.Core.List.{List, [], _∷_}
 use native.Mathlib.Omega.{arith}
@@ -14,7 +14,7 @@ use Rattle.logic.specs.Order.{_≺_, _⪯_}
 use Rattle.logic.specs.Machine.{Machine, run}
 use Rattle.logic.proofs.Places.{true→T, branch-eq}
 use Rattle.logic.proofs.Branches.{same-branch}
-use Rattle.logic.proofs.Orders.{Tri, less, same, more, ≺-tri, ≺-irrefl, ⪯-antisym, ⪯-positions, branch-fewer, node-⪯}
+use Rattle.logic.proofs.Orders.{less, same, more, ≺-tri, ≺-irrefl, ⪯-antisym, ⪯-positions, branch-fewer, node-⪯}
 use Rattle.logic.proofs.Pigeon.{pigeon}
 use Rattle.logic.specs.Alike.{Full}
 use Rattle.logic.proofs.Settle.{Earliest, run-below}

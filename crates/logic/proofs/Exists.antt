@@ -1,17 +1,16 @@
 -- Exists: the machine of state sets accepts a tree exactly if the part's machine accepts some tree
 -- that differs in the bound variable only.
 -- Assumes nothing.
-use Prim.Native.Nat.{ℕ, zero, suc, _+_, _^_, _≤_, _<_}
-use mathlib.Core.Path.{_≡_, refl, ap, sym, subst, _∙_, fun-ext}
-use mathlib.Core.Logic.{_↔_, _≢_}
-use mathlib.Core.Bool.{Bool, true, false, cond, _&&_, _||_}
-use mathlib.Core.List.{List, [], _∷_, _++_}
-use native.Mathlib.Omega.{arith}
+use Prim.Native.Nat.{ℕ, zero, suc, _+_, _<_}
+use mathlib.Core.Path.{_≡_, refl, ap, sym, _∙_, fun-ext}
+use mathlib.Core.Logic.{_≢_}
+use mathlib.Core.Bool.{Bool, true, false, cond}
+use mathlib.Core.List.{List, [], _∷_}
 use native.Mathlib.Nat.{not-suc-le-zero}
 use lib.Pow.{pow-pos}
 use lib.Dec.{T, eqb, eqb→eq}
 use Rattle.logic.specs.Trim.{under, depth}
-use Rattle.logic.specs.Meaning.{Branch, Place, samePlace, has, _∈_, Assignment, Formula, exists, Holds, assign}
+use Rattle.logic.specs.Meaning.{Branch, Place, samePlace, has, Assignment, Formula, exists, Holds, assign}
 use Rattle.logic.specs.Tree.{branches, Tree, empty, node, bitAt, Proper, Represents, bit}
 use Rattle.logic.specs.Machine.{Machine, run, Decides, Blank, none, grown, Projects, withBit}
 use Rattle.logic.proofs.Places.{true→T, not-T, neqb, has-under, gather, gather-nil, gather-cons, Short, short-under, short-below, short-depth}

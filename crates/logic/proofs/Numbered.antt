@@ -1,10 +1,10 @@
 -- A machine with its reachable states numbered behaves as it did.
 -- Assumes nothing.
-use Prim.Native.Nat.{ℕ, zero, suc, _+_, _*_, _/_, _%_, _^_, _≤_, _<_}
-use mathlib.Core.Path.{_≡_, refl, ap, sym, subst, _∙_, fun-ext}
-use mathlib.Core.Logic.{_↔_, _≢_, _⊎_, inl, inr, ⊎-elim}
+use Prim.Native.Nat.{ℕ, zero, suc, _+_, _^_, _<_}
+use mathlib.Core.Path.{_≡_, refl, ap, sym, _∙_, fun-ext}
+use mathlib.Core.Logic.{inl, inr}
 use mathlib.Core.Bool.{Bool, true, false, cond, _||_}
-use mathlib.Core.List.{List, [], _∷_, _++_}
+use mathlib.Core.List.{List, [], _∷_}
 use native.Mathlib.Nat.{not-suc-le-zero, le-of-suc-le-suc}
 use native.Mathlib.Omega.{arith}
 use lib.Dec.{T, eqb, eqb→eq}
@@ -12,11 +12,11 @@ use lib.ListN.{length, getD}
 use Rattle.logic.specs.Meaning.{Branch, Formula}
 use Rattle.logic.specs.Machine.{Machine, Decides, Simulates}
 use Rattle.logic.specs.Reach.{elem, below, Reached, started, stepped, reach, position, numbered}
-use Rattle.logic.specs.Table.{Table, build}
+use Rattle.logic.specs.Table.{build}
 use Rattle.logic.proofs.Places.{true→T}
 use Rattle.logic.proofs.Connectives.{decides-simulated}
 use Rattle.logic.proofs.Reach.{elem-cons, elem-below}
-use Rattle.logic.specs.Alike.{Bounded, Distinct, Closed, Full}
+use Rattle.logic.specs.Alike.{Bounded, Closed}
 use Rattle.logic.proofs.Rounds.{reach-closed, reach-start}
 
 pub position-lt : (q : ℕ) (L : List ℕ) → T (elem q L) → position q L < length L

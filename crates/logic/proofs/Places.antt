@@ -3,7 +3,7 @@
 use Prim.Native.Nat.{ℕ, zero, suc, _+_, _≤_, _<_, max}
 use mathlib.Core.Path.{_≡_, refl, ap, ap₂, sym, subst, _∙_}
 use mathlib.Core.HLevel.{isProp→PathP}
-use mathlib.Core.Logic.{_↔_, _≢_}
+use mathlib.Core.Logic.{_≢_}
 use mathlib.Core.Bool.{Bool, true, false, cond, _&&_, _||_, or-assoc, and-false, and-or-distrib-left}
 use mathlib.Core.List.{List, [], _∷_, _++_, map}
 use native.Mathlib.Nat.{le-refl, le-of-lt, le-of-suc-le-suc, not-suc-le-zero}
@@ -12,7 +12,7 @@ use native.Mathlib.Omega.{arith}
 use lib.Dec.{T, eqb, eqb→eq, eqb-refl}
 use lib.ListN.{length}
 use Rattle.logic.specs.Trim.{under, depth}
-use Rattle.logic.specs.Meaning.{Branch, Place, sameBranch, samePlace, has, _∈_}
+use Rattle.logic.specs.Meaning.{Branch, Place, sameBranch, samePlace, has}
 use Rattle.logic.specs.Tree.{downFrom, branches}
 
 pub T→true : (b : Bool) → T b → b ≡ true

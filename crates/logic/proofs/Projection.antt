@@ -1,19 +1,15 @@
 -- The machine of state sets projects.
 -- Assumes nothing.
-use Prim.Native.Nat.{ℕ, zero, suc, _+_, _*_, _/_, _%_, _^_, _≤_, _<_}
-use mathlib.Core.Path.{_≡_, refl, ap, sym, subst, _∙_, fun-ext}
-use mathlib.Core.Logic.{_↔_, _≢_, _⊎_, inl, inr, ⊎-elim}
-use mathlib.Core.Bool.{Bool, true, false, cond, _||_}
+use Prim.Native.Nat.{ℕ, _^_, _<_}
+use mathlib.Core.Path.{_≡_, refl, ap, sym, subst, _∙_}
+use mathlib.Core.Logic.{_↔_, _⊎_, inl, inr, ⊎-elim}
+use mathlib.Core.Bool.{Bool, true, false}
 use mathlib.Core.List.{List, [], _∷_}
-use native.Mathlib.Nat.{not-suc-le-zero, le-of-suc-le-suc}
-use native.Mathlib.Omega.{arith}
 use lib.Pow.{pow-pos}
-use lib.Dec.{T, eqb, eqb→eq}
+use lib.Dec.{T}
 use Rattle.logic.specs.Tree.{low}
-use Rattle.logic.specs.Meaning.{Branch}
-use Rattle.logic.specs.Machine.{Machine, Blank, none, grown, Projects, withBit, bitOf, anyOf}
-use Rattle.logic.specs.Reach.{elem, below, select, successors, Reached, started, stepped, reach, wordOf, members, projection}
-use Rattle.logic.proofs.Places.{true→T}
+use Rattle.logic.specs.Machine.{Machine, Blank, none, grown, Projects, withBit, anyOf}
+use Rattle.logic.specs.Reach.{elem, below, successors, Reached, started, stepped, reach, wordOf, members, projection}
 use Rattle.logic.proofs.Bits.{low-word, word-lt, put-lt}
 use Rattle.logic.proofs.Connectives.{or-iff}
 use Rattle.logic.proofs.Reach.{elem-cons, elem-below, elem-select, successors-iff}

@@ -1,21 +1,20 @@
 -- The rounds find exactly the states that can be reached.
 -- Assumes nothing.
-use Prim.Native.Nat.{ℕ, zero, suc, _+_, _*_, _^_, _≤_, _<_}
-use mathlib.Core.Path.{_≡_, refl, ap, ap₂, sym, subst, _∙_, fun-ext}
-use mathlib.Core.Logic.{_↔_, _≢_, _⊎_, inl, inr, ⊎-elim, Iff·trans}
-use mathlib.Core.Bool.{Bool, true, false, cond, _&&_, _||_, true≢false}
+use Prim.Native.Nat.{ℕ, zero, suc, _+_, _<_}
+use mathlib.Core.Path.{_≡_, refl, ap, sym, subst, _∙_, fun-ext}
+use mathlib.Core.Logic.{_↔_, _≢_, _⊎_, inl, inr, ⊎-elim}
+use mathlib.Core.Bool.{Bool, true, false, cond, _||_, true≢false}
 use mathlib.Core.List.{List, [], _∷_, _++_}
-use native.Mathlib.Nat.{le-refl, le-of-lt, not-suc-le-zero, le-of-suc-le-suc}
+use native.Mathlib.Nat.{not-suc-le-zero}
 use native.Mathlib.Omega.{arith}
-use lib.Dec.{T, eqb, eqb→eq, eqb-refl}
-use lib.ListN.{length, getD}
+use lib.Dec.{T, eqb, eqb→eq}
 use Rattle.logic.specs.Meaning.{Branch, sameBranch}
-use Rattle.logic.specs.Tree.{downFrom, branches}
+use Rattle.logic.specs.Tree.{branches}
 use Rattle.logic.specs.Machine.{Machine}
-use Rattle.logic.specs.Reach.{elem, below, flat, select, outcomes, successors, Reached, started, stepped, add, closure, reach, position}
-use Rattle.logic.proofs.Places.{T→true, true→T, not-T, neqb, branch-eq, branch-dec, among, among-all}
+use Rattle.logic.specs.Reach.{elem, below, flat, select, outcomes, successors}
+use Rattle.logic.proofs.Places.{true→T, neqb, branch-eq, among, among-all}
 use Rattle.logic.proofs.Connectives.{or-iff}
-use Rattle.logic.proofs.Branches.{eqb-iff, same-branch, other-branch}
+use Rattle.logic.proofs.Branches.{eqb-iff, same-branch}
 
 pub elem-cons : (q r : ℕ) (L : List ℕ) → T (elem q (r ∷ L)) ↔ ((q ≡ r) ⊎ T (elem q L))
 unfolding elem

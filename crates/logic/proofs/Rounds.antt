@@ -1,20 +1,18 @@
 -- The rounds end: a list of different numbers below d has at most d of them.
 -- Assumes nothing.
-use Prim.Native.Nat.{ℕ, zero, suc, _+_, _*_, _^_, _≤_, _<_}
+use Prim.Native.Nat.{ℕ, zero, suc, _+_, _≤_, _<_}
 use mathlib.Core.Path.{_≡_, refl, ap, sym, subst, _∙_}
 use mathlib.Core.Logic.{_↔_, _≢_, _⊎_, inl, inr, ⊎-elim}
-use mathlib.Core.Bool.{Bool, true, false, cond, not, _||_, true≢false}
+use mathlib.Core.Bool.{Bool, true, false, cond, not, true≢false}
 use mathlib.Core.List.{List, [], _∷_, _++_}
-use native.Mathlib.Nat.{le-refl, le-of-lt, not-suc-le-zero, le-of-suc-le-suc}
+use native.Mathlib.Nat.{le-refl, not-suc-le-zero}
 use native.Mathlib.Omega.{arith}
-use lib.Dec.{T, eqb, eqb→eq, eqb-refl}
-use lib.ListN.{length, length-append, getD}
-use Rattle.logic.specs.Alike.{Bounded, Distinct, Closed, Full}
-use Rattle.logic.specs.Meaning.{Branch}
+use lib.Dec.{T, eqb, eqb→eq}
+use lib.ListN.{length, length-append}
+use Rattle.logic.specs.Alike.{Distinct, Closed}
 use Rattle.logic.specs.Machine.{Machine}
-use Rattle.logic.specs.Reach.{elem, select, successors, Reached, started, stepped, add, closure, reach, position}
-use Rattle.logic.proofs.Places.{T→true, true→T, not-T, neqb}
-use Rattle.logic.proofs.Branches.{eqb-iff}
+use Rattle.logic.specs.Reach.{elem, select, successors, Reached, started, stepped, add, closure, reach}
+use Rattle.logic.proofs.Places.{T→true, true→T, neqb}
 use Rattle.logic.proofs.Reach.{elem-cons, elem-append, elem-select, successors-iff}
 
 -- a test on the members, one way or the other

@@ -2,22 +2,20 @@
 -- Assumes nothing.
 use Prim.Native.Nat.{ℕ, zero, suc, _+_, _-_, _≤_, _<_}
 use mathlib.Core.Path.{_≡_, refl, ap, ap₂, sym, subst, _∙_}
-use mathlib.Core.Logic.{_↔_, _⊎_, inl, inr}
-use mathlib.Core.Bool.{Bool, true, false, _&&_, _||_}
+use mathlib.Core.Bool.{Bool, true, false, _&&_}
 use mathlib.Core.List.{List, [], _∷_, _++_}
 use native.Mathlib.Decide.{decLt}
 use native.Mathlib.Nat.{not-suc-le-zero}
 use native.Mathlib.Omega.{arith}
 use borrow.Author.Tests.{ltb-true, ltb-false}
-use lib.Dec.{T, eqb, ltb, ltb→lt, eqb→eq}
+use lib.Dec.{T, eqb, ltb, ltb→lt}
 use lib.ListN.{length, getD, length-append, List·getD-append}
 use lib.Seq.{getD-append-seam}
 use Rattle.logic.specs.Rule.{Record, noRecord, successorAt, formulaOf, extend, formulaAt, good, goodFrom}
 use Rattle.logic.specs.Meaning.{Formula, successor, root, negation, disjunction, conjunction, exists}
-use Rattle.logic.specs.Table.{Table, table, tableOf, Built, over, built, admit, buildAll, Kind, atom, notOf, orOf, andOf, someOf, kindOf}
-use Rattle.logic.proofs.Places.{true→T, neqb}
+use Rattle.logic.specs.Table.{Table, table, tableOf, Built, over, built, admit, buildAll, kindOf}
 use Rattle.logic.proofs.Connectives.{and-iff}
-use Rattle.logic.proofs.Orders.{Tri, less, same, more, ℕ-tri}
+use Rattle.logic.proofs.Orders.{less, same, more, ℕ-tri}
 use Rattle.logic.proofs.Tables.{Valid, Right, table-right}
 
 and-both : (a b : Bool) → T (a && b) → T a × T b

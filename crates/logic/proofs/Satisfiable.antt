@@ -1,15 +1,13 @@
 -- From machines to assignments: a rule is satisfiable exactly if its machine has an accepting state.
 -- Assumes nothing.
-use Prim.Native.Nat.{ℕ, zero, suc, _+_, _^_, _≤_, _<_}
-use mathlib.Core.Path.{_≡_, refl, ap, sym, subst, _∙_, fun-ext}
+use Prim.Native.Nat.{ℕ, _^_}
+use mathlib.Core.Path.{_≡_, refl, ap, sym, subst, fun-ext}
 use mathlib.Core.Logic.{_↔_}
-use mathlib.Core.Bool.{Bool}
-use mathlib.Core.List.{List, [], _∷_}
 use lib.Dec.{T}
-use Rattle.logic.specs.Meaning.{Branch, Place, has, Assignment, Formula, Holds}
-use Rattle.logic.specs.Tree.{Tree, empty, node, bitAt, Proper, Represents}
+use Rattle.logic.specs.Meaning.{Branch, Assignment, Formula, Holds}
+use Rattle.logic.specs.Tree.{Tree, empty, node, Proper, Represents}
 use Rattle.logic.specs.Machine.{Machine, run, Decides}
-use Rattle.logic.specs.Reach.{elem, below, Reached, started, stepped}
+use Rattle.logic.specs.Reach.{below, Reached, started, stepped}
 use Rattle.logic.specs.Trim.{treeOf}
 use Rattle.logic.proofs.Reach.{elem-below}
 use Rattle.logic.proofs.Exists.{track, has-track}

@@ -1,20 +1,20 @@
 -- One round's scan finds the earliest candidate.
 -- Assumes nothing.
-use Prim.Native.Nat.{ℕ, zero, suc, _+_, _^_, _≤_, _<_}
-use mathlib.Core.Path.{_≡_, refl, sym, ap, ap₂, subst, _∙_, fun-ext}
-use mathlib.Core.Logic.{_⊎_, inl, inr, ⊎-elim}
+use Prim.Native.Nat.{ℕ, zero, suc, _+_, _≤_, _<_}
+use mathlib.Core.Path.{_≡_, refl, sym, ap, _∙_}
+use mathlib.Core.Logic.{_⊎_, inl, inr}
 use mathlib.Core.Bool.{Bool, true, false, _||_, true≢false, false≢true}
-use mathlib.Core.List.{List, [], _∷_, _++_}
+use mathlib.Core.List.{List, [], _∷_}
 use native.Mathlib.Omega.{arith}
-use borrow.Author.Tests.{ltb-true, ltb-false, eqb-true, eqb-false, eq-eqb}
-use lib.Dec.{ltb, eqb}
+use borrow.Author.Tests.{ltb-true, ltb-false, eqb-true, eq-eqb}
+use lib.Dec.{eqb}
 use lib.ListN.{length, getD}
 use Rattle.logic.specs.Meaning.{Branch}
-use Rattle.logic.specs.Tree.{Tree, empty, node, positions}
+use Rattle.logic.specs.Tree.{Tree, positions}
 use Rattle.logic.specs.Order.{Lex, _≺_, _⪯_}
 use Rattle.logic.specs.Machine.{Machine, run}
-use Rattle.logic.specs.Search.{at, rank, candidate, settled, View, view, Best, nothing, found, target, weight, lighter, choose, consider, loop, tuples, pick}
-use Rattle.logic.proofs.Orders.{Tri, less, same, more, ℕ-tri, ⪯-trans, ⪯-positions}
+use Rattle.logic.specs.Search.{at, rank, candidate, settled, View, view, Best, nothing, found, weight, lighter, choose, consider, loop, tuples, pick}
+use Rattle.logic.proofs.Orders.{less, same, more, ℕ-tri, ⪯-trans}
 
 abbrev pub Found : {k : ℕ} → Machine k ℕ → List (Tree k) → ℕ → Type 0
 Found M s q = (i : ℕ) × (i < length s) × (run M (at s i) ≡ q)

@@ -1,7 +1,7 @@
 -- Each round settles the next state in tree order, with its earliest tree.
 -- Assumes nothing.
 use Prim.Native.Nat.{ℕ, zero, suc, _+_, _-_, _^_, _≤_, _<_}
-use mathlib.Core.Path.{_≡_, refl, sym, ap, ap₂, subst, _∙_, fun-ext}
+use mathlib.Core.Path.{_≡_, refl, sym, ap, subst, _∙_, fun-ext}
 use mathlib.Core.Logic.{_⊎_, inl, inr, ⊎-elim}
 use mathlib.Core.Bool.{Bool, true, false, _||_, true≢false, false≢true}
 use mathlib.Core.List.{List, [], _∷_, _++_}
@@ -14,16 +14,15 @@ use Rattle.logic.specs.Meaning.{Branch}
 use Rattle.logic.specs.Tree.{Tree, empty, node, positions, Proper}
 use Rattle.logic.specs.Order.{_≺_, _⪯_}
 use Rattle.logic.specs.Machine.{Machine, run}
-use Rattle.logic.specs.Reach.{below, Reached}
+use Rattle.logic.specs.Reach.{below}
 use Rattle.logic.specs.Table.{Table}
 use Rattle.logic.specs.Search.{at, rank, candidate, settled, view, Best, nothing, found, pick, Sought, tree, large, absent, verdict, next, rounds, anyBelow, begin, search}
-use Rattle.logic.proofs.Places.{T→true, true→T}
 use Rattle.logic.proofs.Branches.{branch-same}
-use Rattle.logic.specs.Alike.{Bounded, Distinct, Closed, Full}
+use Rattle.logic.specs.Alike.{Full}
 use Rattle.logic.proofs.Satisfiable.{reached-tree}
 use Rattle.logic.proofs.Pigeon.{pigeon}
-use Rattle.logic.proofs.Orders.{Tri, less, same, more, ℕ-tri, first, ≺-irrefl, ≺-trans, ⪯-trans, ⪯-≺-trans, ⪯-positions, ≺-of-fewer, branch-fewer, empty-⪯, node-⪯}
-use Rattle.logic.proofs.Scan.{Found, settled-found, unsettled, Sorted, Tuple, tuple-below, Kept, picked}
+use Rattle.logic.proofs.Orders.{less, same, more, ℕ-tri, first, ≺-irrefl, ≺-trans, ⪯-trans, ⪯-≺-trans, ⪯-positions, ≺-of-fewer, branch-fewer, empty-⪯, node-⪯}
+use Rattle.logic.proofs.Scan.{settled-found, unsettled, Sorted, Tuple, tuple-below, Kept, picked}
 
 -- one number for each branch, as a list
 module _ {k : ℕ} (n : ℕ) (P : Branch k → ℕ → Type 0) (choice : (b : Branch k) → (q : ℕ) × (q < n) × P b q) where

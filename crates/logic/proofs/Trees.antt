@@ -1,20 +1,19 @@
 -- Every assignment has one trimmed tree.
 -- Assumes nothing.
-use Prim.Native.Nat.{ℕ, zero, suc, _+_, _-_, _^_, _≤_, _<_, max}
+use Prim.Native.Nat.{ℕ, zero, suc, _+_, _-_, _≤_, _<_, max}
 use mathlib.Core.Path.{_≡_, refl, ap, ap₂, sym, subst, _∙_, fun-ext}
 use mathlib.Core.Logic.{_↔_, _≢_}
-use mathlib.Core.Bool.{Bool, true, false, cond, not, _&&_, true≢false}
-use mathlib.Core.List.{List, [], _∷_, _++_}
+use mathlib.Core.Bool.{Bool, true, false, cond, not}
+use mathlib.Core.List.{[], _∷_}
 use native.Mathlib.Nat.{not-suc-le-zero}
 use native.Mathlib.Omega.{arith}
-use lib.Dec.{T, T-not, eqb, eqb→eq, eqb-refl}
-use lib.ListN.{length}
+use lib.Dec.{T, T-not, eqb, eqb→eq}
 use lib.Pow.{pow-pos}
 use Rattle.logic.specs.Machine.{allOf}
 use Rattle.logic.specs.Meaning.{Branch, Place, has, Assignment}
-use Rattle.logic.specs.Tree.{branches, Tree, empty, node, bitAt, Proper, Represents, bit}
-use Rattle.logic.specs.Trim.{trim, labelOf, treeTo, depthOf, treeOf, under, depth, isEmpty, bare, Trimmed}
-use Rattle.logic.proofs.Places.{T→true, true→T, not-T, neqb, has-under, Short, short-under, short-depth}
+use Rattle.logic.specs.Tree.{branches, Tree, empty, node, bitAt, Proper, Represents}
+use Rattle.logic.specs.Trim.{trim, treeTo, depthOf, treeOf, under, depth, isEmpty, bare, Trimmed}
+use Rattle.logic.proofs.Places.{true→T, not-T, neqb, has-under, Short, short-under, short-depth}
 use Rattle.logic.proofs.Bits.{bit-zero, bit-ext, bit-label, label-lt}
 use Rattle.logic.proofs.Connectives.{and-iff}
 use Rattle.logic.proofs.Branches.{all-iff, eqb-iff}

@@ -1,26 +1,25 @@
 -- Two branches: the constant tables say what the atoms' steps say, and a builder's table is a machine of its record.
 -- Assumes nothing.
-use Prim.Native.Nat.{ℕ, zero, suc, _+_, _*_, _^_, _≤_, _<_, min}
+use Prim.Native.Nat.{ℕ, _<_}
 use mathlib.Core.Path.{_≡_, refl, ap, sym, subst, _∙_, fun-ext}
-use mathlib.Core.Logic.{_↔_, _⊎_, inl, inr, ⊎-elim}
-use mathlib.Core.Bool.{Bool, true, false, cond, _&&_}
+use mathlib.Core.Logic.{_⊎_, ⊎-elim}
+use mathlib.Core.Bool.{Bool, true, false, cond}
 use mathlib.Core.List.{List, [], _∷_}
 use native.Mathlib.Omega.{arith}
 use lib.Dec.{T, eqb, eqb→eq}
 use lib.ListN.{length, getD}
-use Rattle.logic.specs.Meaning.{Branch, sameBranch, Formula}
-use Rattle.logic.specs.Tree.{downFrom, branches, sumOf}
-use Rattle.logic.specs.Machine.{Machine, bitOf, allOf, anyOf}
-use Rattle.logic.specs.Atom.{idle, alone, subsetStep, singletonStep, successorStep, rootStep}
+use Rattle.logic.specs.Meaning.{Branch, Formula}
+use Rattle.logic.specs.Tree.{downFrom, sumOf}
+use Rattle.logic.specs.Machine.{Machine, allOf, anyOf}
+use Rattle.logic.specs.Atom.{subsetStep, singletonStep, successorStep, rootStep}
 use Rattle.logic.specs.Reach.{elem, below, position, numbered}
-use Rattle.logic.specs.Alike.{Bounded, Full, Lists, Agrees, MachineOf}
+use Rattle.logic.specs.Alike.{Full, Agrees, MachineOf}
 use Rattle.logic.specs.Two.{one, two, pairOf, binary, atomIndex, subsetTable, singletonTable, rootTable, firstTable, secondTable, Tabled}
 use Rattle.logic.proofs.Places.{true→T, neqb, branch-eq}
 use Rattle.logic.proofs.Connectives.{and-iff}
 use Rattle.logic.proofs.Branches.{branch-same}
 use Rattle.logic.proofs.Reach.{elem-cons, elem-below}
 use Rattle.logic.proofs.Counts.{position-getD}
-use Rattle.logic.proofs.Numbered.{position-lt}
 use Rattle.logic.proofs.Builders.{of-numbered, full-numbered, of-agrees, full-agrees}
 
 pub two-branches : (s : Branch 2 → ℕ) → pairOf (s one) (s two) ≡ s

@@ -1,9 +1,7 @@
 -- The machines of the four kinds of atom. States are numbers; state 0 is that of the empty tree.
 -- Assumes nothing.
-use Prim.Native.Nat.{ℕ, zero, suc, _+_, _≤_, _<_, min}
-use mathlib.Core.Path.{_≡_}
+use Prim.Native.Nat.{ℕ, _+_, min}
 use mathlib.Core.Bool.{Bool, true, false, cond, not, _&&_, _||_}
-use mathlib.Core.List.{List, [], _∷_}
 use lib.Dec.{eqb}
 use Rattle.logic.specs.Tree.{bit, branches, sumOf}
 use Rattle.logic.specs.Meaning.{Branch, sameBranch}

@@ -1,11 +1,11 @@
 -- The machine of each formula, with exactly the states that can be reached, numbered.
 -- Assumes nothing.
-use Prim.Native.Nat.{ℕ, zero, suc, _+_, _*_, _/_, _%_, _^_, _≤_, _<_}
+use Prim.Native.Nat.{ℕ, _+_, _*_, _/_, _%_, _^_}
 use mathlib.Core.Bool.{Bool, true, false, _&&_, _||_}
 use mathlib.Core.List.{List, [], _∷_, _++_}
 use lib.Dec.{ltb}
 use lib.ListN.{length, getD}
-use Rattle.logic.specs.Meaning.{Branch, Formula, subset, singleton, successor, root, negation, disjunction, conjunction, exists}
+use Rattle.logic.specs.Meaning.{Formula, subset, singleton, successor, root, negation, disjunction, conjunction, exists}
 use Rattle.logic.specs.Rule.{Record, successorAt}
 use Rattle.logic.specs.Machine.{Machine, complement}
 use Rattle.logic.specs.Atom.{subsetMachine, singletonMachine, successorMachine, rootMachine}

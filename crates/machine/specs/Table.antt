@@ -7,7 +7,7 @@ use mathlib.Core.Option.{Option, none, some}
 use lib.ListN.{getD, take, drop, set}
 use lib.Bits.{bitAnd}
 use lib.Dec.{leb}
-use Rattle.machine.specs.Explore.{Has, pick, place, visit, row, ring, next, grow, explore}
+use Rattle.machine.specs.Explore.{Has, pick, place, visit, row, ring, grow, explore}
 use Rattle.machine.specs.declared.explore.Builder.{Builder}
 use Rattle.machine.specs.declared.explore.Plan.{Plan}
 

@@ -1,7 +1,7 @@
 // The exploration of a record's states: one for every kind of record, which differ in the successor and the start.
 ghost use mathlib.Core.Path.{_≡_};
-ghost use Prim.Native.Nat.{ℕ, _+_, _≤_, _<_};
-ghost use mathlib.Core.List.{List, [], _∷_};
+ghost use Prim.Native.Nat.{_+_, _≤_, _<_};
+ghost use mathlib.Core.List.{[], _∷_};
 ghost use mathlib.Core.Option.{some};
 ghost use lib.ListN.{length, getD, take};
 ghost use Rattle.machine.specs.Explore.{Distinct, place, insert};

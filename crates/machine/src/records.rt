@@ -252,15 +252,3 @@ pub fn build_all(
     }
     spread(ws, t, m - 1, c, labels)
 }
-
-// The first n bytes are set to 0.
-pub fn clear(ws: &mut [u8], n: usize)
-    requires { ⌜ n ≤ length (now ws) ⌝ }
-    ensures { λ _. ⌜ now (ws .exit) ≡ replicate n 0 ++ drop n (now (ws .entry)) ⌝ }
-{
-    let mut i = 0;
-    while i < n {
-        ws[i] = 0;
-        i += 1;
-    }
-}

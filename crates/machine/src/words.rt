@@ -1,7 +1,7 @@
 // Sets of states, numbers below 64, as 64-bit words.
 ghost use mathlib.Core.Bool.{true, _||_, _&&_};
 ghost use mathlib.Core.Path.{_≡_};
-ghost use Prim.Native.Nat.{ℕ, _%_, _≤_, _<_};
+ghost use Prim.Native.Nat.{ℕ, _%_, _<_};
 ghost use lib.Count.{ones};
 ghost use lib.Dec.{eqb};
 ghost use Rattle.machine.specs.Word.{mem, any, Smallest, Without};

@@ -1,9 +1,8 @@
 -- The builder's atoms run as the logic's.
 -- Assumes nothing.
-use Prim.Native.Nat.{ℕ, zero, suc, _+_, _*_, _/_, _%_, _^_, _≤_, _<_, min}
-use mathlib.Core.Path.{_≡_, refl, sym, ap, ap₂, subst, _∙_}
-use mathlib.Core.Bool.{Bool, true, false, cond, _&&_, _||_}
-use mathlib.Core.List.{List, [], _∷_}
+use Prim.Native.Nat.{ℕ, zero, suc, _/_, _%_, _<_}
+use mathlib.Core.Path.{_≡_, refl, sym, ap, ap₂, _∙_}
+use mathlib.Core.Bool.{Bool, true, false}
 use native.Mathlib.Omega.{arith}
 use lib.Dec.{T, eqb, eqb→eq}
 use Rattle.logic.specs.Meaning.{Branch}
@@ -16,7 +15,7 @@ use Rattle.logic.specs.Two.{one, two, pairOf}
 use Rattle.logic.proofs.Reach.{elem-below}
 use Rattle.logic.proofs.Tables.{subset-bounded, singleton-bounded, successor-bounded, root-bounded}
 use Rattle.logic.proofs.Two.{two-branches, all-elem}
-use Rattle.machine.specs.Succ.{subsetRule, singleRule, childRule, child1Rule, child2Rule, rootRule}
+use Rattle.machine.specs.Succ.{subsetRule, singleRule, child1Rule, child2Rule, rootRule}
 use Rattle.machine.proofs.AtomRuns.{atomState}
 use Rattle.refinement.proofs.Trees.{back}
 use Rattle.refinement.specs.Decode.{weight}

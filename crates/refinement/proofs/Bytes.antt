@@ -1,33 +1,30 @@
 -- From the bytes that the builder leaves to decide's answer by the search over them.
 -- Assumes nothing.
-use Prim.Native.Nat.{ℕ, zero, suc, _+_, _-_, _*_, _/_, _^_, _≤_, _<_}
+use Prim.Native.Nat.{ℕ, _+_, _-_, _*_, _^_, _≤_, _<_}
 use mathlib.Core.Path.{_≡_, refl, sym, ap, subst, _∙_}
-use mathlib.Core.Bool.{Bool, true, false, not}
-use mathlib.Core.List.{List, [], _∷_}
+use mathlib.Core.List.{List}
 use native.Mathlib.Omega.{arith}
-use lib.Dec.{eqb}
-use lib.ListN.{length, getD, drop, length-drop}
+use lib.ListN.{length, getD, drop}
 use lib.Seq.{getD-drop}
-use Rattle.logic.specs.Meaning.{Branch, Assignment}
+use Rattle.logic.specs.Meaning.{Assignment}
 use Rattle.logic.specs.Tree.{Tree, TreeOf}
 use Rattle.logic.specs.Rule.{noRecord, Record, formulaAt, lastOf, Accepted}
 use Rattle.logic.specs.Machine.{Machine, run}
 use Rattle.logic.specs.Search.{search}
 use Rattle.logic.specs.Alike.{Bounded, Full, Agrees, MachineOf}
 use Rattle.logic.specs.Two.{one, two, binary}
-use Rattle.logic.specs.Claims.{refused14, Roomy}
 use Rattle.logic.specs.Decide.{report, decideOf, say, judgeOf}
 use Rattle.logic.proofs.Builders.{of-agrees, full-agrees, decide-any, judge-any}
 use Rattle.machine.specs.Word.{mem}
 use Rattle.machine.specs.Table.{addr, seen}
 use Rattle.machine.specs.Succ.{entry}
-use Rattle.machine.specs.Rule.{Mach, noMach, Outcome, built, over, At, Finished, noDecoded, upto}
+use Rattle.machine.specs.Rule.{Mach, noMach, built, At, Finished, noDecoded, upto}
 use Rattle.machine.specs.declared.records.Decoded.{Decoded}
 use Rattle.machine.specs.declared.records.Machines.{Machines}
 use Rattle.search.specs.Arrays.{acceptsOf, machineIn, tableIn, Whole}
 use Rattle.refinement.proofs.Records.{machOf, Good}
 use Rattle.refinement.specs.Decode.{decodedOf}
-use Rattle.refinement.proofs.Upto.{Linked, linked, few-states, decide-over}
+use Rattle.refinement.proofs.Upto.{Linked, linked, few-states}
 
 module _ (n c : ℕ) (pos : 0 < c) (top : c ≤ 64) (rs : List Record) (acc : Accepted 2 n rs) (xs : List Decoded)
     (decoded : (r : ℕ) → r < length rs → getD xs r noDecoded ≡ decodedOf n (getD rs r noRecord)) (s : Machines) (ws : List ℕ) where

@@ -1,18 +1,16 @@
 -- An accepted rule's records, decoded, are what the builder asks for. Assumes nothing.
 use Prim.Native.Nat.{ℕ, zero, suc, _+_, _-_, _*_, _^_, _≤_, _<_}
-use mathlib.Core.Path.{_≡_, refl, sym, ap, _∙_, subst}
-use mathlib.Core.Bool.{Bool, true, false, cond, _&&_}
+use mathlib.Core.Path.{refl}
+use mathlib.Core.Bool.{Bool, true, false, cond}
 use mathlib.Core.List.{List}
-use native.Mathlib.Nat.{mul-le-mul-right, suc-mul, pow-suc}
+use native.Mathlib.Nat.{mul-le-mul-right, suc-mul}
 use native.Mathlib.Omega.{arith}
 use lib.Dec.{T, eqb, ltb, ltb→lt}
 use lib.ListN.{length, getD}
 use lib.Pow.{pow-pos, pow-mono}
-use Rattle.logic.specs.Rule.{Record, noRecord, good, goodFrom, Accepted}
+use Rattle.logic.specs.Rule.{Record, noRecord, good, Accepted}
 use Rattle.machine.specs.Rule.{Fits, Before, Sound}
-use Rattle.machine.specs.Machine.{Bit}
 use Rattle.machine.proofs.Labels.{bit-of}
-use Rattle.machine.specs.declared.records.Decoded.{Decoded}
 use Rattle.refinement.specs.Decode.{weight, decodedOf}
 use Rattle.refinement.proofs.Upto.{both-of, good-here}
 

@@ -1,45 +1,40 @@
 -- The builder's machines of a rule's records are machines of the records, and it gives up at the first record with more than c states.
 -- Assumes nothing.
-use Prim.Native.Nat.{ℕ, zero, suc, _+_, _-_, _*_, _/_, _%_, _^_, _≤_, _<_}
+use Prim.Native.Nat.{ℕ, suc, _+_, _-_, _*_, _/_, _%_, _^_, _≤_, _<_}
 use mathlib.Core.Path.{_≡_, refl, sym, ap, ap₂, subst, _∙_}
-use mathlib.Core.Logic.{_↔_, _⊎_, inl, inr, ⊎-elim}
+use mathlib.Core.Logic.{_↔_}
 use mathlib.Core.Bool.{Bool, true, false, not, cond, _&&_, _||_}
-use mathlib.Core.List.{List, [], _∷_, _++_}
+use mathlib.Core.List.{List}
 use mathlib.Core.Option.{Option, none, some}
 use native.Mathlib.Omega.{arith}
-use lib.Dec.{T, eqb, ltb, ltb→lt}
-use lib.ListN.{length, getD, length-append}
+use lib.Dec.{T, eqb}
+use lib.ListN.{length, getD}
 use Rattle.logic.specs.Tree.{Tree, empty, node, Proper}
 use Rattle.logic.specs.Meaning.{Formula, subset, singleton, successor, root, negation, disjunction, conjunction, exists as someF}
-use Rattle.logic.specs.Rule.{noRecord, Record, formulaOf, formulaAt, extend, good, goodFrom, successorAt, Accepted}
 use Rattle.logic.specs.Machine.{Machine, run, complement}
 use Rattle.logic.specs.Atom.{subsetMachine, singletonMachine, successorMachine, rootMachine}
-use Rattle.logic.specs.Reach.{below, Reached, elem}
-use Rattle.logic.specs.Alike.{Bounded, Full, Distinct, Alike, MachineOf, Varies, Comes}
+use Rattle.logic.specs.Alike.{Full, MachineOf, Comes}
 use Rattle.logic.specs.Two.{one, two, pairOf}
-use Rattle.logic.specs.Claims.{statesAt, FirstOver}
 use Rattle.logic.proofs.Places.{T→true, true→T}
-use Rattle.logic.proofs.Connectives.{and-iff, run-complement}
-use Rattle.logic.proofs.Satisfiable.{tree-reached}
+use Rattle.logic.proofs.Connectives.{run-complement}
 use Rattle.logic.proofs.Settle.{run-below}
 use Rattle.logic.proofs.Tables.{Valid}
-use Rattle.logic.proofs.Rules.{record-valid, record-formula}
-use Rattle.logic.proofs.Builders.{of-subset, of-singleton, of-successor, of-root, of-negation, of-runs, of-alike, of-disjunction-runs, of-conjunction-runs, of-exists-runs, states-any, over-any}
+use Rattle.logic.proofs.Builders.{of-subset, of-singleton, of-successor, of-root, of-negation, of-runs, of-disjunction-runs, of-conjunction-runs, of-exists-runs}
 use Rattle.machine.proofs.Any.{and-both, any-true, any-in}
 use Rattle.machine.specs.Explore.{explore}
-use Rattle.machine.proofs.Found.{Reach, at-start, by-step, Codes, Ok, Closed, explore-ok, explore-closed, too-many}
-use Rattle.machine.specs.Word.{mem, wordOf, any}
+use Rattle.machine.proofs.Found.{Reach}
+use Rattle.machine.specs.Word.{mem, any}
 use Rattle.machine.proofs.WordLaws.{word-ext, word-lt}
-use Rattle.machine.specs.Succ.{Step, notCode, pairCode, existsCode, closeCode, kindCode, wordFound, wordCodes, subsetRule, singleRule, child1Rule, child2Rule, rootRule}
-use Rattle.machine.specs.Machine.{startCode, codesOf, stepOf, acceptBy, acceptOf, Bit}
-use Rattle.machine.specs.Rule.{Mach, noMach, machFrom}
-use Rattle.machine.proofs.Run.{Tree as Tree₂, empty as empty₂, node as node₂, codeOf, stateOf, Labelled, run-code as code-state, reach-tree}
+use Rattle.machine.specs.Succ.{pairCode, existsCode, closeCode, kindCode, wordFound, subsetRule, singleRule, child1Rule, child2Rule, rootRule}
+use Rattle.machine.specs.Machine.{startCode, acceptBy, Bit}
+use Rattle.machine.specs.Rule.{Mach}
+use Rattle.machine.proofs.Run.{Tree as Tree₂, empty as empty₂, node as node₂, codeOf, stateOf}
 use Rattle.machine.proofs.Labels.{bit-of}
-use Rattle.machine.proofs.Exists.{Cover, cover-mem, mem-cover, cover-labelled}
-use Rattle.machine.proofs.Accept.{Small, accept-law, not-run, pair-run}
-use Rattle.machine.proofs.AtomRuns.{atomState, atom-run, subset-four, single-four, child-four, root-four}
+use Rattle.machine.proofs.Exists.{cover-mem, mem-cover, cover-labelled}
+use Rattle.machine.proofs.Accept.{Small, not-run, pair-run}
+use Rattle.machine.proofs.AtomRuns.{atom-run, subset-four, single-four, child-four, root-four}
 use Rattle.machine.specs.declared.explore.Kind.{Kind}
-use Rattle.machine.specs.declared.explore.Kind.the-variants.{Subset, Single, Child1, Child2, Root, Not, Or, And, Exists, Close}
+use Rattle.machine.specs.declared.explore.Kind.the-variants.{Subset, Single, Child1, Child2, Root, Not, Or, And, Exists}
 use Rattle.refinement.proofs.Trees.{back, forth, back-forth, raw, run-code, run-state, labelled, proper}
 use Rattle.refinement.specs.Decode.{weight}
 use Rattle.refinement.proofs.Weights.{varies-cover, cover-varies}

@@ -1,15 +1,12 @@
 -- The builder's trees and machines, as the logic's with two branches.
 -- Assumes nothing.
-use Prim.Native.Nat.{ℕ, zero, suc, _+_, _*_, _^_, _<_}
-use mathlib.Core.Path.{_≡_, refl, sym, ap, ap₂, _∙_, fun-ext}
+use Prim.Native.Nat.{ℕ, _^_}
+use mathlib.Core.Path.{_≡_, refl, ap₂}
 use mathlib.Core.Bool.{Bool, true, false, cond}
-use native.Mathlib.Omega.{arith}
-use lib.Dec.{T, eqb}
-use Rattle.logic.specs.Meaning.{Branch}
+use lib.Dec.{eqb}
 use Rattle.logic.specs.Tree.{Tree, empty, node, Proper}
 use Rattle.logic.specs.Machine.{Machine, run}
 use Rattle.logic.specs.Two.{one, two}
-use Rattle.logic.proofs.Branches.{branch-same}
 use Rattle.machine.specs.Succ.{Step}
 use Rattle.machine.proofs.Run.{Tree as Tree₂, empty as empty₂, node as node₂, codeOf, stateOf, Labelled}
 

@@ -1,10 +1,9 @@
 -- The builder's outcome for all records of a rule, and decide's answer from it.
 -- Assumes nothing.
-use Prim.Native.Nat.{ℕ, zero, suc, _+_, _-_, _*_, _/_, _%_, _^_, _≤_, _<_}
-use mathlib.Core.Path.{_≡_, refl, sym, ap, ap₂, subst, _∙_}
-use mathlib.Core.Logic.{_↔_, _⊎_, inl, inr, ⊎-elim}
-use mathlib.Core.Bool.{Bool, true, false, not, cond, _&&_, _||_}
-use mathlib.Core.List.{List, [], _∷_, _++_}
+use Prim.Native.Nat.{ℕ, zero, suc, _+_, _-_, _^_, _≤_, _<_}
+use mathlib.Core.Path.{_≡_, refl, sym, ap, subst, _∙_}
+use mathlib.Core.Bool.{Bool, true, false, cond, _&&_}
+use mathlib.Core.List.{List, [], _∷_}
 use mathlib.Core.Option.{Option, none, some}
 use native.Mathlib.Nat.{not-suc-le-zero}
 use native.Mathlib.Omega.{arith}
@@ -12,15 +11,15 @@ use native.Mathlib.Decide.{decLt}
 use lib.Dec.{T, eqb, ltb, ltb→lt}
 use lib.ListN.{length, getD, length-append}
 use Rattle.refinement.specs.Decode.{decodedOf}
-use Rattle.logic.specs.Meaning.{Branch, Formula, subset, singleton, successor, root, negation, disjunction, conjunction, exists as someF}
-use Rattle.logic.specs.Tree.{Tree, empty, node, Proper}
+use Rattle.logic.specs.Meaning.{Branch, Formula, successor, root}
+use Rattle.logic.specs.Tree.{Tree}
 use Rattle.logic.specs.Rule.{noRecord, Record, formulaOf, formulaAt, extend, good, goodFrom, successorAt, lastOf, Accepted}
-use Rattle.logic.specs.Machine.{Machine, run}
+use Rattle.logic.specs.Machine.{Machine}
 use Rattle.logic.specs.Reach.{below, Reached, started, stepped}
 use Rattle.logic.specs.Search.{search}
-use Rattle.logic.specs.Alike.{Bounded, Full, Alike, MachineOf}
+use Rattle.logic.specs.Alike.{Alike, MachineOf}
 use Rattle.logic.specs.Two.{one, two, pairOf}
-use Rattle.logic.specs.Claims.{Outcome as Result, refused14, unbuilt, statesAt, FirstOver, Roomy}
+use Rattle.logic.specs.Claims.{refused14, unbuilt, statesAt, FirstOver}
 use Rattle.logic.specs.Decide.{report, decideOf, judgeOf}
 use Rattle.logic.proofs.Branches.{branch-same}
 use Rattle.logic.proofs.Connectives.{and-iff}
@@ -30,8 +29,8 @@ use Rattle.logic.proofs.Tables.{Valid}
 use Rattle.logic.proofs.Rules.{record-valid, record-formula, getD-snoc}
 use Rattle.logic.proofs.Answers.{decide-answers, judge-judges}
 use Rattle.logic.proofs.Builders.{of-alike, states-any, over-index, decide-any}
-use Rattle.machine.specs.Explore.{explore, place}
-use Rattle.machine.proofs.Found.{Reach, at-start, by-step, Codes, Ok, Closed, explore-ok, explore-closed, too-many}
+use Rattle.machine.specs.Explore.{explore}
+use Rattle.machine.proofs.Found.{Reach, at-start, by-step, Ok, Closed, explore-ok, explore-closed, too-many}
 use Rattle.machine.specs.Word.{mem}
 use Rattle.machine.specs.Succ.{Step, kindCode}
 use Rattle.machine.specs.Machine.{startCode, codesOf, stepOf, acceptBy, acceptOf}
@@ -39,10 +38,8 @@ use Rattle.machine.specs.Rule.{Mach, noMach, machFrom, Outcome, built, over, mo
 use Rattle.machine.proofs.Run.{Tree as Tree₂, codeOf, stateOf, Labelled, run-code as code-state, reach-tree}
 use Rattle.machine.proofs.Accept.{accept-law}
 use Rattle.machine.specs.declared.explore.Kind.{Kind}
-use Rattle.machine.specs.declared.explore.Kind.the-variants.{Subset, Single, Child1, Child2, Root, Not, Or, And, Exists, Close}
 use Rattle.machine.specs.declared.records.Decoded.{Decoded}
 use Rattle.refinement.proofs.Trees.{back, forth, back-forth, raw, run-code, run-state, labelled, proper}
-use Rattle.refinement.specs.Decode.{weight}
 use Rattle.refinement.proofs.Records.{machOf, Good, codeMachine, code-subset, code-single, code-root, code-first, code-second, code-not, code-or, code-and, code-exists}
 
 pub both-of : (a b : Bool) → T (a && b) → T a × T b

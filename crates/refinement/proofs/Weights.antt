@@ -1,16 +1,16 @@
 -- A variable's bit by its weight; and the trees with any set put for a variable.
 -- Assumes nothing.
-use Prim.Native.Nat.{ℕ, zero, suc, _+_, _-_, _*_, _/_, _%_, _^_, _≤_, _<_}
+use Prim.Native.Nat.{ℕ, zero, suc, _+_, _-_, _*_, _/_, _%_, _^_}
 use mathlib.Core.Path.{_≡_, refl, sym, ap, ap₂, subst, _∙_}
 use mathlib.Core.Bool.{Bool, true, false, cond}
-use native.Mathlib.Nat.{div-div-eq-div-mul, pow-suc, mul-assoc, zero-div, zero-mod, div-one}
+use native.Mathlib.Nat.{div-div-eq-div-mul, pow-suc, mul-assoc, zero-div, zero-mod}
 use native.Mathlib.Omega.{arith}
 use lib.Arith.{mod-mul}
 use lib.Pow.{pow-pos}
 use lib.Dec.{T, eqb}
 use Rattle.refinement.specs.Decode.{weight}
 use Rattle.logic.specs.Meaning.{Branch}
-use Rattle.logic.specs.Tree.{Tree, empty, node, Proper, bit}
+use Rattle.logic.specs.Tree.{Tree, empty, node, bit}
 use Rattle.logic.specs.Machine.{bitOf, setLow, withBit}
 use Rattle.logic.specs.Alike.{Varies}
 use Rattle.logic.specs.Two.{one, two}
@@ -18,7 +18,7 @@ use Rattle.logic.proofs.Bits.{low-shift}
 use Rattle.logic.proofs.Places.{true→T, neqb, branch-eq}
 use Rattle.logic.proofs.Branches.{branch-same}
 use Rattle.machine.specs.Succ.{off, on}
-use Rattle.machine.proofs.Run.{Tree as Tree₂, empty as empty₂, node as node₂}
+use Rattle.machine.proofs.Run.{Tree as Tree₂, node as node₂}
 use Rattle.machine.proofs.Exists.{Only, only-empty, only-off, only-on, Cover, cover-empty, cover-off, cover-on}
 use Rattle.refinement.proofs.Trees.{back, forth}
 

@@ -1,7 +1,7 @@
 -- A rule's records as the builder takes them: document 01, "Strips" and "The logic decided". Assumes nothing.
 use Prim.Native.Nat.{ℕ, suc, _-_, _^_}
-use mathlib.Core.Bool.{Bool, cond}
-use mathlib.Core.List.{List, [], _∷_}
+use mathlib.Core.Bool.{cond}
+use mathlib.Core.List.{[], _∷_}
 use lib.Dec.{eqb}
 use lib.ListN.{getD}
 use Rattle.logic.specs.Rule.{Record}

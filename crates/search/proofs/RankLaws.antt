@@ -1,14 +1,12 @@
 -- The bits of the tree of a rank, by those of its branches; and a run of stores at a place that holds zeros. Assumes nothing.
 use mathlib.Core.Path.{_≡_, refl, sym, ap, ap₂, _∙_}
-use mathlib.Core.Logic.{_⊎_, inl, inr, ⊎-elim}
 use mathlib.Core.List.{List, [], _∷_, _++_}
-use Prim.Native.Nat.{ℕ, zero, suc, _+_, _-_, _*_, _≤_, _<_}
-use native.Mathlib.Nat.{not-suc-le-zero, eq-or-lt-of-le, le-of-suc-le-suc}
+use Prim.Native.Nat.{ℕ, zero, suc, _+_, _-_, _≤_, _<_}
 use native.Mathlib.Omega.{arith}
 use lib.ListN.{length, getD, set, length-append, List·getD-append}
 use lib.Seq.{sets, set-getD, getD-append-seam}
-use Rattle.logic.specs.Tree.{Tree, empty, node}
-use Rattle.logic.specs.Search.{at, candidate}
+use Rattle.logic.specs.Tree.{Tree, empty}
+use Rattle.logic.specs.Search.{at}
 use Rattle.strip.specs.Bits.{digits}
 use Rattle.strip.specs.TreeStrip.{treeBits}
 use Rattle.strip.proofs.Fields.{sets-after, length-digits}

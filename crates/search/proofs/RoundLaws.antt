@@ -9,7 +9,6 @@ use lib.Dec.{ltb, eqb}
 use borrow.Author.Tests.{eq-eqb, ne-eqb, lt-ltb, le-ltb}
 use lib.ListN.{length, getD, set, replicate, length-append, length-set, List·getD-append, List·getD-eq-default}
 use Rattle.search.specs.declared.Pick.{Pick}
-use Rattle.logic.specs.Two.{one}
 use Rattle.logic.specs.Search.{Best, nothing, found, View, lighter, choose, consider, loop, pick, at, rank, settled, candidate, view, Sought, tree, absent, verdict, next, rounds, anyBelow, begin, search}
 use native.Mathlib.Decide.{ℕ-discrete}
 use lib.Seq.{getD-append-seam, getD-set-same, getD-set-other, set-out}

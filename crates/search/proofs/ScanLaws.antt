@@ -10,7 +10,6 @@ use lib.Dec.{eqb}
 use borrow.Author.Tests.{eq-eqb, ne-eqb, lt-ltb, le-ltb, ltb-true, ltb-false, eqb-true, eqb-false}
 use lib.ListN.{getD}
 use Rattle.search.specs.declared.Pick.{Pick}
-use Rattle.logic.specs.Two.{one}
 use Rattle.logic.specs.Search.{Best, nothing, found, View, weight, lighter, choose, consider, loop, tuples, pick, at}
 use Rattle.logic.specs.Tree.{downFrom, sumOf}
 use Rattle.search.specs.Scan.{kept, codeView, bestOf, sizeOf, Held, Ready, scanSecond, scanFirst, scanLabel}

@@ -1,14 +1,14 @@
 -- A strip written field by field onto zeros. Assumes nothing.
-use mathlib.Core.Path.{_≡_, refl, sym, ap, ap₂, _∙_, subst}
+use mathlib.Core.Path.{_≡_, refl, ap, _∙_}
 use mathlib.Core.List.{List, [], _∷_, _++_, append-nil}
-use Prim.Native.Nat.{ℕ, zero, suc, _+_, _-_, _*_, _/_, _≤_, _<_}
+use Prim.Native.Nat.{ℕ, zero, suc, _+_, _-_, _*_, _≤_, _<_}
 use native.Mathlib.Omega.{arith}
-use lib.ListN.{length, getD, take, drop, replicate, length-append}
-use lib.Seq.{sets, sets-eq, length-sets}
+use lib.ListN.{length, getD, drop, replicate, length-append}
+use lib.Seq.{sets, sets-eq}
 use Rattle.logic.specs.Tree.{Tree, positions}
 use Rattle.strip.specs.Bits.{digits, bits}
 use Rattle.strip.specs.TreeStrip.{treeBits, treeStrip, treeBytes}
-use Rattle.strip.proofs.Fields.{length-digits, length-bits}
+use Rattle.strip.proofs.Fields.{length-digits}
 use Rattle.strip.proofs.TreeBits.{treeBits-length}
 use Rattle.strip.proofs.TreeLaws.{treeBytes-most}
 use Rattle.strip.proofs.TreePack.{strip-of-bits}

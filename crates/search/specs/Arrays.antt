@@ -5,7 +5,7 @@ use mathlib.Core.List.{List, [], _∷_, _++_}
 use Prim.Native.Nat.{ℕ, zero, suc, _+_, _*_, _≤_, _<_, _-_}
 use lib.Dec.{eqb}
 use lib.ListN.{length, getD}
-use Rattle.logic.specs.Search.{loop, at, rank, settled, candidate, Sought, tree, large, absent, rounds, begin}
+use Rattle.logic.specs.Search.{at, candidate, Sought, tree, large, absent, rounds, begin}
 use Rattle.logic.specs.Tree.{Tree, empty, positions}
 use Rattle.logic.specs.Machine.{Machine}
 use Rattle.logic.specs.Table.{Table}

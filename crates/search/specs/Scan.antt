@@ -7,8 +7,7 @@ use lib.Dec.{ltb, eqb}
 use lib.ListN.{length, getD}
 use Rattle.search.specs.declared.Pick.{Pick}
 use Rattle.logic.specs.Two.{one, two}
-use Rattle.logic.specs.Search.{Best, nothing, found, View, weight, consider, loop, at, settled}
-use Rattle.logic.specs.Tree.{positions}
+use Rattle.logic.specs.Search.{Best, nothing, found, View, weight, consider, loop}
 
 unfoldable pub scanSecond : View 2 → ℕ → ℕ → ℕ → Best → Best
 scanSecond v l i n b = loop (λ j. consider v l (i ∷ j ∷ [])) n b

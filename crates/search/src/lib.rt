@@ -4,8 +4,8 @@ pub mod write; // the strip of the tree that was found
 ghost use Rattle.search.specs.Arrays.{Whole, acceptsOf, machineIn, settling, Ended, tableIn};
 // The scan of one round, over byte arrays.
 ghost use mathlib.Core.Path.{_≡_};
-ghost use Prim.Native.Nat.{ℕ, _+_, _*_, _<_, _≤_};
-ghost use lib.ListN.{length, getD};
+ghost use Prim.Native.Nat.{_+_, _*_, _<_, _≤_};
+ghost use lib.ListN.{getD};
 ghost use Rattle.search.specs.Scan.{kept, Ready, Held, codeView, bestOf, scanSecond, scanFirst, scanLabel};
 ghost use Rattle.logic.specs.Search.{nothing, anyBelow, search};
 

@@ -6,18 +6,15 @@ use lib.ListN.{length, getD, set, take, drop, replicate, length-set, length-drop
 use lib.Seq.{getD-set-same, getD-set-other, getD-drop, take-all}
 use native.Mathlib.Omega.{arith}
 use native.Mathlib.Decide.{ℕ-discrete}
-use native.Mathlib.Numerals.{add-one}
-use borrow.Author.Tests.{eq-eqb, ne-eqb, lt-ltb}
-use lib.Dec.{ltb, eqb}
+use borrow.Author.Tests.{lt-ltb}
 use native.Mathlib.Nat.{mul-le-mul, suc-mul}
-use mathlib.Core.Bool.{Bool, true, false, not}
+use mathlib.Core.Bool.{Bool, true, false}
 use Rattle.logic.specs.Rule.{noRecord, Record, Accepted, lastOf}
 use Rattle.logic.specs.Claims.{Outcome, refused14, shown}
 use Rattle.logic.specs.Tree.{Tree}
 use Rattle.logic.specs.Machine.{Machine, run}
 use Rattle.logic.specs.Two.{binary}
 use Rattle.logic.proofs.Answers.{trimmed-iff}
-use Rattle.strip.specs.TreeStrip.{readTree}
 use Rattle.strip.proofs.TreeLaws.{TreeFacts, tree-accepted}
 use Rattle.strip.proofs.TreeWalk.{facts-stand}
 use Rattle.solver.specs.declared.Ruling.{Ruling}
@@ -31,13 +28,13 @@ use Rattle.machine.specs.Table.{addr, seen}
 use Rattle.machine.specs.Rule.{Mach, noMach, Outcome as Made-outcome, built, over, At, Made, Finished, noDecoded, upto}
 use Rattle.machine.specs.declared.records.Machines.{Machines}
 use Rattle.machine.specs.declared.records.Decoded.{Decoded}
-use Rattle.search.specs.Arrays.{acceptsOf, tableIn, answerOf, Whole, Ended}
+use Rattle.search.specs.Arrays.{tableIn, answerOf, Whole, Ended}
 use Rattle.logic.specs.Search.{Sought, tree, large, absent, search}
 use Rattle.refinement.specs.Decode.{decodedOf}
 use Rattle.refinement.proofs.Upto.{decide-over, judge-over}
 use Rattle.refinement.proofs.Bytes.{decide-bytes, wordMachine, judge-bytes}
 use Rattle.solver.specs.declared.Solution.{Solution}
-use Rattle.solver.specs.Solve.{Marked, outcomeIf, outcomeOf, Ranked, Solved, judgementIf, Judged}
+use Rattle.solver.specs.Solve.{Marked, outcomeIf, Solved, judgementIf, Judged}
 
 -- the loop's invariant
 pub record Marking (a : List ℕ) (w q : ℕ) : Type 0 where

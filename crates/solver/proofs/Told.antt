@@ -1,10 +1,7 @@
 -- The outcome that a solution stands for, by its fields. Assumes nothing.
 use Prim.Native.Nat.{ℕ, zero, suc, _-_, _≤_, _<_}
-use mathlib.Core.Path.{_≡_, refl, ap, _∙_}
-use mathlib.Core.List.{List}
-use native.Mathlib.Omega.{arith}
+use mathlib.Core.Path.{_≡_, refl}
 use borrow.Author.Tests.{lt-ltb, le-ltb}
-use lib.Dec.{ltb}
 use Rattle.logic.specs.Tree.{Tree, positions}
 use Rattle.logic.specs.Claims.{refused14, shown, none, larger}
 use Rattle.logic.specs.Decide.{report}

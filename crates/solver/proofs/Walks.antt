@@ -1,11 +1,10 @@
 -- One step of a run; and the run over an accepted strip is the machine's run on its tree. Assumes nothing.
-use Prim.Native.Nat.{ℕ, zero, suc, _+_, _-_, _*_, _^_, _≤_, _<_}
-use mathlib.Core.Path.{_≡_, refl, sym, ap, ap₂, _∙_, subst}
+use Prim.Native.Nat.{ℕ, zero, suc, _+_, _-_, _*_, _<_}
+use mathlib.Core.Path.{_≡_, refl, sym, ap, _∙_}
 use mathlib.Core.Bool.{Bool}
 use mathlib.Core.List.{List, _++_}
 use native.Mathlib.Omega.{arith}
 use lib.ListN.{length, getD, length-append}
-use Rattle.logic.specs.Meaning.{Branch}
 use Rattle.logic.specs.Tree.{Tree, empty, node, positions, Proper}
 use Rattle.logic.specs.Machine.{run}
 use Rattle.logic.specs.Two.{one, two, binary}
@@ -13,7 +12,7 @@ use Rattle.strip.specs.Bits.{digits}
 use Rattle.strip.specs.TreeStrip.{treeBits}
 use Rattle.strip.specs.TreeAnswers.{headAt}
 use Rattle.strip.specs.declared.tree.Head.{Head}
-use Rattle.strip.specs.declared.tree.Head.the-variants.{Empty, Node, Refused}
+use Rattle.strip.specs.declared.tree.Head.the-variants.{Node}
 use Rattle.strip.proofs.Fields.{length-digits}
 use Rattle.strip.proofs.TreeBits.{positions-node}
 use Rattle.strip.proofs.TreeWalk.{Stands, stands-empty, stands-node, stands-first, stands-second}

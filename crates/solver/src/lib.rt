@@ -4,9 +4,7 @@ pub mod run; // a machine run over the tree in a strip
 ghost use mathlib.Core.Path.{_≡_};
 ghost use Prim.Native.Nat.{ℕ, _+_, _*_, _^_, _<_, _≤_};
 ghost use lib.ListN.{length, getD, drop};
-ghost use Rattle.machine.specs.Word.{mem};
 ghost use Rattle.machine.specs.Rule.{Fits, Sound, noDecoded};
-ghost use Rattle.search.specs.Arrays.{acceptsOf};
 ghost use Rattle.solver.specs.Solve.{Marked, Solved, Judged};
 use machine::records::Decoded;
 use search::Found;

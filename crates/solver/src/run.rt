@@ -1,6 +1,6 @@
 // A machine's table run over the tree in a strip.
 ghost use mathlib.Core.Path.{_≡_};
-ghost use Prim.Native.Nat.{ℕ, _*_, _^_, _<_, _≤_};
+ghost use Prim.Native.Nat.{_*_, _^_, _<_, _≤_};
 ghost use lib.ListN.{length};
 ghost use Rattle.search.specs.Arrays.{Whole};
 ghost use Rattle.solver.specs.Run.{walk};

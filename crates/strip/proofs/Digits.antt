@@ -1,6 +1,6 @@
 -- Binary digits of a number, and how setting one changes them. Assumes nothing.
 use mathlib.Core.Path.{_≡_, refl, sym, ap, _∙_}
-use Prim.Native.Nat.{ℕ, zero, suc, _+_, _*_, _/_, _%_, _^_, _<_, max}
+use Prim.Native.Nat.{ℕ, zero, suc, _/_, _%_, _^_, _<_, max}
 use native.Mathlib.Nat.{mod-lt, zero-lt-suc, pow-suc, div-one, suc-add, zero-add, zero-div}
 use native.Mathlib.Omega.{arith}
 use lib.Pow.{shr-shr}

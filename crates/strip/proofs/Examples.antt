@@ -3,11 +3,9 @@
 -- Assumes nothing.
 use Prim.Native.Nat.{ℕ}
 use mathlib.Core.Path.{_≡_, refl}
-use mathlib.Core.Bool.{Bool}
 use mathlib.Core.List.{List, [], _∷_}
 use native.Mathlib.Decide.{decLt}
-use Rattle.logic.specs.Meaning.{Branch}
-use Rattle.logic.specs.Tree.{downFrom, sumOf, Tree, empty, node, positions, low, bit}
+use Rattle.logic.specs.Tree.{downFrom, sumOf, positions, low, bit}
 use Rattle.logic.specs.Rule.{Record, successorAt}
 use Rattle.logic.specs.Machine.{setLow, withBit, run, allOf, anyOf}
 use Rattle.logic.specs.Reach.{elem, below, flat, select, outcomes, successors, add, closure, reach, position, numbered, wordOf, members, projection}

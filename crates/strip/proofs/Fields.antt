@@ -1,16 +1,16 @@
 -- Laws of the bits of a list of bytes: reading, storing, fields. Assumes nothing.
-use mathlib.Core.Path.{_≡_, refl, sym, ap, ap₂, _∙_, subst}
+use mathlib.Core.Path.{_≡_, refl, sym, ap, ap₂, _∙_}
 use mathlib.Core.Logic.{_⊎_, inl, inr, ⊎-elim}
 use mathlib.Core.List.{List, [], _∷_, _++_, append-assoc}
 use Prim.Native.Nat.{ℕ, zero, suc, _+_, _-_, _*_, _/_, _%_, _^_, _≤_, _<_, max}
-use native.Mathlib.Nat.{mod-lt, zero-lt-suc, suc-add, not-suc-le-zero, le-of-suc-le-suc, max-zero, zero-add, add-zero, add-comm, add-mul, mul-one, mul-comm, mul-assoc, mod-one, pow-suc, zero-mul}
+use native.Mathlib.Nat.{suc-add, not-suc-le-zero, le-of-suc-le-suc, max-zero, zero-add, add-zero, add-comm, add-mul, mul-one, mul-comm, mul-assoc, mod-one, pow-suc}
 use native.Mathlib.Numerals.{add-one, one-add}
 use native.Mathlib.Omega.{arith}
 use lib.Dec.{lit<}
 use lib.Pow.{shr-shr, mod-pow-add, mod-mod-pow, high, low}
 use lib.Pow.{field as Pow-field}
-use lib.ListN.{length, getD, set, take, drop, length-append, length-drop, take-append-drop, length-set, List·getD-append, List·getD-eq-default}
-use lib.Seq.{getD-append-add, set-append-left, ext-getD, getD-set-same, getD-set-other, take-suc, getD-drop, getD-take, sets, length-take-le, drop-append-le, take-append-le, drop-append-add}
+use lib.ListN.{length, getD, set, take, drop, length-append, length-drop, take-append-drop, length-set, List·getD-append}
+use lib.Seq.{getD-append-add, set-append-left, ext-getD, getD-set-same, getD-set-other, take-suc, getD-drop, sets, length-take-le, drop-append-le, take-append-le, drop-append-add}
 use lib.Bits.{bitOr}
 use Rattle.strip.proofs.Digits.{bit, same}
 use Rattle.strip.proofs.Digits.{with-bit, bit-lt}

@@ -1,8 +1,8 @@
 // Fields of bits in a byte slice, most significant first.
 ghost use mathlib.Core.Path.{_≡_};
 ghost use mathlib.Core.List.{_++_};
-ghost use Prim.Native.Nat.{ℕ, _+_, _*_, _<_, _≤_, _^_};
-ghost use lib.ListN.{length, getD, set, take, drop, replicate};
+ghost use Prim.Native.Nat.{ℕ, _+_, _*_, _<_, _≤_};
+ghost use lib.ListN.{length, getD, set, drop, replicate};
 ghost use lib.Seq.{sets};
 ghost use Rattle.strip.specs.Bits.{bits, digits, field};
 

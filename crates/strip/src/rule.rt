@@ -1,8 +1,8 @@
 // Rule strips, read and checked: document 01, "Strips" and "Check a rule strip".
 use crate::bits;
 ghost use mathlib.Core.Path.{_≡_};
-ghost use mathlib.Core.Bool.{Bool, not};
-ghost use Prim.Native.Nat.{ℕ, _+_, _*_, _<_, _≤_};
+ghost use mathlib.Core.Bool.{not};
+ghost use Prim.Native.Nat.{_+_, _*_, _<_, _≤_};
 ghost use lib.ListN.{length, drop};
 ghost use Rattle.strip.specs.Bits.{bits, anySet};
 ghost use Rattle.strip.specs.RuleStrip.{between, firstUse, secondUse, recordRefusal};

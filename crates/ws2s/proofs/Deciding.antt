@@ -1,17 +1,14 @@
 -- From an accepted rule strip to decide's outcome, and from the outcome to the bytes in out. Assumes nothing.
-use Prim.Native.Nat.{ℕ, zero, suc, _+_, _-_, _*_, _^_, _≤_, _<_}
-use mathlib.Core.Path.{_≡_, refl, sym, ap, ap₂, _∙_, subst}
+use Prim.Native.Nat.{ℕ, _+_, _-_, _*_, _^_, _≤_, _<_}
+use mathlib.Core.Path.{_≡_, refl, sym, ap, _∙_, subst}
 use mathlib.Core.List.{List, _++_}
 use native.Mathlib.Omega.{arith}
-use lib.ListN.{length, getD, take, drop, replicate, length-drop}
+use lib.ListN.{length, getD, take, drop, replicate}
 use lib.Seq.{length-take-le}
 use Rattle.logic.specs.Rule.{Record, noRecord}
-use Rattle.logic.specs.Tree.{Tree, positions}
-use Rattle.logic.specs.Claims.{Outcome, refused14, shown, none, larger}
-use Rattle.logic.specs.Decide.{decideOf}
+use Rattle.logic.specs.Tree.{positions}
 use Rattle.machine.specs.Rule.{Fits, Sound, noDecoded}
 use Rattle.machine.specs.declared.records.Decoded.{Decoded}
-use Rattle.refinement.specs.Decode.{decodedOf}
 use Rattle.refinement.proofs.Ready.{ready}
 use Rattle.solver.specs.Solve.{outcomeOf, Ranked, Solved}
 use Rattle.solver.proofs.Told.{treeIn, told-over, told-none, told-larger, told-shown}

@@ -1,16 +1,16 @@
 -- Decoding a rule strip, record by record; and what the builder asks of decoded records. Assumes nothing.
-use Prim.Native.Nat.{ℕ, zero, suc, _+_, _-_, _*_, _^_, _≤_, _<_}
-use mathlib.Core.Path.{_≡_, refl, sym, ap, _∙_, subst}
+use Prim.Native.Nat.{ℕ, _+_, _-_, _*_, _≤_, _<_}
+use mathlib.Core.Path.{_≡_, refl, _∙_}
 use mathlib.Core.List.{List}
 use native.Mathlib.Decide.{ℕ-discrete}
 use native.Mathlib.Omega.{arith}
-use lib.ListN.{length, getD, set, length-set}
+use lib.ListN.{length, set, length-set}
 use lib.Seq.{getD-set-same, getD-set-other}
-use Rattle.logic.specs.Rule.{Record, noRecord}
+use Rattle.logic.specs.Rule.{Record}
 use Rattle.machine.specs.declared.records.Decoded.{Decoded}
 use Rattle.machine.specs.Rule.{noDecoded}
 use Rattle.refinement.specs.Decode.{decodedOf}
-use Rattle.strip.specs.RuleStrip.{variablesOf, countOf, recordsOf, ruleRefusal}
+use Rattle.strip.specs.RuleStrip.{variablesOf, countOf, ruleRefusal}
 use Rattle.strip.specs.RuleAnswers.{readRecord}
 use Rattle.strip.specs.declared.rule.Read.{Read}
 use Rattle.strip.specs.declared.rule.Read.the-variants.{Record as recordRead, Refused as refused}

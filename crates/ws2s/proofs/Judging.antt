@@ -1,12 +1,12 @@
 -- From an accepted rule strip and an accepted tree strip to judge's answer, and its claim. Assumes nothing.
-use Prim.Native.Nat.{ℕ, zero, suc, _+_, _-_, _*_, _^_, _≤_, _<_}
-use mathlib.Core.Path.{_≡_, refl, sym, ap, ap₂, _∙_, subst}
+use Prim.Native.Nat.{ℕ, zero, suc, _-_, _*_, _≤_, _<_}
+use mathlib.Core.Path.{_≡_, refl, sym, ap, _∙_, subst}
 use mathlib.Core.Bool.{Bool, true, false, not, _&&_, _||_}
 use mathlib.Core.List.{List, [], _∷_}
 use native.Mathlib.Omega.{arith}
 use borrow.Author.Tests.{eq-eqb, ne-eqb, eqb-true, lt-ltb, le-ltb}
 use lib.Dec.{ltb, leb, eqb, eqb·suc-zero}
-use lib.ListN.{length, getD, take, drop}
+use lib.ListN.{length, take, drop}
 use Rattle.logic.specs.Meaning.{Assignment}
 use Rattle.logic.specs.Tree.{Tree, node, TreeOf}
 use Rattle.logic.specs.Two.{pairOf}
@@ -19,14 +19,14 @@ use Rattle.solver.specs.Solve.{judgementIf, judgementOf, Judged}
 use Rattle.solver.specs.declared.Ruling.{Ruling}
 use Rattle.strip.specs.Bits.{bits, number, field, anySet}
 use Rattle.strip.specs.RuleStrip.{orElse, between, variablesOf, countOf, recordsOf, ruleRefusal}
-use Rattle.strip.specs.TreeStrip.{Parsed, parsed, refused, join, andThen, parse, ended, readTree, treeBytes}
+use Rattle.strip.specs.TreeStrip.{Parsed, parsed, refused, join, andThen, parse, ended, readTree}
 use Rattle.strip.specs.TreeAnswers.{answered, checkedTree}
 use Rattle.strip.specs.declared.tree.TreeCheck.the-variants.{Accepted as treeAccepted, Refused as treeRefused}
 use Rattle.strip.proofs.RuleLaws.{rule-accepted}
 use Rattle.strip.proofs.TreeLaws.{TreeFacts, tree-accepted, facts-length, treeBytes-most}
 use Rattle.ws2s.specs.Decoding.{DecodesTo}
 use Rattle.ws2s.specs.Room.{roomFor, cleared, workRefusal}
-use Rattle.ws2s.specs.Judge.{Readable, treeRefusal, treeIn, lateRefusal, refusalBefore, tell, judgedOf, judgementFor, workspaceFor, JudgeClaim}
+use Rattle.ws2s.specs.Judge.{Readable, treeRefusal, lateRefusal, refusalBefore, tell, judgedOf, judgementFor, workspaceFor, JudgeClaim}
 use Rattle.ws2s.specs.declared.judge.Judgement.{Judgement}
 use Rattle.ws2s.specs.declared.judge.Judgement.the-variants.{No, Yes, Refused, TooManyStates}
 use Rattle.ws2s.proofs.Rooms.{work-free}

@@ -1,23 +1,21 @@
 -- Decide's result and the buffers at its end, by the refusals; and demands 2 and 3 of them. Assumes nothing.
-use Prim.Native.Nat.{ℕ, zero, suc, _+_, _-_, _*_, _/_, _^_, _≤_, _<_}
-use mathlib.Core.Path.{_≡_, refl, sym, ap, ap₂, _∙_, subst}
-use mathlib.Core.Bool.{Bool, true, false}
-use mathlib.Core.List.{List, _++_}
+use Prim.Native.Nat.{ℕ, zero, suc, _+_, _-_, _≤_}
+use mathlib.Core.Path.{_≡_, refl, sym, _∙_}
+use mathlib.Core.List.{List}
 use native.Mathlib.Nat.{mul-le-mul-right}
 use native.Mathlib.Omega.{arith}
-use borrow.Author.Tests.{eq-eqb, ne-eqb}
+use borrow.Author.Tests.{ne-eqb}
 use lib.Dec.{eqb, eqb·suc-zero}
-use lib.ListN.{length, take, drop, length-append}
+use lib.ListN.{length, drop}
 use lib.Seq.{take-append-seam}
-use Rattle.logic.specs.Tree.{Tree, positions}
-use Rattle.logic.specs.Claims.{Outcome, refused14, shown, none, larger}
+use Rattle.logic.specs.Tree.{positions}
 use Rattle.logic.proofs.Answers.{decide-answers, shown-fits}
 use Rattle.solver.specs.Solve.{outcomeOf}
 use Rattle.solver.specs.declared.Solution.{Solution}
 use Rattle.strip.specs.RuleStrip.{orElse, variablesOf, countOf, recordsOf, ruleRefusal}
 use Rattle.strip.specs.TreeStrip.{treeStrip, treeBytes}
 use Rattle.strip.proofs.RuleLaws.{rule-accepted}
-use Rattle.ws2s.specs.Room.{roomFor, cleared, workRefusal, roomRefusal}
+use Rattle.ws2s.specs.Room.{roomFor, cleared, roomRefusal}
 use Rattle.ws2s.specs.Decide.{earlyRefusal, decidedOf, tell, outAfter, Spacious, verdictOf, workspaceOf, outOf, Claim}
 use Rattle.ws2s.specs.declared.decide.Verdict.{Verdict}
 use Rattle.ws2s.specs.declared.decide.Verdict.the-variants.{Refused}

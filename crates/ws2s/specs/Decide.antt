@@ -1,14 +1,13 @@
 -- Decide, on bytes: document 01, "Decide", and demands 2 and 3. Assumes nothing.
-use Prim.Native.Nat.{ℕ, _+_, _*_, _^_, _≤_, _<_}
+use Prim.Native.Nat.{ℕ, _+_, _≤_}
 use mathlib.Core.Path.{_≡_}
-use mathlib.Core.Bool.{Bool, not, _||_}
 use mathlib.Core.List.{List, _++_}
-use lib.Dec.{ltb, eqb}
-use lib.ListN.{length, take, drop, replicate}
+use lib.Dec.{eqb}
+use lib.ListN.{length, take, drop}
 use Rattle.logic.specs.Tree.{Tree, positions}
 use Rattle.logic.specs.Claims.{Outcome, refused14, shown, none, larger, Answers}
 use Rattle.logic.specs.Decide.{decideOf}
-use Rattle.strip.specs.RuleStrip.{orElse, between, variablesOf, countOf, recordsOf, ruleRefusal}
+use Rattle.strip.specs.RuleStrip.{orElse, variablesOf, countOf, recordsOf, ruleRefusal}
 use Rattle.strip.specs.TreeStrip.{treeStrip, treeBytes}
 use Rattle.ws2s.specs.Room.{roomFor, cleared, roomRefusal}
 use Rattle.ws2s.specs.declared.decide.Verdict.{Verdict}

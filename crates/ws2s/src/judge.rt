@@ -1,10 +1,10 @@
 // Judge: whether the sets of a tree satisfy a rule.
 ghost use mathlib.Core.Path.{_≡_};
-ghost use Prim.Native.Nat.{ℕ, _<_, _≤_};
+ghost use Prim.Native.Nat.{_<_, _≤_};
 ghost use lib.ListN.{length};
 ghost use Rattle.solver.specs.Solve.{judgementOf};
 ghost use Rattle.strip.specs.RuleStrip.{variablesOf, countOf, ruleRefusal};
-ghost use Rattle.ws2s.specs.Room.{roomFor, cleared, workRefusal};
+ghost use Rattle.ws2s.specs.Room.{roomFor, cleared};
 ghost use Rattle.ws2s.specs.Judge.{Readable, judgedOf, tell, judgementFor, workspaceFor, JudgeClaim};
 use crate::decode::decode;
 use solver::Ruling;

@@ -1,6 +1,6 @@
 // The room that machines and strips take, and the refusals for want of it.
 ghost use mathlib.Core.Path.{_≡_};
-ghost use Prim.Native.Nat.{ℕ, _+_, _*_, _^_, _<_, _≤_};
+ghost use Prim.Native.Nat.{_+_, _*_, _^_, _<_, _≤_};
 ghost use Rattle.strip.specs.TreeStrip.{treeBytes};
 ghost use Rattle.ws2s.specs.Room.{roomFor, workRefusal};
 

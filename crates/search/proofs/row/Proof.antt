@@ -1,11 +1,9 @@
 -- `search::row` meets its contract. Assumes nothing.
-use mathlib.Core.Path.{_≡_, refl}
-use Prim.Native.Nat.{ℕ, suc, _+_, _*_, _-_, _≤_, _<_}
+use Prim.Native.Nat.{_-_, _≤_}
 use native.Mathlib.Omega.{arith}
 use borrow.Author.Needs.{needs}
 use Rattle.logic.specs.Search.{loop}
-use lib.ListN.{length, getD}
-use Rattle.search.specs.Scan.{scanSecond, Ready, Held, codeView, bestOf}
+use Rattle.search.specs.Scan.{scanSecond, Held, codeView, bestOf}
 use Rattle.search.proofs.ScanLaws.{row-next, row-done, ready-steps}
 use Rattle.search.proofs.row.Statement.{statement}
 use Rattle.search.proofs.row.Tie as tie

@@ -1,10 +1,7 @@
 -- `search::settle` meets its contract. Assumes nothing.
-use mathlib.Core.Path.{_≡_, refl}
-use Prim.Native.Nat.{ℕ, suc, _+_, _*_, _-_, _≤_, _<_}
+use Prim.Native.Nat.{_-_, _<_}
 use native.Mathlib.Omega.{arith}
 use borrow.Author.Needs.{needs}
-use lib.ListN.{length, getD}
-use Rattle.search.specs.Arrays.{Whole}
 use Rattle.search.proofs.RoundLaws.{Round, round-first, shown-first, round-ready, round-end, round-none, round-larger, round-range, round-target, round-shown′, round-more, round-small}
 use Rattle.search.proofs.settle.Statement.{statement}
 use Rattle.search.proofs.settle.Tie as tie

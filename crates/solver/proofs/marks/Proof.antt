@@ -1,8 +1,7 @@
 -- `core::marks` meets its contract. Assumes nothing.
-use mathlib.Core.Path.{_≡_, refl, sym, _∙_}
+use mathlib.Core.Path.{sym, _∙_}
 use mathlib.Core.Logic.{⊎-elim}
-use Prim.Native.Nat.{_-_, _≤_}
-use native.Mathlib.Omega.{arith}
+use Prim.Native.Nat.{_-_}
 use borrow.Author.Needs.{needs}
 use Rattle.solver.proofs.Solving.{Marking, marking-first, marking-on, marking-off, marking-done}
 use Rattle.solver.proofs.marks.Statement.{statement}

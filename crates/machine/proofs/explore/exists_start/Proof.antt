@@ -8,6 +8,14 @@ use borrow.Author.Needs.{needs}
 use Rattle.machine.proofs.explore.exists_start.Statement.{statement}
 use Rattle.machine.proofs.explore.exists_start.Tie as tie
 
+returns : tie.Need-returns
+unfolding existsStart
+returns c =
+    let s = c .before .before .before .before .before .before in
+    let a = s .args in
+    let b = c .before .before .before .build in
+    (c .word-found .ensures ∙ ap wordFound (b .ensures .list), kept-closing (succIn (a .ws .now) (closing (a .p))) (a .p) (b .result) (a .ws .now) (b .last .0) (omega (arith, s .pre)) (b .ensures))
+
 build-requires : tie.Need-build-requires
 build-requires c κs =
     let s = c .before .before in
@@ -18,14 +26,6 @@ word-found-requires c κs = search needs
 
 same-length : tie.Need-same-length
 same-length c = search needs
-
-returns : tie.Need-returns
-unfolding existsStart
-returns c =
-    let s = c .before .before .before .before .before .before in
-    let a = s .args in
-    let b = c .before .before .before .build in
-    (c .word-found .ensures ∙ ap wordFound (b .ensures .list), kept-closing (succIn (a .ws .now) (closing (a .p))) (a .p) (b .result) (a .ws .now) (b .last .0) (omega (arith, s .pre)) (b .ensures))
 
 pub exists-start-spec : {M : Type 1} → statement M
 exists-start-spec = tie.close (tie.spec build-requires word-found-requires same-length returns)

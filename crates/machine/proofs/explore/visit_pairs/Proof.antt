@@ -1,9 +1,8 @@
 -- `visit_pairs` meets its contract. The invariant: the pairs of k with the states below i have their entries, both ways. Assumes nothing.
 use mathlib.Core.Path.{_≡_, refl, sym, _∙_, subst}
 use mathlib.Core.Logic.{⊎-elim}
-use Prim.Native.Nat.{ℕ, _+_, _-_, _≤_, _<_}
+use Prim.Native.Nat.{_+_, _-_, _≤_, _<_}
 use native.Mathlib.Omega.{arith}
-use borrow.Author.Needs.{needs}
 use lib.ListN.{length, getD}
 use Rattle.machine.specs.Explore.{row}
 use Rattle.machine.specs.Succ.{Room, succIn}

@@ -8,12 +8,31 @@ use native.Mathlib.Omega.{arith}
 use lib.Bits.{and-le-l}
 use lib.ListN.{length, getD}
 use Rattle.machine.specs.Rows.{Follows}
-use Rattle.machine.specs.Succ.{entry, through, off, on}
+use Rattle.machine.specs.Succ.{entry, through, on}
 use Rattle.machine.specs.Table.{seen}
 use Rattle.machine.specs.Word.{mem}
 use Rattle.machine.proofs.RowLaws.{follows-through, serves, joined-below, share-below}
 use Rattle.machine.proofs.rows.exists_rows.Statement.{statement}
 use Rattle.machine.proofs.rows.exists_rows.Tie as tie
+
+returns : tie.Need-returns
+unfolding on seen
+returns c =
+    let a = c .before .before .before .before .before .before .before .before .before .before .before .before .args in
+    let d = c .before .before .before .before .before .before .before .before .before .before .cleared in
+    let j = c .before .before .before .before .before .before .before .before .before .joined in
+    let r = c .before .before .before .before .before .fill in
+    let e = entry (a .low .now) (a .c) (a .a) in
+    let f = through (a .f) e in
+    let x : List ℕ = r .last .1 .1 .1 .1 .1 .1 .1 .0 in
+    let y : List ℕ = r .last .1 .1 .1 .1 .1 .1 .1 .1 .0 in
+    let n = d .result in (
+      c .unions .ensures .0,
+      serves f (a .w) (a .l) (a .sets .now) (a .k) (j .result) x y (c .unions .last .1 .1 .1 .1 .0) (c .unions .last .1 .1 .1 .1 .1 .0) (j .ensures)
+          (subst (λ (m : ℕ). (t : ℕ) → mem t (j .result) ≡ true → Follows f m (m + a .w) (getD (a .sets .now) (a .k) 0) t x y) (d .ensures .0)
+          (λ t h. follows-through e (a .f) n (n + a .w) (getD (a .sets .now) (a .k) 0) t x y (r .ensures .1 t h)))
+          (c .unions .ensures .1),
+    )
 
 fill-requires : tie.Need-fill-requires
 unfolding on
@@ -41,25 +60,6 @@ fill-requires c κs =
         ),
         (refl, refl),
       ),
-    )
-
-returns : tie.Need-returns
-unfolding on seen
-returns c =
-    let a = c .before .before .before .before .before .before .before .before .before .before .before .before .args in
-    let d = c .before .before .before .before .before .before .before .before .before .before .cleared in
-    let j = c .before .before .before .before .before .before .before .before .before .joined in
-    let r = c .before .before .before .before .before .fill in
-    let e = entry (a .low .now) (a .c) (a .a) in
-    let f = through (a .f) e in
-    let x : List ℕ = r .last .1 .1 .1 .1 .1 .1 .1 .0 in
-    let y : List ℕ = r .last .1 .1 .1 .1 .1 .1 .1 .1 .0 in
-    let n = d .result in (
-      c .unions .ensures .0,
-      serves f (a .w) (a .l) (a .sets .now) (a .k) (j .result) x y (c .unions .last .1 .1 .1 .1 .0) (c .unions .last .1 .1 .1 .1 .1 .0) (j .ensures)
-          (subst (λ (m : ℕ). (t : ℕ) → mem t (j .result) ≡ true → Follows f m (m + a .w) (getD (a .sets .now) (a .k) 0) t x y) (d .ensures .0)
-          (λ t h. follows-through e (a .f) n (n + a .w) (getD (a .sets .now) (a .k) 0) t x y (r .ensures .1 t h)))
-          (c .unions .ensures .1),
     )
 
 pub exists-rows-spec : {M : Type 1} → statement M

@@ -1,16 +1,13 @@
 -- `search::write::write_tree` meets its contract: the rank falls with each call. Assumes nothing.
-use mathlib.Core.Path.{_≡_, refl, sym, ap, _∙_}
-use mathlib.Core.List.{List, _∷_, []}
-use Prim.Native.Nat.{ℕ, _<_, _≤_, _+_, _-_, _*_}
+use mathlib.Core.List.{_∷_}
+use Prim.Native.Nat.{ℕ, _<_, _+_, _-_}
 use native.Mathlib.Omega.{arith}
-use lib.ListN.{length, getD}
-use lib.Seq.{sets}
+use lib.ListN.{getD}
 use borrow.Fn.Kinds.{In}
 use borrow.Fn.PlainCycle.{Measures, is, falls, and}
 use Rattle.strip.specs.Bits.{bits, digits}
 use Rattle.strip.specs.TreeStrip.{treeBits}
 use Rattle.strip.proofs.Fields.{length-digits}
-use Rattle.search.specs.Arrays.{Backs}
 use Rattle.search.specs.Ranks.{treeOfRank, Clear}
 use Rattle.search.proofs.RankLaws.{clear-after, empty-stands, three, rank-zero, rank-node, rank-length}
 use Rattle.search.proofs.write.write_tree.Reads as write-tree

@@ -1,8 +1,8 @@
 -- `search::write::write_strip` meets its contract. Assumes nothing.
-use mathlib.Core.Path.{_≡_, refl, sym, ap, _∙_}
-use Prim.Native.Nat.{ℕ, _+_, _*_, _≤_, _<_}
+use mathlib.Core.Path.{refl}
+use Prim.Native.Nat.{_+_}
 use native.Mathlib.Omega.{arith}
-use lib.ListN.{length, getD}
+use lib.ListN.{length}
 use Rattle.strip.specs.Bits.{bits}
 use Rattle.search.specs.Ranks.{treeOfRank}
 use Rattle.search.proofs.StripLaws.{cleared, after-version, after-head, strip-size, strip-written}

@@ -1,10 +1,8 @@
 -- `solver::run::run` meets its contract: the depth falls with each call. Assumes nothing.
-use mathlib.Core.Path.{_≡_, refl, sym, ap, _∙_}
-use mathlib.Core.List.{List}
-use Prim.Native.Nat.{_≤_, _+_, _*_, _-_, _^_}
+use mathlib.Core.Path.{sym, _∙_}
+use Prim.Native.Nat.{_+_, _-_}
 use native.Mathlib.Omega.{arith}
 use borrow.Author.Needs.{needs}
-use lib.ListN.{length, getD}
 use Rattle.strip.proofs.TreeHead.{empty-within, node-within, head-label}
 use Rattle.solver.proofs.Walks.{walk-none, walk-step, walk-node}
 use Prim.Native.Nat.{ℕ, _<_}

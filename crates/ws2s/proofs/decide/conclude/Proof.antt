@@ -1,7 +1,6 @@
 -- `ws2s::decide::conclude` meets its contract. Assumes nothing.
-use mathlib.Core.Path.{_≡_, refl, sym, ap, _∙_}
+use mathlib.Core.Path.{sym}
 use native.Mathlib.Omega.{arith}
-use lib.ListN.{length}
 use lib.Seq.{length-take-le}
 use Rattle.ws2s.proofs.Deciding.{tells-over, tells-none, tells-larger, shown-room, shown-front, tells-shown}
 use borrow.Author.Needs.{needs}

@@ -1,7 +1,5 @@
 -- `ws2s::decide::decide_accepted` meets its contract. Assumes nothing.
-use mathlib.Core.Path.{_≡_, refl, sym, ap, _∙_}
 use native.Mathlib.Omega.{arith}
-use lib.ListN.{length}
 use Rattle.strip.proofs.RuleLaws.{rule-accepted}
 use Rattle.ws2s.proofs.Verdicts.{ends-room, room-known, spacious, ends-told}
 use borrow.Author.Needs.{needs}

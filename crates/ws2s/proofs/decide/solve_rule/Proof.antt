@@ -1,5 +1,4 @@
 -- `ws2s::decide::solve_rule` meets its contract. Assumes nothing.
-use mathlib.Core.Path.{_≡_, refl, sym, ap, _∙_}
 use native.Mathlib.Omega.{arith}
 use Rattle.strip.proofs.RuleLaws.{rule-accepted}
 use Rattle.ws2s.proofs.Deciding.{rule-ready, rule-solved, workspace-cleared}

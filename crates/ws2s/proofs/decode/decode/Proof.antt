@@ -1,9 +1,8 @@
 -- `ws2s::decode::decode` meets its contract. Assumes nothing.
 use Prim.Native.Nat.{_-_}
-use mathlib.Core.Path.{_≡_, refl}
+use mathlib.Core.Path.{refl}
 use native.Mathlib.Omega.{arith}
 use borrow.Author.Needs.{needs}
-use Rattle.strip.proofs.RuleLaws.{rule-accepted}
 use Rattle.ws2s.proofs.Decodes.{Decoding, decoding-first, decoding-never, decoding-next, decoding-last}
 use Rattle.ws2s.proofs.decode.decode.Statement.{statement}
 use Rattle.ws2s.proofs.decode.decode.Tie as tie

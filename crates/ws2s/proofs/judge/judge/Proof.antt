@@ -1,5 +1,5 @@
 -- `ws2s::judge::judge` meets its contract. Assumes nothing.
-use mathlib.Core.Path.{_≡_, refl, sym, ap, _∙_}
+use mathlib.Core.Path.{sym, _∙_}
 use Rattle.strip.proofs.RuleLaws.{checked-accepted, checked-refused}
 use Rattle.ws2s.proofs.Judging.{ends-refused, claim}
 use borrow.Author.Needs.{needs}

@@ -1,7 +1,7 @@
 -- `ws2s::room::needed` meets its contract. Assumes nothing.
-use mathlib.Core.Path.{_≡_, refl}
+use mathlib.Core.Path.{refl}
 use native.Mathlib.Omega.{arith}
-use Rattle.ws2s.proofs.Rooms.{labels-is, row-few, share-few, room-few}
+use Rattle.ws2s.proofs.Rooms.{row-few, share-few, room-few}
 use borrow.Author.Needs.{needs}
 use Rattle.ws2s.proofs.room.needed.Statement.{statement}
 use Rattle.ws2s.proofs.room.needed.Tie as tie
