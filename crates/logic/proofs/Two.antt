@@ -22,8 +22,9 @@ use Rattle.logic.proofs.Reach.{elem-cons, elem-below}
 use Rattle.logic.proofs.Counts.{position-getD}
 use Rattle.logic.proofs.Builders.{of-numbered, full-numbered, of-agrees, full-agrees}
 
-pub two-branches : (s : Branch 2 → ℕ) → pairOf (s one) (s two) ≡ s
-two-branches s = fun-ext (λ c. go c (eqb (c .number) 0) refl)
+-- what two branches have is all that there is
+pub two-branches : {A : Type 0} (s : Branch 2 → A) → pairOf (s one) (s two) ≡ s
+two-branches {A} s = fun-ext (λ c. go c (eqb (c .number) 0) refl)
   where
     go : (c : Branch 2) (v : Bool) → eqb (c .number) 0 ≡ v → cond v (s one) (s two) ≡ s c
     go c true e = ap s (sym (branch-eq c one (true→T e)))

@@ -22,7 +22,6 @@ use Rattle.logic.proofs.Tables.{Valid}
 use Rattle.logic.proofs.Builders.{of-subset, of-singleton, of-successor, of-root, of-negation, of-runs, of-disjunction-runs, of-conjunction-runs, of-exists-runs}
 use Rattle.machine.proofs.Any.{and-both, any-true, any-in}
 use Rattle.machine.specs.Explore.{explore}
-use Rattle.machine.proofs.Found.{Reach}
 use Rattle.machine.specs.Word.{mem, any}
 use Rattle.machine.proofs.WordLaws.{word-ext, word-lt}
 use Rattle.machine.specs.Succ.{pairCode, existsCode, closeCode, kindCode, wordFound, subsetRule, singleRule, child1Rule, child2Rule, rootRule}

@@ -1,39 +1,31 @@
 -- Trees of two branches as bits: how many, and the number that a label's bits are. Assumes nothing.
 use Prim.Native.Nat.{ℕ, zero, suc, _+_, _-_, _*_, _/_, _%_, _^_, _<_}
-use mathlib.Core.Path.{_≡_, refl, sym, ap, ap₂, _∙_, fun-ext}
-use mathlib.Core.Bool.{Bool, true, false, cond}
+use mathlib.Core.Path.{_≡_, refl, sym, ap, ap₂, _∙_}
+use mathlib.Core.Bool.{true}
 use mathlib.Core.List.{List, [], _∷_, _++_}
 use native.Mathlib.Nat.{mod-eq-of-lt, add-mul, suc-mul, pow-suc, mul-assoc, mul-comm, mul-one}
 use native.Mathlib.Omega.{arith}
 use lib.Arith.{digits-lt, digits-mod}
-use lib.Dec.{eqb, lit<}
+use lib.Dec.{lit<}
 use lib.ListN.{length, getD, take, drop, length-append, length-drop}
 use lib.Pow.{high}
 use lib.Seq.{getD-drop, getD-append-add}
 use Rattle.logic.specs.Meaning.{Branch}
 use Rattle.logic.specs.Tree.{Tree, empty, node, downFrom, sumOf, positions}
 use Rattle.logic.specs.Two.{one, two, pairOf}
-use Rattle.logic.proofs.Places.{true→T, neqb, branch-eq}
-use Rattle.logic.proofs.Branches.{branch-same}
+use Rattle.logic.proofs.Two.{two-branches}
 use Rattle.strip.specs.Bits.{digits, bits, number}
 use Rattle.strip.specs.TreeStrip.{treeBits}
 use Rattle.strip.proofs.Digits.{bit-lt}
 use Rattle.strip.proofs.Fields.{length-digits, length-bits, number-digits}
 
 -- ---- two branches
-pub both-branches : {A : Type 0} (f : Branch 2 → A) → pairOf (f one) (f two) ≡ f
-both-branches {A} f = fun-ext (λ c. go c (eqb (c .number) 0) refl)
-  where
-    go : (c : Branch 2) (v : Bool) → eqb (c .number) 0 ≡ v → cond v (f one) (f two) ≡ f c
-    go c true e = ap f (sym (branch-eq c one (true→T e)))
-    go c false e = let d = neqb (c .number) 0 e in let h = c .below in ap f (sym (branch-same c two (omega arith)))
-
 pub positions-pair : (l : ℕ) (t u : Tree 2) → positions (node l (pairOf t u)) ≡ suc (positions t + positions u)
 unfolding positions sumOf downFrom
 positions-pair l t u = omega arith
 
 pub positions-node : (l : ℕ) (f : Branch 2 → Tree 2) → positions (node l f) ≡ suc (positions (f one) + positions (f two))
-positions-node l f = ap (λ (g : Branch 2 → Tree 2). positions (node l g)) (sym (both-branches f)) ∙ positions-pair l (f one) (f two)
+positions-node l f = ap (λ (g : Branch 2 → Tree 2). positions (node l g)) (sym (two-branches f)) ∙ positions-pair l (f one) (f two)
 
 -- "N positions take 8 + N(n+1) + N + 1 bits", of which 8 stand before the tree
 pub treeBits-length : (n : ℕ) (t : Tree 2) → length (treeBits n t) ≡ positions t * (n + 1) + positions t + 1

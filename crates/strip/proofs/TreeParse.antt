@@ -19,7 +19,8 @@ use Rattle.strip.specs.Bits.{digits, number}
 use Rattle.strip.specs.RuleStrip.{orElse}
 use Rattle.strip.specs.TreeStrip.{Parsed, parsed, refused, join, andThen, parse, treeBits}
 use Rattle.strip.proofs.Fields.{length-digits}
-use Rattle.strip.proofs.TreeBits.{both-branches, positions-pair, positions-node, AreBits, bits-drop, bits-take, bits-second, number-of, number-lt, digits-number}
+use Rattle.logic.proofs.Two.{two-branches}
+use Rattle.strip.proofs.TreeBits.{positions-pair, positions-node, AreBits, bits-drop, bits-take, bits-second, number-of, number-lt, digits-number}
 
 -- t is at the front of bs, and m positions are met after it
 pub record Reading (n met : ℕ) (bs : List ℕ) (t : Tree 2) (m : ℕ) (rest : List ℕ) : Type 0 where
@@ -165,8 +166,8 @@ module _ (n : ℕ) where
   join-back : (l m : ℕ) (f : Branch 2 → Tree 2) (rest : List ℕ) → T (not (bare l f)) → join l (f one) (parsed (f two) m rest) ≡ parsed (node l f) m rest
   unfolding join
   join-back l m f rest r =
-      let e = sym (bare-pair l (f one) (f two)) ∙ ap (bare l) (both-branches f) ∙ not-T (bare l f) (T-not (bare l f) r) in
-      rw e (ap (λ (g : Branch 2 → Tree 2). parsed (node l g) m rest) (both-branches f))
+      let e = sym (bare-pair l (f one) (f two)) ∙ ap (bare l) (two-branches f) ∙ not-T (bare l f) (T-not (bare l f) r) in
+      rw e (ap (λ (g : Branch 2 → Tree 2). parsed (node l g) m rest) (two-branches f))
 
   pub parse-back : (d met : ℕ) (t : Tree 2) (rest : List ℕ) → length (treeBits n t ++ rest) < d → met + positions t ≤ 255 → Proper n t → Trimmed t
       → parse d n met (treeBits n t ++ rest) ≡ parsed t (met + positions t) rest

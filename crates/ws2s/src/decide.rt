@@ -1,6 +1,6 @@
 // Decide: from the bytes of a rule strip to the bytes in out.
 ghost use mathlib.Core.Path.{_≡_};
-ghost use Prim.Native.Nat.{_+_, _<_, _≤_};
+ghost use Prim.Native.Nat.{_<_, _≤_};
 ghost use lib.ListN.{length};
 ghost use Rattle.solver.specs.Solve.{outcomeOf, Ranked};
 ghost use Rattle.strip.specs.RuleStrip.{variablesOf, countOf, ruleRefusal};
