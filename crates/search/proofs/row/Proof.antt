@@ -20,28 +20,22 @@ Inv-loop labels table c done state size n l i b₀ j₀ b j =
 abbrev μ-loop : tie.MeasureT-loop
 μ-loop labels table c done state size n l i b₀ j₀ b j = n - j
 
--- src/lib.rt:69:5
 loop-holds : tie.Need-loop-holds Inv-loop μ-loop
 unfolding scanSecond loop
 loop-holds c = search needs
 
--- src/lib.rt:70:48
 element-copy-out-wide : tie.Need-element-copy-out-wide Inv-loop μ-loop
 element-copy-out-wide c = search needs
 
--- src/lib.rt:70:43
 wide-requires : tie.Need-wide-requires Inv-loop μ-loop
 wide-requires c κs = search needs
 
--- src/lib.rt:70:64
 element-copy-out-wide-2 : tie.Need-element-copy-out-wide-2 Inv-loop μ-loop
 element-copy-out-wide-2 c = search needs
 
--- src/lib.rt:70:59
 wide-requires-2 : tie.Need-wide-requires-2 Inv-loop μ-loop
 wide-requires-2 c κs = search needs
 
--- src/lib.rt:70:13
 cell-requires : tie.Need-cell-requires Inv-loop μ-loop
 cell-requires c κs =
     let loop = c .before .before .before .before .before .loop in
@@ -49,7 +43,6 @@ cell-requires c κs =
     let ready = start .pre .0 in
     (ready .whole, (start .pre .1 .0 .0, omega (arith, ready .states (start .args .i) (start .pre .1 .0 .1)), omega (arith, ready .states (loop .j) (omega arith))))
 
--- src/lib.rt:71:25
 element-copy-out-consider : tie.Need-element-copy-out-consider Inv-loop μ-loop
 element-copy-out-consider c =
     let loop = c .before .before .before .before .before .before .loop in
@@ -57,49 +50,39 @@ element-copy-out-consider c =
     let ready = start .pre .0 in
     rw (c .cell .ensures) (ready-steps ready _ _ _ (start .pre .1 .0 .0) (omega (arith, ready .states (start .args .i) (start .pre .1 .0 .1))) (omega (arith, ready .states (loop .j) (omega arith))))
 
--- src/lib.rt:71:34
 mul-consider : tie.Need-mul-consider Inv-loop μ-loop
 mul-consider c = search needs
 
--- src/lib.rt:71:34
 element-copy-out-consider-2 : tie.Need-element-copy-out-consider-2 Inv-loop μ-loop
 element-copy-out-consider-2 c = search needs
 
--- src/lib.rt:71:44
 mul-consider-2 : tie.Need-mul-consider-2 Inv-loop μ-loop
 mul-consider-2 c = search needs
 
--- src/lib.rt:71:44
 element-copy-out-consider-3 : tie.Need-element-copy-out-consider-3 Inv-loop μ-loop
 element-copy-out-consider-3 c = search needs
 
--- src/lib.rt:71:34
 add-consider : tie.Need-add-consider Inv-loop μ-loop
 add-consider c =
     let loop = c .before .before .before .before .before .before .before .before .before .loop in
     let start = c .before .before .before .before .before .before .before .before .before .before .before in
     omega (arith, start .pre .0 .sizes (start .args .i) (start .pre .1 .0 .1), start .pre .0 .sizes (loop .j) (omega arith))
 
--- src/lib.rt:71:34
 add-consider-2 : tie.Need-add-consider-2 Inv-loop μ-loop
 add-consider-2 c =
     let loop = c .before .before .before .before .before .before .before .before .before .loop in
     let start = c .before .before .before .before .before .before .before .before .before .before .before in
     omega (arith, start .pre .0 .sizes (start .args .i) (start .pre .1 .0 .1), start .pre .0 .sizes (loop .j) (omega arith))
 
--- src/lib.rt:71:9
 consider-requires : tie.Need-consider-requires Inv-loop μ-loop
 consider-requires c κs = search needs
 
--- src/lib.rt:72:9
 add-j : tie.Need-add-j Inv-loop μ-loop
 add-j c = search needs
 
--- src/lib.rt:69:5
 loop-less : tie.Need-loop-less Inv-loop μ-loop
 loop-less c = search needs
 
--- src/lib.rt:69:5
 loop-again : tie.Need-loop-again Inv-loop μ-loop
 loop-again c =
     let loop = c .before .before .before .before .before .before .before .before .before .before .loop in (
@@ -109,7 +92,6 @@ loop-again c =
           (c .before .before .before .before .cell .ensures) (c .consider .ensures),
     )
 
--- src/lib.rt:49:1
 returns : tie.Need-returns Inv-loop μ-loop
 returns c = row-done _ _ _ _ _ _ _ (c .before .loop .inv .0) (search needs) (c .before .loop .inv .1)
 

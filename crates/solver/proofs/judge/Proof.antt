@@ -1,4 +1,4 @@
--- `solver::judge` meets its contract. Assumes nothing.
+-- `judge` meets its contract. Assumes nothing.
 use mathlib.Core.Path.{refl}
 use Prim.Native.Nat.{_+_, _*_, _-_, _≤_}
 use native.Mathlib.Omega.{arith}

@@ -1,4 +1,4 @@
--- `core::decide` meets its contract. Assumes nothing.
+-- `solve` meets its contract. Assumes nothing.
 use mathlib.Core.Path.{refl}
 use Prim.Native.Nat.{_+_, _*_, _-_, _≤_}
 use native.Mathlib.Omega.{arith}
@@ -14,52 +14,41 @@ use Rattle.solver.proofs.marks.Reads as marks-reads
 use Rattle.machine.proofs.records.build_all.Reads as build-all-reads
 use Rattle.search.proofs.find.Reads as find-reads
 
--- src/lib.rt:39:9
 build-all-requires : tie.Need-build-all-requires
 build-all-requires c κs = search needs
 
--- src/lib.rt:43:16
 sub-last : tie.Need-sub-last
 sub-last c = search needs
 
--- src/lib.rt:44:17
 mul-count : tie.Need-mul-count
 mul-count c = search needs
 
--- src/lib.rt:44:17
 array-read-count : tie.Need-array-read-count
 array-read-count c = search needs
 
--- src/lib.rt:48:9
 same-length : tie.Need-same-length
 same-length c = search needs
 
--- src/lib.rt:48:9
 returns : tie.Need-returns
 returns c =
     let a = c .before .before .before .before .before .before .before .before in
     (solve-refused _ _ _ (c .before .before .before .before .before .build-all .result) _ (a .pre .0 .2) (a .pre .0 .3) _ _ (c .before .before .before .before .before .build-all .ensures .0) (search) _ refl refl, c .before .before .before .before .before .build-all .ensures .1)
 
--- src/lib.rt:50:19
 mul-marks : tie.Need-mul-marks
 mul-marks c = search needs
 
--- src/lib.rt:50:19
 array-read-marks : tie.Need-array-read-marks
 array-read-marks c = search needs
 
--- src/lib.rt:50:13
 marks-requires : tie.Need-marks-requires
 marks-requires c κs = search needs
 
--- src/lib.rt:51:24
 mul-base : tie.Need-mul-base
 mul-base c =
     let a = c .before .before .before .before .before .before .before .before .before in
     let h = solve-mul (a .args .labels) (a .args .c) 256 64 (a .pre .0 .5) (a .pre .0 .3) in
     search needs
 
--- src/lib.rt:51:24
 mul-base-2 : tie.Need-mul-base-2
 mul-base-2 c =
     let a = c .before .before .before .before .before .before .before .before .before in
@@ -67,7 +56,6 @@ mul-base-2 c =
     let i = solve-mul (a .args .labels * a .args .c) (a .args .c) 16384 64 h (a .pre .0 .3) in
     search needs
 
--- src/lib.rt:51:16
 mul-base-3 : tie.Need-mul-base-3
 mul-base-3 c =
     let a = c .before .before .before .before .before .before .before .before .before in
@@ -76,7 +64,6 @@ mul-base-3 c =
     let j = solve-mul (a .args .m - 1) (a .args .labels * a .args .c * a .args .c) 127 1048576 (let z = a .pre .0 .1 in omega arith) i in
     search needs
 
--- src/lib.rt:52:34
 sub-find : tie.Need-sub-find
 sub-find c =
     let a = c .before .before .before .before .before .before .before .before .before in
@@ -84,7 +71,6 @@ sub-find c =
     let l = a .pre .0 .6 in
     search needs
 
--- src/lib.rt:52:34
 part-find-start : tie.Need-part-find-start
 part-find-start c =
     let a = c .before .before .before .before .before .before .before .before .before .before in
@@ -92,11 +78,9 @@ part-find-start c =
     let l = a .pre .0 .6 in
     search needs
 
--- src/lib.rt:52:34
 part-find-end : tie.Need-part-find-end
 part-find-end c = search needs
 
--- src/lib.rt:52:9
 find-requires : tie.Need-find-requires
 find-requires c κs =
     let a = c .before .before .before .before .before .before .before .before .before .before .before .before in
@@ -108,11 +92,9 @@ find-requires c κs =
     solve-whole (upto (a .args .records) (a .args .c) (a .args .labels) (a .args .m)) (a .args .c) (a .args .labels) (a .args .m) (c .before .before .before .before .before .before .before .before .before .build-all .result) ws (c .before .before .before .before .before .before .before .before .before .build-all .ensures .0) (search needs) (a .pre .0 .0) (a .pre .0 .3) _ (a .pre .0 .4) _
     (part-all ((a .args .m - 1) * share) ws) (part-long ((a .args .m - 1) * share) share ws q)
 
--- src/lib.rt:34:1
 same-length-2 : tie.Need-same-length-2
 same-length-2 c = search needs
 
--- src/lib.rt:34:1
 returns-2 : tie.Need-returns-2
 returns-2 c =
     let a = c .before .before .before .before .before .before .before .before .before .before .before .before .before in

@@ -1,3 +1,4 @@
+-- `field_at` meets its contract. Assumes nothing.
 use mathlib.Core.Path.{_≡_, sym, ap, _∙_}
 use mathlib.Core.Logic.{⊎-elim}
 use mathlib.Core.List.{List}
@@ -16,27 +17,21 @@ use Rattle.strip.proofs.bits.field_at.Reads as reads
 use Rattle.strip.proofs.bits.field_at.Lts as lts
 use Rattle.strip.proofs.bits.wide.Reads as wide-reads
 
--- src/lib.rt:83:19
 shared-slice-read-wide : tie.Need-shared-slice-read-wide
 shared-slice-read-wide c = search needs
 
--- src/lib.rt:83:9
 wide-requires : tie.Need-wide-requires
 wide-requires c κs = search needs
 
--- src/lib.rt:85:8
 add-if1 : tie.Need-add-if1
 add-if1 c = search needs
 
--- src/lib.rt:86:21
 add-wide : tie.Need-add-wide
 add-wide c = search needs
 
--- src/lib.rt:86:19
 shared-slice-read-wide-2 : tie.Need-shared-slice-read-wide-2
 shared-slice-read-wide-2 c = search needs
 
--- src/lib.rt:86:9
 wide-requires-2 : tie.Need-wide-requires-2
 wide-requires-2 c κs = search needs
 
@@ -59,27 +54,21 @@ pow-is b h = shl-exact {a = 1} 1 b 64 (lit< tt) (omega arith) ∙ one-mul (2 ^ b
 mul-result : tie.Need-mul-result
 mul-result c = omega (arith, hi-is c, byte c (c .before .before .before .before .args .at / 8))
 
--- src/lib.rt:88:7
 add-result : tie.Need-add-result
 add-result c = let a = c .before .before .before .before .before .args in omega (arith, hi-is (c .before), byte (c .before) (a .at / 8), lo-is (c .before), byte (c .before) (a .at / 8 + 1))
 
--- src/lib.rt:88:26
 sub-result : tie.Need-sub-result
 sub-result c = search needs
 
--- src/lib.rt:88:26
 sub-result-2 : tie.Need-sub-result-2
 sub-result-2 c = search needs
 
--- src/lib.rt:88:6
 shr-result : tie.Need-shr-result
 shr-result c = search needs
 
--- src/lib.rt:88:47
 shl-result : tie.Need-shl-result
 shl-result c = search needs
 
--- src/lib.rt:88:5
 rem-result : tie.Need-rem-result
 rem-result c = let b = c .before .before .before .before .before .args .b in rw (pow-is b (omega arith)) (pow-pos b)
 

@@ -1,3 +1,4 @@
+-- `put_bit` meets its contract. Assumes nothing.
 use mathlib.Core.Path.{_≡_, sym}
 use mathlib.Core.List.{List}
 use Prim.Native.Nat.{ℕ, _<_}
@@ -12,15 +13,12 @@ use Rattle.strip.proofs.bits.put_bit.Reads as reads
 use Rattle.strip.proofs.bits.put_bit.Lts as lts
 use Rattle.strip.proofs.bits.set_bit.Reads as set-bit-reads
 
--- src/lib.rt:56:9
 set-bit-requires : tie.Need-set-bit-requires
 set-bit-requires c κs = search needs
 
--- src/lib.rt:49:1
 same-length : tie.Need-same-length
 same-length c = search needs
 
--- src/lib.rt:49:1
 returns : tie.Need-returns
 returns c = rw (c .before .before .before .before .if1 .taken) (c .before .before .set-bit .ensures)
 

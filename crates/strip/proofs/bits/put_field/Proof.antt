@@ -1,3 +1,4 @@
+-- `put_field` meets its contract. Assumes nothing.
 use mathlib.Core.Path.{_≡_, refl, ap, _∙_}
 use mathlib.Core.List.{List}
 use Prim.Native.Nat.{ℕ, _<_, _≤_, _+_, _-_, _/_, _%_, _^_}
@@ -18,27 +19,21 @@ Inv-loop d₀ at b v k₀ d k = (k ≤ b) × (length d ≡ length d₀) × (bits
 abbrev μ-loop : tie.MeasureT-loop
 μ-loop d₀ at b v k₀ d k = b - k
 
--- src/lib.rt:69:5
 loop-holds : tie.Need-loop-holds Inv-loop μ-loop
 loop-holds c = (omega arith, refl, refl)
 
--- src/lib.rt:70:20
 add-put-bit : tie.Need-add-put-bit Inv-loop μ-loop
 add-put-bit c = omega arith
 
--- src/lib.rt:70:35
 sub-put-bit : tie.Need-sub-put-bit Inv-loop μ-loop
 sub-put-bit c = omega arith
 
--- src/lib.rt:70:35
 sub-put-bit-2 : tie.Need-sub-put-bit-2 Inv-loop μ-loop
 sub-put-bit-2 c = omega arith
 
--- src/lib.rt:70:29
 shr-put-bit : tie.Need-shr-put-bit Inv-loop μ-loop
 shr-put-bit c = omega arith
 
--- src/lib.rt:70:9
 put-bit-requires : tie.Need-put-bit-requires Inv-loop μ-loop
 put-bit-requires c κs = (
   omega arith,
@@ -49,11 +44,9 @@ put-bit-requires c κs = (
   ),
 )
 
--- src/lib.rt:71:9
 add-k : tie.Need-add-k Inv-loop μ-loop
 add-k c = omega arith
 
--- src/lib.rt:69:5
 loop-less : tie.Need-loop-less Inv-loop μ-loop
 loop-less c = omega arith
 
@@ -61,7 +54,6 @@ turn : (l₀ l l′ : List ℕ) (at b v k : ℕ) → k < b → l ≡ sets l₀ a
     → l′ ≡ sets l₀ at (take (k + 1) (digits b v))
 turn l₀ l l′ at b v k h e q = rw (digits-more l₀ at b v k h, ← e) q
 
--- src/lib.rt:69:5
 loop-again : tie.Need-loop-again Inv-loop μ-loop
 loop-again c =
     let a = c .before .before .before .before .before in (
@@ -70,11 +62,9 @@ loop-again c =
       turn _ _ _ _ _ _ _ (c .before .before .before .before .loop-test .taken) (a .loop .inv .2) (c .before .before .put-bit .ensures),
     )
 
--- src/lib.rt:61:1
 same-length : tie.Need-same-length Inv-loop μ-loop
 same-length c = omega arith
 
--- src/lib.rt:61:1
 returns : tie.Need-returns Inv-loop μ-loop
 returns c =
     let a = c .before .before .before .args in
