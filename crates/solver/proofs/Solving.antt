@@ -202,5 +202,9 @@ module _ (records : List Decoded) (c : ℕ) (s : Machines) (ws : List ℕ) (pos 
 pub part-all : (n : ℕ) (ws : List ℕ) → take (length ws - n) (drop n ws) ≡ drop n ws
 part-all n ws = take-all (length ws - n) (drop n ws) (let e = length-drop n ws in omega arith)
 
+-- where it starts at k, which is n
+pub part-at : (n k : ℕ) (ws : List ℕ) → k ≡ n → take (length ws - k) (drop k ws) ≡ drop n ws
+part-at n k ws e = part-all k ws ∙ ap (λ (i : ℕ). drop i ws) e
+
 pub part-long : (n share : ℕ) (ws : List ℕ) → n + share ≤ length ws → share ≤ length (take (length ws - n) (drop n ws))
 part-long n share ws h = rw (part-all n ws) (let e = length-drop n ws in omega arith)

@@ -2,7 +2,7 @@
 pub mod run; // a machine run over the tree in a strip
 
 ghost use mathlib.Core.Path.{_≡_};
-ghost use Prim.Native.Nat.{ℕ, _+_, _*_, _^_, _<_, _≤_};
+ghost use Prim.Native.Nat.{ℕ, _+_, _-_, _*_, _^_, _<_, _≤_};
 ghost use lib.ListN.{length, getD, drop};
 ghost use Rattle.machine.specs.Rule.{Fits, Sound, noDecoded};
 ghost use Rattle.solver.specs.Solve.{Marked, Solved, Judged};
@@ -22,6 +22,14 @@ fn marks(w: u64) -> [u8; 64]
         q += 1;
     }
     a
+}
+
+// Where the last record's share starts.
+fn last_share(m: usize, c: usize, labels: usize) -> usize
+    requires { ⌜ (0 < m) × (m ≤ 128) × (c ≤ 64) × (labels ≤ 256) ⌝ }
+    ensures { λ r. ⌜ r ≡ (m - 1) * (labels * c * c) ⌝ }
+{
+    (m - 1) * (labels * c * c)
 }
 
 // over: the record with too many states, 128 where there is none; the states of the last record; and what the search found.
@@ -68,7 +76,7 @@ pub fn solve(
         };
     }
     let a = marks(accepts[last]);
-    let base = last * (labels * c * c);
+    let base = last_share(m, c, labels);
     let f = search::find(labels, &ws[base..], c, count, &a, p);
     Solution {
         over: 128,
@@ -109,7 +117,7 @@ pub fn judge(
     if over < 128 {
         return Ruling { over, yes: false };
     }
-    let base = last * (labels * c * c);
+    let base = last_share(m, c, labels);
     let r = run::run(tree, n, labels, &ws[base..], c, count, 256, 8);
     let state = r.state;
     Ruling {

@@ -1,7 +1,6 @@
 -- Trees of two branches as bits: how many, and the number that a label's bits are. Assumes nothing.
 use Prim.Native.Nat.{ℕ, zero, suc, _+_, _-_, _*_, _/_, _%_, _^_, _<_}
 use mathlib.Core.Path.{_≡_, refl, sym, ap, ap₂, _∙_}
-use mathlib.Core.Bool.{true}
 use mathlib.Core.List.{List, [], _∷_, _++_}
 use native.Mathlib.Nat.{mod-eq-of-lt, add-mul, suc-mul, pow-suc, mul-assoc, mul-comm, mul-one}
 use native.Mathlib.Omega.{arith}

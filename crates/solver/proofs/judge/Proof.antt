@@ -4,7 +4,7 @@ use Prim.Native.Nat.{_+_, _*_, _-_, _≤_}
 use native.Mathlib.Omega.{arith}
 use lib.ListN.{length}
 use Rattle.machine.specs.Rule.{upto}
-use Rattle.solver.proofs.Solving.{solve-whole, solve-mul, solve-share, part-all, part-long, judge-refused, judge-ruled}
+use Rattle.solver.proofs.Solving.{solve-whole, solve-share, part-at, part-long, judge-refused, judge-ruled}
 use borrow.Author.Needs.{needs}
 use Rattle.solver.proofs.judge.Statement.{statement}
 use Rattle.solver.proofs.judge.Tie as tie
@@ -41,37 +41,16 @@ returns c =
     let b = c .before .before .before .before .before .build-all in
     (judge-refused (a .args .records) (a .args .c) (b .result) (b .last .0) (a .pre .0 .2) (a .pre .0 .3) (a .args .n) (a .args .m) (a .args .tree .now) (rw (a .pre .1 .1 .2) at (b .ensures .0)) (search) _ refl, b .ensures .1)
 
-mul-base : tie.Need-mul-base
-mul-base c =
-    let a = c .before .before .before .before .before .before .before .before .before in
-    let h = solve-mul (a .args .labels) (a .args .c) 256 64 (a .pre .0 .4) (a .pre .0 .3) in
-    search needs
-
-mul-base-2 : tie.Need-mul-base-2
-mul-base-2 c =
-    let a = c .before .before .before .before .before .before .before .before .before in
-    let h = solve-mul (a .args .labels) (a .args .c) 256 64 (a .pre .0 .4) (a .pre .0 .3) in
-    let i = solve-mul (a .args .labels * a .args .c) (a .args .c) 16384 64 h (a .pre .0 .3) in
-    search needs
-
-mul-base-3 : tie.Need-mul-base-3
-mul-base-3 c =
-    let a = c .before .before .before .before .before .before .before .before .before in
-    let h = solve-mul (a .args .labels) (a .args .c) 256 64 (a .pre .0 .4) (a .pre .0 .3) in
-    let i = solve-mul (a .args .labels * a .args .c) (a .args .c) 16384 64 h (a .pre .0 .3) in
-    let j = solve-mul (a .args .m - 1) (a .args .labels * a .args .c * a .args .c) 127 1048576 (let z = a .pre .0 .1 in omega arith) i in
-    search needs
-
 sub-run : tie.Need-sub-run
 sub-run c =
-    let a = c .before .before .before .before .before .before .before .before .before in
+    let a = c .before .before .before .before .before .before .before .before .before .before in
     let e = solve-share (a .args .m) (a .args .labels * a .args .c * a .args .c) (a .pre .0 .0) in
     let l = a .pre .0 .5 in
     search needs
 
 part-run-start : tie.Need-part-run-start
 part-run-start c =
-    let a = c .before .before .before .before .before .before .before .before .before .before in
+    let a = c .before .before .before .before .before .before .before .before .before .before .before in
     let e = solve-share (a .args .m) (a .args .labels * a .args .c * a .args .c) (a .pre .0 .0) in
     let l = a .pre .0 .5 in
     search needs
@@ -81,8 +60,8 @@ part-run-end c = search needs
 
 run-requires : tie.Need-run-requires
 run-requires c κs =
-    let a = c .before .before .before .before .before .before .before .before .before .before .before in
-    let b = c .before .before .before .before .before .before .before .build-all in
+    let a = c .before .before .before .before .before .before .before .before .before .before .before .before in
+    let b = c .before .before .before .before .before .before .before .before .build-all in
     let ws = b .last .0 in
     let share = a .args .labels * a .args .c * a .args .c in
     let e = solve-share (a .args .m) share (a .pre .0 .0) in
@@ -91,20 +70,20 @@ run-requires c κs =
     let k = a .pre .1 .1 in (
       (k .0, k .1, k .2, k .4, omega (arith, k .3)),
       solve-whole (upto (a .args .records) (a .args .c) (a .args .labels) (a .args .m)) (a .args .c) (a .args .labels) (a .args .m) (b .result) ws (b .ensures .0) (search needs) (a .pre .0 .0) (a .pre .0 .3) 0 (omega arith) _
-          (part-all ((a .args .m - 1) * share) ws) (part-long ((a .args .m - 1) * share) share ws q),
+          (part-at ((a .args .m - 1) * share) (c .before .before .last-share .result) ws (c .before .before .last-share .ensures)) (part-long (c .before .before .last-share .result) share ws (omega (arith, q, c .before .before .last-share .ensures))),
     )
 
 has-requires : tie.Need-has-requires
 has-requires c κs =
-    let a = c .before .before .before .before .before .before .before .before .before .before .before .before in
-    let b = c .before .before .before .before .before .before .before .before .build-all in
+    let a = c .before .before .before .before .before .before .before .before .before .before .before .before .before in
+    let b = c .before .before .before .before .before .before .before .before .before .build-all in
     let ws = b .last .0 in
     let share = a .args .labels * a .args .c * a .args .c in
     let e = solve-share (a .args .m) share (a .pre .0 .0) in
     let l = a .pre .0 .5 in
     let q : (a .args .m - 1) * share + share ≤ length ws = omega arith in
     let w = solve-whole (upto (a .args .records) (a .args .c) (a .args .labels) (a .args .m)) (a .args .c) (a .args .labels) (a .args .m) (b .result) ws (b .ensures .0) (search needs) (a .pre .0 .0) (a .pre .0 .3) 0 (omega arith) _
-    (part-all ((a .args .m - 1) * share) ws) (part-long ((a .args .m - 1) * share) share ws q) in
+    (part-at ((a .args .m - 1) * share) (c .before .before .before .last-share .result) ws (c .before .before .before .last-share .ensures)) (part-long (c .before .before .before .last-share .result) share ws (omega (arith, q, c .before .before .before .last-share .ensures))) in
     omega (arith, c .run .ensures .1 .0, w .within, w .few)
 
 same-length-2 : tie.Need-same-length-2
@@ -112,13 +91,13 @@ same-length-2 c = search needs
 
 returns-2 : tie.Need-returns-2
 returns-2 c =
-    let a = c .before .before .before .before .before .before .before .before .before .before .before .before .before in
-    let b = c .before .before .before .before .before .before .before .before .before .build-all in
+    let a = c .before .before .before .before .before .before .before .before .before .before .before .before .before .before in
+    let b = c .before .before .before .before .before .before .before .before .before .before .build-all in
     let ws = b .last .0 in
     let share = a .args .labels * a .args .c * a .args .c in
     let k = a .pre .1 .1 in (
       judge-ruled (a .args .records) (a .args .c) (b .result) ws (a .pre .0 .2) (a .pre .0 .3) (a .args .n) (a .args .m) (a .args .tree .now) (search needs) _ (c .before .run .result) _
-          (rw (k .2) at (b .ensures .0)) (rw (← k .2) (part-all ((a .args .m - 1) * share) ws)) (c .before .run .ensures .0) (c .has .ensures),
+          (rw (k .2) at (b .ensures .0)) (rw (← k .2) (part-at ((a .args .m - 1) * share) (c .before .before .before .before .last-share .result) ws (c .before .before .before .before .last-share .ensures))) (c .before .run .ensures .0) (c .has .ensures),
       b .ensures .1,
     )
 
@@ -134,9 +113,7 @@ judge-spec =
     array-read-accept
     same-length
     returns
-    mul-base
-    mul-base-2
-    mul-base-3
+    (λ c κs. search needs)
     sub-run
     part-run-start
     part-run-end

@@ -5,7 +5,7 @@ use native.Mathlib.Omega.{arith}
 use borrow.Author.Needs.{needs}
 use Rattle.machine.specs.Rule.{upto}
 use lib.ListN.{length}
-use Rattle.solver.proofs.Solving.{solve-whole, solve-mul, solve-share, solve-refused, solve-decided, part-all, part-long}
+use Rattle.solver.proofs.Solving.{solve-whole, solve-share, solve-refused, solve-decided, part-at, part-long}
 use Rattle.solver.proofs.solve.Statement.{statement}
 use Rattle.solver.proofs.solve.Tie as tie
 use Rattle.solver.proofs.solve.Reads as reads
@@ -43,37 +43,16 @@ array-read-marks c = search needs
 marks-requires : tie.Need-marks-requires
 marks-requires c κs = search needs
 
-mul-base : tie.Need-mul-base
-mul-base c =
-    let a = c .before .before .before .before .before .before .before .before .before in
-    let h = solve-mul (a .args .labels) (a .args .c) 256 64 (a .pre .0 .5) (a .pre .0 .3) in
-    search needs
-
-mul-base-2 : tie.Need-mul-base-2
-mul-base-2 c =
-    let a = c .before .before .before .before .before .before .before .before .before in
-    let h = solve-mul (a .args .labels) (a .args .c) 256 64 (a .pre .0 .5) (a .pre .0 .3) in
-    let i = solve-mul (a .args .labels * a .args .c) (a .args .c) 16384 64 h (a .pre .0 .3) in
-    search needs
-
-mul-base-3 : tie.Need-mul-base-3
-mul-base-3 c =
-    let a = c .before .before .before .before .before .before .before .before .before in
-    let h = solve-mul (a .args .labels) (a .args .c) 256 64 (a .pre .0 .5) (a .pre .0 .3) in
-    let i = solve-mul (a .args .labels * a .args .c) (a .args .c) 16384 64 h (a .pre .0 .3) in
-    let j = solve-mul (a .args .m - 1) (a .args .labels * a .args .c * a .args .c) 127 1048576 (let z = a .pre .0 .1 in omega arith) i in
-    search needs
-
 sub-find : tie.Need-sub-find
 sub-find c =
-    let a = c .before .before .before .before .before .before .before .before .before in
+    let a = c .before .before .before .before .before .before .before .before .before .before in
     let e = solve-share (a .args .m) (a .args .labels * a .args .c * a .args .c) (a .pre .0 .0) in
     let l = a .pre .0 .6 in
     search needs
 
 part-find-start : tie.Need-part-find-start
 part-find-start c =
-    let a = c .before .before .before .before .before .before .before .before .before .before in
+    let a = c .before .before .before .before .before .before .before .before .before .before .before in
     let e = solve-share (a .args .m) (a .args .labels * a .args .c * a .args .c) (a .pre .0 .0) in
     let l = a .pre .0 .6 in
     search needs
@@ -83,26 +62,26 @@ part-find-end c = search needs
 
 find-requires : tie.Need-find-requires
 find-requires c κs =
-    let a = c .before .before .before .before .before .before .before .before .before .before .before .before in
-    let ws = c .before .before .before .before .before .before .before .before .before .build-all .last .0 in
+    let a = c .before .before .before .before .before .before .before .before .before .before .before .before .before in
+    let ws = c .before .before .before .before .before .before .before .before .before .before .build-all .last .0 in
     let share = a .args .labels * a .args .c * a .args .c in
     let e = solve-share (a .args .m) share (a .pre .0 .0) in
     let l = a .pre .0 .6 in
     let q : (a .args .m - 1) * share + share ≤ length ws = omega arith in
-    solve-whole (upto (a .args .records) (a .args .c) (a .args .labels) (a .args .m)) (a .args .c) (a .args .labels) (a .args .m) (c .before .before .before .before .before .before .before .before .before .build-all .result) ws (c .before .before .before .before .before .before .before .before .before .build-all .ensures .0) (search needs) (a .pre .0 .0) (a .pre .0 .3) _ (a .pre .0 .4) _
-    (part-all ((a .args .m - 1) * share) ws) (part-long ((a .args .m - 1) * share) share ws q)
+    solve-whole (upto (a .args .records) (a .args .c) (a .args .labels) (a .args .m)) (a .args .c) (a .args .labels) (a .args .m) (c .before .before .before .before .before .before .before .before .before .before .build-all .result) ws (c .before .before .before .before .before .before .before .before .before .before .build-all .ensures .0) (search needs) (a .pre .0 .0) (a .pre .0 .3) _ (a .pre .0 .4) _
+    (part-at ((a .args .m - 1) * share) (c .before .before .before .last-share .result) ws (c .before .before .before .last-share .ensures)) (part-long (c .before .before .before .last-share .result) share ws (omega (arith, q, c .before .before .before .last-share .ensures)))
 
 same-length-2 : tie.Need-same-length-2
 same-length-2 c = search needs
 
 returns-2 : tie.Need-returns-2
 returns-2 c =
-    let a = c .before .before .before .before .before .before .before .before .before .before .before .before .before in
-    let ws = c .before .before .before .before .before .before .before .before .before .before .build-all .last .0 in
+    let a = c .before .before .before .before .before .before .before .before .before .before .before .before .before .before in
+    let ws = c .before .before .before .before .before .before .before .before .before .before .before .build-all .last .0 in
     let share = a .args .labels * a .args .c * a .args .c in (
-      solve-decided _ (a .args .c) (a .args .p) (c .before .before .before .before .before .before .before .before .before .before .build-all .result) ws (a .pre .0 .2) (a .pre .0 .3) (search needs) (c .before .before .before .before .marks .result) _ _ _ _ _ _ _ (a .args .m) (a .args .labels) (c .before .before .before .before .before .before .before .before .before .before .build-all .ensures .0)
-          (part-all ((a .args .m - 1) * share) ws) (c .before .before .before .before .marks .ensures) (c .find .ensures),
-      c .before .before .before .before .before .before .before .before .before .before .build-all .ensures .1,
+      solve-decided _ (a .args .c) (a .args .p) (c .before .before .before .before .before .before .before .before .before .before .before .build-all .result) ws (a .pre .0 .2) (a .pre .0 .3) (search needs) (c .before .before .before .before .before .marks .result) _ _ _ _ _ _ _ (a .args .m) (a .args .labels) (c .before .before .before .before .before .before .before .before .before .before .before .build-all .ensures .0)
+          (part-at ((a .args .m - 1) * share) (c .before .before .before .before .last-share .result) ws (c .before .before .before .before .last-share .ensures)) (c .before .before .before .before .before .marks .ensures) (c .find .ensures),
+      c .before .before .before .before .before .before .before .before .before .before .before .build-all .ensures .1,
     )
 
 pub solve-spec : {M : Type 1} → statement M
@@ -118,9 +97,7 @@ solve-spec =
     mul-marks
     array-read-marks
     marks-requires
-    mul-base
-    mul-base-2
-    mul-base-3
+    (λ c κs. search needs)
     sub-find
     part-find-start
     part-find-end
