@@ -11,7 +11,7 @@ SOURCES := $(wildcard crates/*/src/*.rt crates/*/specs/*.antt crates/*/proofs/*.
 INCLUDES := -Iinclude -Itests/oracle
 VECTORS := $(wildcard tests/vectors/base/*.txt)
 
-.PHONY: help run test host-test attack example bench install clean
+.PHONY: help run test host-test attack bound example bench install clean
 .DELETE_ON_ERROR:
 
 help:
@@ -19,6 +19,7 @@ help:
 	@echo 'make test              the gate: prove everything from nothing and run every test'
 	@echo 'make host-test         build the C library and run the vectors and a short attack through it'
 	@echo 'make attack            a longer attack [SEED=n CALLS=n]'
+	@echo 'make bound             how many places a rule of at most 16 states can need'
 	@echo 'make example           the example host program on a rule strip [RULE=file NAMES="belt seat"]'
 	@echo 'make bench             the library beside unproved code and, where it is installed, MONA'
 	@echo 'make install PREFIX=p  header, archive, pkg-config file, verdict program, manual pages'
@@ -60,6 +61,13 @@ SEED ?= 2
 CALLS ?= 5000000
 attack: $(HOST)/attack
 	$(HOST)/attack $(SEED) $(CALLS)
+
+$(HOST)/bound: tests/bound/bound.c
+	@mkdir -p $(HOST)
+	$(CC) $(CFLAGS) $< -o $@
+
+bound: $(HOST)/bound
+	$(HOST)/bound
 
 example: $(HOST)/example
 	$(HOST)/example -f $(RULE) $(NAMES)
