@@ -13,6 +13,7 @@ pub mod Labels
 pub mod Loops
 pub mod Masks
 pub mod Members
+pub mod Nexts
 pub mod Order
 pub mod Pigeon
 pub mod Place

@@ -8,7 +8,7 @@ use native.Mathlib.Nat.{mul-le-mul-left, mul-le-mul-right, eq-or-lt-of-le, suc-m
 use native.Mathlib.Omega.{arith}
 use borrow.Author.Tests.{le-leb, lt-leb}
 use lib.Arith.{digits-lt}
-use lib.ListN.{length, getD, take, drop, set, length-append, List·getD-append}
+use lib.ListN.{length, getD, take, set, length-append, List·getD-append}
 use lib.Seq.{getD-take, getD-set-same, getD-set-other, getD-append-seam, length-take-le}
 use Rattle.machine.specs.Explore.{upTo, explore, place}
 use Rattle.machine.specs.Rows.{Inside, Led}
@@ -274,9 +274,6 @@ module _ (x : Decoded) (r c labels : ℕ) (s t : Machines) (ws ws′ : List ℕ)
 
   done′ : Explored (succIn ws q) q (startOf (take (q .base) ws) q) b ws ws′
   done′ = subst (λ (p : Plan). Explored (succIn ws p) p (startOf (take (p .base) ws) p) b ws ws′) is-plan done
-
-  pub after-high : drop (r * (labels * c * c) + labels * c * c) ws′ ≡ drop (r * (labels * c * c) + labels * c * c) ws
-  after-high = done′ .high
 
   pub after-too-many : c < b .count → t .over ≡ r → (o : Outcome) → Made o c labels r s ws → Made (after c labels r x o) c labels (r + 1) t ws′
   after-too-many h ov (over k) m = absurd (omega (arith, m .0, m .1))

@@ -5,7 +5,7 @@ use Prim.Native.Nat.{ℕ, zero, suc, _+_, _-_, _*_, _^_, _≤_, _<_}
 use mathlib.Core.Path.{_≡_}
 use mathlib.Core.List.{List, [], _∷_, _++_}
 use mathlib.Core.Option.{Option, none, some}
-use lib.ListN.{length, getD}
+use lib.ListN.{length, getD, set}
 use Rattle.machine.specs.Explore.{upTo, explore}
 use Rattle.machine.specs.Table.{seen}
 use Rattle.machine.specs.Succ.{Step, notCode, kindCode, looksOf}
@@ -15,6 +15,7 @@ use Rattle.machine.specs.declared.explore.Kind.the-variants.{Subset, Sin
 use Rattle.machine.specs.declared.explore.Plan.{Plan}
 use Rattle.machine.specs.declared.records.Decoded.{Decoded}
 use Rattle.machine.specs.declared.records.Machines.{Machines}
+use Rattle.machine.specs.declared.records.Summary.{Summary}
 
 -- a machine: the codes of its states, its step and the set of its accepting states
 pub record Mach : Type 0 where
@@ -121,6 +122,50 @@ Made (built ms) c labels r s ws = (s .over ≡ 128) × (length ms ≡ r) × ((a 
 -- the machines of some records are kept
 abbrev pub SomeMade : ℕ → ℕ → ℕ → Machines → List ℕ → Type 0
 SomeMade c labels r s ws = (o : Outcome) × Made o c labels r s ws
+
+-- f is what s keeps of record a's machine, and no record has too many states
+pub record Keeps (s : Machines) (a : ℕ) (f : Summary) : Type 0 where
+  pub count : f .count ≡ getD (s .counts) a 0
+  pub accept : f .accept ≡ getD (s .accepts) a 0
+  pub looks : f .looks ≡ getD (s .looks) a 0
+  pub none-over : 128 ≤ s .over
+
+-- s has an entry for each possible record
+pub record Wide (s : Machines) : Type 0 where
+  pub counts : length (s .counts) ≡ 128
+  pub accepts : length (s .accepts) ≡ 128
+  pub looks : length (s .looks) ≡ 128
+
+-- f, or f and g, are what is kept of the parts of a record x after the first r
+pub record FirstKept (x : Decoded) (f : Summary) (c labels r : ℕ) (ws : List ℕ) : Type 0 where
+  pub all : Machines
+  pub first : Keeps all (x .first) f
+  pub made : SomeMade c labels r all ws
+
+pub record SomeKept (x : Decoded) (f g : Summary) (c labels r : ℕ) (ws : List ℕ) : Type 0 where
+  pub all : Machines
+  pub first : Keeps all (x .first) f
+  pub second : Keeps all (x .second) g
+  pub made : SomeMade c labels r all ws
+
+-- s with the number of a record with too many states, and with record r's machine
+abbrev pub withOver : Machines → ℕ → Machines
+withOver s r = record { counts = s .counts; accepts = s .accepts; looks = s .looks; over = r }
+
+abbrev pub withNext : Machines → ℕ → Summary → Machines
+withNext s r k = record { counts = set (s .counts) r (k .count); accepts = set (s .accepts) r (k .accept); looks = set (s .looks) r (k .looks); over = s .over }
+
+-- record r's machine is k: with it, or with the record's number where it has too many states, the machines of one more record are kept
+pub record Next (x : Decoded) (c labels r : ℕ) (k : Summary) (s : Machines) (o : Outcome) (ws : List ℕ) : Type 0 where
+  pub many : c < k .count → Made (after c labels r x o) c labels (r + 1) (withOver s r) ws
+  pub few : k .count ≤ c → Made (after c labels r x o) c labels (r + 1) (withNext s r k) ws
+
+-- record r's machine is k, whatever machines are kept of which f, or f and g, are the parts'
+abbrev pub AddsNot : Decoded → Summary → ℕ → ℕ → ℕ → Summary → List ℕ → List ℕ → Type 0
+AddsNot x f c labels r k ws ws′ = (s : Machines) (o : Outcome) → Wide s → Keeps s (x .first) f → Made o c labels r s ws → Next x c labels r k s o ws′
+
+abbrev pub Adds : Decoded → Summary → Summary → ℕ → ℕ → ℕ → Summary → List ℕ → List ℕ → Type 0
+Adds x f g c labels r k ws ws′ = (s : Machines) (o : Outcome) → Wide s → Keeps s (x .first) f → Keeps s (x .second) g → Made o c labels r s ws → Next x c labels r k s o ws′
 
 -- where no record has too many states, the table of record a has its entries at every label
 abbrev pub Spread : ℕ → ℕ → Machines → Type 0

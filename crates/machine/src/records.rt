@@ -1,10 +1,9 @@
 // The machines of a rule's records, one after the other, each in its share of the workspace.
-ghost use mathlib.Core.List.{_++_};
 ghost use mathlib.Core.Path.{_≡_};
 ghost use Prim.Native.Nat.{ℕ, _+_, _*_, _≤_, _<_};
-ghost use lib.ListN.{length, getD, take, drop, replicate};
+ghost use lib.ListN.{length, getD, take, drop};
 ghost use Rattle.machine.specs.Machine.{acceptBy, acceptOf};
-ghost use Rattle.machine.specs.Rule.{SomeMade, planOf, Fits, Sound, Outcome, Made, Spread, Finished, after, upto, noDecoded};
+ghost use Rattle.machine.specs.Rule.{planOf, Fits, Sound, SomeKept, FirstKept, Adds, AddsNot, Finished, upto, noDecoded};
 ghost use Rattle.machine.specs.Succ.{looksOf};
 use crate::complement::copy_table;
 use crate::complement::flipped;
@@ -13,6 +12,7 @@ use crate::explore::Kind;
 use crate::explore::Plan;
 use crate::explore::build_plan;
 use crate::explore::cleared;
+use crate::explore::wide;
 use crate::spread::spread_table;
 use crate::words::has;
 use crate::words::meet;
@@ -64,12 +64,19 @@ pub struct Decoded {
 }
 
 // What is kept of the machines: for each record its number of states, the set of its accepting states and the bits of the labels that it
-// looks at; and the number of the record with too many states, 128 where there is none.
+// looks at; and the number of the record with too many states, 128 where there is none. Bytes are less to set and to copy than words.
 pub struct Machines {
-    pub counts: [usize; 128],
+    pub counts: [u8; 128],
     pub accepts: [u64; 128],
-    pub looks: [usize; 128],
+    pub looks: [u8; 128],
     pub over: usize,
+}
+
+// What is kept of one record's machine.
+pub struct Summary {
+    pub count: u8,
+    pub accept: u64,
+    pub looks: u8,
 }
 
 // The bits that a record looks at, where its parts look at f and g.
@@ -112,120 +119,95 @@ pub fn plan_of(x: Decoded, r: usize, c: usize, labels: usize, f: usize, g: usize
     }
 }
 
-// The machine of record r by exploring its states, where no record before it has too many.
+// The machine of record r by exploring its states, from what is kept of its parts f and g; its count is above c where it has too many.
 pub fn explore_next(
     ws: &mut [u8],
     x: Decoded,
-    s: Machines,
+    f: Summary,
+    g: Summary,
     r: usize,
     c: usize,
     labels: usize,
-) -> Machines
+) -> Summary
     requires { ⌜ Fits x r c labels (length (now ws)) ⌝ }
     requires { ⌜ Sound x r labels ⌝ }
-    requires { ⌜ 128 ≤ s .over ⌝ }
-    requires { ⌜ SomeMade c labels r s (now ws) ⌝ }
-    ensures { λ t. ⌜ ((o : Outcome) → Made o c labels r s (now (ws .entry)) → Made (after c labels r x o) c labels (r + 1) t (now (ws .exit))) ⌝ }
-    ensures { λ t. ⌜ drop (r * (labels * c * c) + labels * c * c) (now (ws .exit)) ≡ drop (r * (labels * c * c) + labels * c * c) (now (ws .entry)) ⌝ }
+    requires { ⌜ SomeKept x f g c labels r (now ws) ⌝ }
+    ensures { λ k. ⌜ Adds x f g c labels r k (now (ws .entry)) (now (ws .exit)) ⌝ }
+    ensures { λ k. ⌜ drop (r * (labels * c * c) + labels * c * c) (now (ws .exit)) ≡ drop (r * (labels * c * c) + labels * c * c) (now (ws .entry)) ⌝ }
 {
-    let first = x.first;
-    let second = x.second;
-    let looks = s.looks;
-    let p = plan_of(x, r, c, labels, looks[first], looks[second]);
+    let p = plan_of(x, r, c, labels, f.looks as usize, g.looks as usize);
     let b = build_plan(ws, p);
     let count = b.count;
-    let mut t = s;
     if c < count {
-        t.over = r;
-        return t;
+        return Summary {
+            count: count as u8,
+            accept: 0,
+            looks: 0,
+        };
     }
     let kind = x.kind;
-    let accepts = s.accepts;
-    let a = accept_word(b, kind, accepts[first], accepts[second]);
-    t.counts[r] = count;
-    t.accepts[r] = a;
-    t.looks[r] = p.looks;
-    t
+    let accept = accept_word(b, kind, f.accept, g.accept);
+    Summary {
+        count: count as u8,
+        accept,
+        looks: p.looks as u8,
+    }
 }
 
 // The machine of record r, a "not", from its part's: the table is copied, and the other states accept.
 pub fn complement_next(
     ws: &mut [u8],
     x: Decoded,
-    s: Machines,
+    f: Summary,
     r: usize,
     c: usize,
     labels: usize,
-) -> Machines
+) -> Summary
     requires { ⌜ Fits x r c labels (length (now ws)) ⌝ }
     requires { ⌜ Sound x r labels ⌝ }
-    requires { ⌜ (128 ≤ s .over) × (x .kind ≡ Kind.Not) ⌝ }
-    requires { ⌜ SomeMade c labels r s (now ws) ⌝ }
-    ensures { λ t. ⌜ ((o : Outcome) → Made o c labels r s (now (ws .entry)) → Made (after c labels r x o) c labels (r + 1) t (now (ws .exit))) ⌝ }
-    ensures { λ t. ⌜ drop (r * (labels * c * c) + labels * c * c) (now (ws .exit)) ≡ drop (r * (labels * c * c) + labels * c * c) (now (ws .entry)) ⌝ }
+    requires { ⌜ x .kind ≡ Kind.Not ⌝ }
+    requires { ⌜ FirstKept x f c labels r (now ws) ⌝ }
+    ensures { λ k. ⌜ AddsNot x f c labels r k (now (ws .entry)) (now (ws .exit)) ⌝ }
+    ensures { λ k. ⌜ drop (r * (labels * c * c) + labels * c * c) (now (ws .exit)) ≡ drop (r * (labels * c * c) + labels * c * c) (now (ws .entry)) ⌝ }
 {
     let first = x.first;
-    let counts = s.counts;
-    let n = counts[first];
-    let looks = s.looks;
-    let bits = looks[first];
+    let n = f.count as usize;
+    let bits = f.looks as usize;
     let share = labels * c * c;
     copy_table(ws, first * share, r * share, c, labels, bits, n);
-    let accepts = s.accepts;
-    let a = flipped(accepts[first], n);
-    let mut t = s;
-    t.counts[r] = n;
-    t.accepts[r] = a;
-    t.looks[r] = bits;
-    t
+    let accept = flipped(f.accept, n);
+    Summary {
+        count: f.count,
+        accept,
+        looks: f.looks,
+    }
 }
 
-// The machine of record r, after those of the records before it.
+// The machine of record r, from what is kept of its parts f and g.
 pub fn build_next(
     ws: &mut [u8],
     x: Decoded,
-    s: Machines,
+    f: Summary,
+    g: Summary,
     r: usize,
     c: usize,
     labels: usize,
-) -> Machines
+) -> Summary
     requires { ⌜ Fits x r c labels (length (now ws)) ⌝ }
     requires { ⌜ Sound x r labels ⌝ }
-    requires { ⌜ SomeMade c labels r s (now ws) ⌝ }
-    ensures { λ t. ⌜ ((o : Outcome) → Made o c labels r s (now (ws .entry)) → Made (after c labels r x o) c labels (r + 1) t (now (ws .exit))) ⌝ }
-    ensures { λ t. ⌜ drop (r * (labels * c * c) + labels * c * c) (now (ws .exit)) ≡ drop (r * (labels * c * c) + labels * c * c) (now (ws .entry)) ⌝ }
+    requires { ⌜ SomeKept x f g c labels r (now ws) ⌝ }
+    ensures { λ k. ⌜ Adds x f g c labels r k (now (ws .entry)) (now (ws .exit)) ⌝ }
+    ensures { λ k. ⌜ drop (r * (labels * c * c) + labels * c * c) (now (ws .exit)) ≡ drop (r * (labels * c * c) + labels * c * c) (now (ws .entry)) ⌝ }
 {
-    let over = s.over;
-    if over < 128 {
-        return s;
-    }
     let kind = x.kind;
     match kind {
-        Kind::Not => complement_next(ws, x, s, r, c, labels),
-        _ => explore_next(ws, x, s, r, c, labels),
+        Kind::Not => complement_next(ws, x, f, r, c, labels),
+        _ => explore_next(ws, x, f, g, r, c, labels),
     }
 }
 
-// Record a's table gets its entries at every label, if no record has too many states.
-pub fn spread(ws: &mut [u8], s: Machines, a: usize, c: usize, labels: usize) -> Machines
-    requires { ⌜ (a < 128) × (c ≤ 64) × (labels ≤ 256) × (a * (labels * c * c) + labels * c * c ≤ length (now ws)) ⌝ }
-    ensures { λ t. ⌜ ((o : Outcome) → Made o c labels (a + 1) s (now (ws .entry)) → Made o c labels (a + 1) t (now (ws .exit))) × Spread a labels t ⌝ }
-    ensures { λ t. ⌜ drop (a * (labels * c * c) + labels * c * c) (now (ws .exit)) ≡ drop (a * (labels * c * c) + labels * c * c) (now (ws .entry)) ⌝ }
-{
-    let over = s.over;
-    if over < 128 {
-        return s;
-    }
-    let looks = s.looks;
-    let bits = looks[a];
-    let base = a * (labels * c * c);
-    spread_table(ws, base, c * c, bits, labels);
-    let mut t = s;
-    t.looks[a] = 255;
-    t
-}
-
-// The machines of the first m records, the last one's table at every label.
+// The machines of the first m records, the last one's table at every label. The arrays are written in place: a copy for each record
+// takes longer than a small machine.
 pub fn build_all(
     ws: &mut [u8],
     records: [Decoded; 128],
@@ -247,8 +229,31 @@ pub fn build_all(
     let mut r = 0;
     while r < m {
         let x = records[r];
-        t = build_next(ws, x, t, r, c, labels);
+        let first = x.first;
+        let second = x.second;
+        let f = Summary {
+            count: t.counts[first],
+            accept: t.accepts[first],
+            looks: t.looks[first],
+        };
+        let g = Summary {
+            count: t.counts[second],
+            accept: t.accepts[second],
+            looks: t.looks[second],
+        };
+        let k = build_next(ws, x, f, g, r, c, labels);
+        if c < k.count as usize {
+            t.over = r;
+            return t;
+        }
+        t.counts[r] = k.count;
+        t.accepts[r] = k.accept;
+        t.looks[r] = k.looks;
         r += 1;
     }
-    spread(ws, t, m - 1, c, labels)
+    let last = m - 1;
+    let bits = wide(t.looks[last]) as usize;
+    spread_table(ws, last * (labels * c * c), c * c, bits, labels);
+    t.looks[last] = 255;
+    t
 }

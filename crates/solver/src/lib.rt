@@ -58,7 +58,7 @@ pub fn solve(
     let counts = t.counts;
     let accepts = t.accepts;
     let last = m - 1;
-    let count = counts[last];
+    let count = counts[last] as usize;
     if over < 128 {
         let zero = [0usize; 64];
         let none = Found {
@@ -112,7 +112,7 @@ pub fn judge(
     let counts = t.counts;
     let accepts = t.accepts;
     let last = m - 1;
-    let count = counts[last];
+    let count = counts[last] as usize;
     let accept = accepts[last];
     if over < 128 {
         return Ruling { over, yes: false };

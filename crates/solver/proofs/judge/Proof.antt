@@ -20,11 +20,11 @@ build-all-requires c κs = search needs
 sub-last : tie.Need-sub-last
 sub-last c = search needs
 
-mul-count : tie.Need-mul-count
-mul-count c = search needs
-
 array-read-count : tie.Need-array-read-count
 array-read-count c = search needs
+
+cast-count : tie.Need-cast-count
+cast-count c = search needs
 
 mul-accept : tie.Need-mul-accept
 mul-accept c = search needs
@@ -107,8 +107,8 @@ judge-spec =
     (tie.spec
     build-all-requires
     sub-last
-    mul-count
     array-read-count
+    cast-count
     mul-accept
     array-read-accept
     same-length

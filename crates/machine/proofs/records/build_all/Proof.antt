@@ -1,87 +1,170 @@
--- `build_all` meets its contract. The invariant: the first r machines are made, and nothing after their shares is changed. Assumes nothing.
+-- `build_all` meets its contract. The invariant: the first r machines are made, none has too many states, and nothing after their shares
+-- is changed. Assumes nothing.
 use borrow.Author.Needs.{needs}
 use Prim.Native.Nat.{ℕ, _+_, _-_, _*_, _≤_}
-use mathlib.Core.Path.{_≡_, refl, sym, ap, _∙_, subst}
-use native.Mathlib.Numerals.{add-one}
+use mathlib.Core.Path.{_≡_, refl, sym, _∙_, subst}
+use native.Mathlib.Nat.{mul-assoc, mul-le-mul-left}
 use native.Mathlib.Omega.{arith}
-use lib.ListN.{length, getD, drop}
+use lib.ListN.{length, getD, drop, set}
+use Rattle.machine.specs.Rule.{Fits, Made, Keeps, Wide, upto, noDecoded}
+use Rattle.machine.specs.Table.{Spreading}
+use Rattle.machine.specs.declared.records.Machines.{Machines}
+use Rattle.machine.specs.declared.records.Summary.{Summary}
+use Rattle.machine.proofs.Nexts.{wide-next, upto-next, finished-over}
+use Rattle.machine.proofs.Shares.{share-small, times-small, next-share}
+use Rattle.machine.proofs.Spreads.{made-spread, spread-looks, spread-high}
 use Rattle.machine.proofs.Start.{drop-later}
-use Rattle.machine.proofs.Shares.{next-share}
-use Rattle.machine.specs.Rule.{Fits, Made, after, upto, noDecoded}
 use Rattle.machine.proofs.records.build_all.Statement.{statement}
 use Rattle.machine.proofs.records.build_all.Tie as tie
 
 abbrev Inv-loop : tie.InvT-loop
-Inv-loop ws₀ m c labels records t₀ r₀ ws t r = (r ≤ m) × (length ws ≡ length ws₀) × Made (upto records c labels r) c labels r t ws × (drop (m * (labels * c * c)) ws ≡ drop (m * (labels * c * c)) ws₀)
+Inv-loop ws₀ m c labels records t₀ r₀ ws t r =
+    (r ≤ m) × (length ws ≡ length ws₀) × (t .over ≡ 128) × Wide t × Made (upto records c labels r) c labels r t ws × (drop (m * (labels * c * c)) ws ≡ drop (m * (labels * c * c)) ws₀)
 
 abbrev μ-loop : tie.MeasureT-loop
 μ-loop ws₀ m c labels records t₀ r₀ ws t r = m - r
 
+-- what s keeps of record a's machine
+abbrev entryOf : Machines → ℕ → Summary
+entryOf s a = record { count = getD (s .counts) a 0; accept = getD (s .accepts) a 0; looks = getD (s .looks) a 0 }
+
+keeps : (s : Machines) (a : ℕ) → s .over ≡ 128 → Keeps s a (entryOf s a)
+keeps s a e = record { count = refl; accept = refl; looks = refl; none-over = omega arith }
+
 loop-holds : tie.Need-loop-holds Inv-loop μ-loop
 unfolding upto
-loop-holds c = (omega arith, refl, (refl, refl, λ a h. absurd (omega arith)), refl)
+loop-holds c = (omega arith, refl, refl, record { counts = refl; accepts = refl; looks = refl }, (refl, refl, λ a h. absurd (omega arith)), refl)
 
-mul-x : tie.Need-mul-x Inv-loop μ-loop
-mul-x c = search needs
+element-copy-out-t27 : tie.Need-element-copy-out-t27 Inv-loop μ-loop
+element-copy-out-t27 c = c .before .before .before .before .pre .1 (c .before .before .loop .r) (c .before .loop-test .taken) .0 .first-in
 
-array-copy-out-x : tie.Need-array-copy-out-x Inv-loop μ-loop
-array-copy-out-x c = search needs
+mul-t21 : tie.Need-mul-t21 Inv-loop μ-loop
+mul-t21 c = omega (arith, c .before .before .before .before .before .pre .1 (c .before .before .before .loop .r) (c .before .before .loop-test .taken) .0 .first-in)
+
+element-copy-out-t30 : tie.Need-element-copy-out-t30 Inv-loop μ-loop
+element-copy-out-t30 c = c .before .before .before .before .before .pre .1 (c .before .before .before .loop .r) (c .before .before .loop-test .taken) .0 .first-in
+
+element-copy-out-t33 : tie.Need-element-copy-out-t33 Inv-loop μ-loop
+element-copy-out-t33 c = c .before .before .before .before .before .before .pre .1 (c .before .before .before .before .loop .r) (c .before .before .before .loop-test .taken) .0 .first-in
+
+element-copy-out-t27-2 : tie.Need-element-copy-out-t27-2 Inv-loop μ-loop
+element-copy-out-t27-2 c = c .before .before .before .before .before .before .before .pre .1 (c .before .before .before .before .before .loop .r) (c .before .before .before .before .loop-test .taken) .0 .second-in
+
+mul-t21-2 : tie.Need-mul-t21-2 Inv-loop μ-loop
+mul-t21-2 c = omega (arith, c .before .before .before .before .before .before .before .before .pre .1 (c .before .before .before .before .before .before .loop .r) (c .before .before .before .before .before .loop-test .taken) .0 .second-in)
+
+element-copy-out-t30-2 : tie.Need-element-copy-out-t30-2 Inv-loop μ-loop
+element-copy-out-t30-2 c = c .before .before .before .before .before .before .before .before .pre .1 (c .before .before .before .before .before .before .loop .r) (c .before .before .before .before .before .loop-test .taken) .0 .second-in
+
+element-copy-out-t33-2 : tie.Need-element-copy-out-t33-2 Inv-loop μ-loop
+element-copy-out-t33-2 c =
+    c .before .before .before .before .before .before .before .before .before .pre .1 (c .before .before .before .before .before .before .before .loop .r) (c .before .before .before .before .before .before .loop-test .taken) .0 .second-in
 
 build-next-requires : tie.Need-build-next-requires Inv-loop μ-loop
 build-next-requires c κs =
-    let s = c .before .before .before .before .before in
-    let h = c .before .before .before .loop in
+    let s = c .before .before .before .before .before .before .before .before .before .before .before in
+    let h = c .before .before .before .before .before .before .before .before .before .loop in
     let a = s .args in
-    let e = s .pre .1 (h .r) (c .before .before .loop-test .taken) in
-    (subst (Fits (getD (a .t2) (h .r) noDecoded) (h .r) (a .c) (a .labels)) (sym (h .inv .1)) (e .0), (e .1, (upto (a .t2) (a .c) (a .labels) (h .r), h .inv .2)))
-
-add-r : tie.Need-add-r Inv-loop μ-loop
-add-r c = search needs
-
-loop-less : tie.Need-loop-less Inv-loop μ-loop
-loop-less c = search needs
-
-loop-again : tie.Need-loop-again Inv-loop μ-loop
-unfolding upto
-loop-again c =
-    let a = c .before .before .before .before .before .before .before .before .args in
-    let h = c .before .before .before .before .before .before .loop in
-    let v = c .before .before .build-next in
-    let t = c .before .before .before .before .before .loop-test .taken in
-    let s = a .labels * a .c * a .c in
-    let e : upto (a .t2) (a .c) (a .labels) (h .r + 1) ≡ after (a .c) (a .labels) (h .r) (getD (a .t2) (h .r) noDecoded) (upto (a .t2) (a .c) (a .labels) (h .r)) =
-    ap (upto (a .t2) (a .c) (a .labels)) (add-one (h .r)) in (
-      omega arith,
-      v .kept .0 ∙ h .inv .1,
-      rw e (v .ensures .0 (upto (a .t2) (a .c) (a .labels) (h .r)) (h .inv .2)),
-      drop-later (h .r * s + s) (a .m * s) (v .last .0) (h .ws) (next-share (h .r) (a .m) s t) (v .ensures .1) ∙ h .inv .3,
+    let x = getD (a .t2) (h .r) noDecoded in
+    let e = s .pre .1 (h .r) (c .before .before .before .before .before .before .before .before .loop-test .taken) in (
+      subst (Fits x (h .r) (a .c) (a .labels)) (sym (h .inv .1)) (e .0),
+      (
+        e .1,
+        record {
+          all = h .t;
+          first = keeps (h .t) (x .first) (h .inv .2);
+          second = keeps (h .t) (x .second) (h .inv .2);
+          made = (upto (a .t2) (a .c) (a .labels) (h .r), h .inv .4);
+        },
+      ),
     )
-
-sub-spread : tie.Need-sub-spread Inv-loop μ-loop
-sub-spread c = omega (arith, c .before .before .before .before .pre .0)
-
-spread-requires : tie.Need-spread-requires Inv-loop μ-loop
-spread-requires c κs =
-    let s = c .before .before .before .before in
-    let e = s .pre .1 (s .args .m - 1) (omega (arith, s .pre .0)) .0 in
-    omega (arith, e .here-in, e .ceiling, e .few, e .share, c .before .before .loop .inv .1)
-
-same-length : tie.Need-same-length Inv-loop μ-loop
-same-length c = c .before .before .spread .kept .0 ∙ c .before .before .before .before .before .loop .inv .1
 
 returns : tie.Need-returns Inv-loop μ-loop
 returns c =
-    let s = c .before .before .before .before .before .before .before in
+    let s = c .before .before .before .before .before .before .before .before .before .before .before .before .before .before .before .before in
+    let h = c .before .before .before .before .before .before .before .before .before .before .before .before .before .before .loop in
+    let t = c .before .before .before .before .before .before .before .before .before .before .before .before .before .loop-test .taken in
     let a = s .args in
-    let h = c .before .before .before .before .before .loop in
-    let v = c .before .before .spread in
+    let v = c .before .before .before .before .build-next in
     let share = a .labels * a .c * a .c in
+    let x = getD (a .t2) (h .r) noDecoded in
+    let n = v .ensures .0 (h .t) (upto (a .t2) (a .c) (a .labels) (h .r)) (h .inv .3) (keeps (h .t) (x .first) (h .inv .2)) (keeps (h .t) (x .second) (h .inv .2)) (h .inv .4) in (
+      finished-over (a .t2) (a .c) (a .labels) (h .r) (a .m) (record { counts = h .t .counts; accepts = h .t .accepts; looks = h .t .looks; over = h .r }) (v .last .0) t (s .pre .0 .1) refl (n .many (c .if1 .taken)),
+      drop-later (h .r * share + share) (a .m * share) (v .last .0) (h .ws) (next-share (h .r) (a .m) share t) (v .ensures .1) ∙ h .inv .5,
+    )
+
+loop-again : tie.Need-loop-again Inv-loop μ-loop
+loop-again c =
+    let s = c .before .before .before .before .before .before .before .before .before .before .before .before .before .before .before .before in
+    let h = c .before .before .before .before .before .before .before .before .before .before .before .before .before .before .loop in
+    let t = c .before .before .before .before .before .before .before .before .before .before .before .before .before .loop-test .taken in
+    let a = s .args in
+    let v = c .before .before .before .before .build-next in
+    let share = a .labels * a .c * a .c in
+    let x = getD (a .t2) (h .r) noDecoded in
+    let n = v .ensures .0 (h .t) (upto (a .t2) (a .c) (a .labels) (h .r)) (h .inv .3) (keeps (h .t) (x .first) (h .inv .2)) (keeps (h .t) (x .second) (h .inv .2)) (h .inv .4) in (
+      omega (arith, t),
+      v .kept .0 ∙ h .inv .1,
+      h .inv .2,
+      wide-next (h .t) (h .r) (v .result) (h .inv .3),
+      rw (upto-next (a .t2) (a .c) (a .labels) (h .r)) (n .few (omega arith)),
+      drop-later (h .r * share + share) (a .m * share) (v .last .0) (h .ws) (next-share (h .r) (a .m) share t) (v .ensures .1) ∙ h .inv .5,
+    )
+
+mul-spread-table : tie.Need-mul-spread-table Inv-loop μ-loop
+mul-spread-table c =
+    let s = c .before .before .before .before .before .before in
+    let e = s .pre .1 0 (s .pre .0 .0) .0 in
+    omega (arith, share-small (s .args .c) (s .args .labels) (e .ceiling) (e .few))
+
+mul-spread-table-2 : tie.Need-mul-spread-table-2 Inv-loop μ-loop
+mul-spread-table-2 c =
+    let s = c .before .before .before .before .before .before in
+    let e = s .pre .1 0 (s .pre .0 .0) .0 in
+    omega (arith, share-small (s .args .c) (s .args .labels) (e .ceiling) (e .few))
+
+mul-spread-table-3 : tie.Need-mul-spread-table-3 Inv-loop μ-loop
+mul-spread-table-3 c =
+    let s = c .before .before .before .before .before .before in
+    let e = s .pre .1 0 (s .pre .0 .0) .0 in
+    omega (arith, times-small (s .args .m - 1) (s .args .c) (s .args .labels) (omega (arith, s .pre .0)) (e .ceiling) (e .few))
+
+mul-spread-table-4 : tie.Need-mul-spread-table-4 Inv-loop μ-loop
+mul-spread-table-4 c =
+    let s = c .before .before .before .before .before .before in
+    let e = s .pre .1 0 (s .pre .0 .0) .0 in
+    let h : s .args .c * s .args .c ≤ s .args .c * 64 = mul-le-mul-left (s .args .c) (e .ceiling) in
+    omega (arith, e .ceiling)
+
+spread-table-requires : tie.Need-spread-table-requires Inv-loop μ-loop
+spread-table-requires c κs =
+    let s = c .before .before .before .before .before .before in
+    let a = s .args in
+    let e = s .pre .1 (a .m - 1) (omega (arith, s .pre .0)) .0 in
+    let h : a .c * a .c ≤ a .c * 64 = mul-le-mul-left (a .c) (e .ceiling) in
+    omega (arith, e .ceiling, e .few, e .share, c .before .before .before .before .loop .inv .1, mul-assoc (a .labels) (a .c) (a .c))
+
+returns-2 : tie.Need-returns-2 Inv-loop μ-loop
+returns-2 c =
+    let s = c .before .before .before .before .before .before .before .before .before in
+    let a = s .args in
+    let h = c .before .before .before .before .before .before .before .loop in
+    let v = c .before .before .spread-table in
+    let k = a .m - 1 in
+    let share = a .labels * a .c * a .c in
+    let e = s .pre .1 k (omega (arith, s .pre .0)) .0 in
     let o = upto (a .t2) (a .c) (a .labels) (a .m) in
-    let e : h .r ≡ a .m = omega (arith, h .inv .0, c .before .before .before .before .loop-test .left) in
-    let q : a .m - 1 + 1 ≡ a .m = omega (arith, s .pre .0) in
-    let made : Made o (a .c) (a .labels) (a .m) (h .t) (h .ws) = rw e at (h .inv .2) in (
-      (subst (λ (n : ℕ). Made o (a .c) (a .labels) n (h .t) (h .ws) → Made o (a .c) (a .labels) n (v .result) (v .last .0)) q (v .ensures .0 .0 o) made, v .ensures .0 .1),
-      drop-later ((a .m - 1) * share + share) (a .m * share) (v .last .0) (h .ws) (next-share (a .m - 1) (a .m) share (omega (arith, s .pre .0))) (v .ensures .1) ∙ h .inv .3,
+    let z : h .r ≡ a .m = omega (arith, h .inv .0, c .before .before .before .before .before .before .loop-test .left) in
+    let q : k + 1 ≡ a .m = omega (arith, s .pre .0) in
+    let made : Made o (a .c) (a .labels) (a .m) (h .t) (h .ws) = rw z at (h .inv .4) in
+    let w : Spreading (h .ws) (v .last .0) (k * share) (a .c * a .c) (getD (h .t .looks) k 0) (a .labels) = rw (c .before .before .before .before .wide .ensures .0) at (v .ensures) in (
+      (
+        subst (λ (n : ℕ). Made o (a .c) (a .labels) n (h .t) (h .ws) → Made o (a .c) (a .labels) n (record { counts = h .t .counts; accepts = h .t .accepts; looks = set (h .t .looks) k 255; over = h .t .over }) (v .last .0)) q
+            (made-spread (a .c) (a .labels) k (h .t) (h .ws) (v .last .0) (e .few) (e .here-in) (h .inv .3 .looks) w o) made,
+        spread-looks (a .c) (a .labels) k (h .t) (h .ws) (v .last .0) (e .few) (e .here-in) (h .inv .3 .looks) w,
+      ),
+      drop-later (k * share + share) (a .m * share) (v .last .0) (h .ws) (next-share k (a .m) share (omega (arith, s .pre .0)))
+          (spread-high (a .c) (a .labels) k (h .t) (h .ws) (v .last .0) (e .few) (e .here-in) (h .inv .3 .looks) w) ∙ h .inv .5,
     )
 
 pub build-all-spec : {M : Type 1} → statement M
@@ -91,13 +174,35 @@ build-all-spec =
     Inv-loop
     μ-loop
     loop-holds
-    mul-x
-    array-copy-out-x
+    (λ c. search needs)
+    (λ c. search needs)
+    element-copy-out-t27
+    mul-t21
+    element-copy-out-t30
+    element-copy-out-t33
+    element-copy-out-t27-2
+    mul-t21-2
+    element-copy-out-t30-2
+    element-copy-out-t33-2
     build-next-requires
-    add-r
-    loop-less
+    (λ c. search needs)
+    (λ c. search needs)
+    returns
+    (λ c. search needs)
+    (λ c. search needs)
+    (λ c. search needs)
+    (λ c. search needs)
+    (λ c. search needs)
+    (λ c. search needs)
     loop-again
-    sub-spread
-    spread-requires
-    same-length
-    returns)
+    (λ c. search needs)
+    (λ c. search needs)
+    (λ c κs. search needs)
+    mul-spread-table
+    mul-spread-table-2
+    mul-spread-table-3
+    mul-spread-table-4
+    spread-table-requires
+    (λ c. search needs)
+    (λ c. search needs)
+    returns-2)

@@ -1,8 +1,10 @@
 -- `explore_next` meets its contract. Assumes nothing.
-use mathlib.Core.Path.{refl, ap}
+use mathlib.Core.Path.{refl}
+use Prim.Native.Nat.{_≤_}
 use native.Mathlib.Omega.{arith}
-use lib.ListN.{length, getD, set}
-use Rattle.machine.proofs.Shares.{led-of, room-of, after-too-many, after-more, after-high}
+use lib.ListN.{length}
+use Rattle.machine.proofs.Nexts.{looks-byte, led-kept, adds-many, adds-few, count-byte, adds-high}
+use Rattle.machine.proofs.Shares.{room-of}
 use Rattle.machine.proofs.Steps.{id-length}
 use borrow.Author.Needs.{needs}
 use Rattle.machine.proofs.records.explore_next.Statement.{statement}
@@ -10,38 +12,47 @@ use Rattle.machine.proofs.records.explore_next.Tie as tie
 
 build-plan-requires : tie.Need-build-plan-requires
 build-plan-requires c κs =
-    let s = c .before .before .before .before in
+    let s = c .before .before .before .before .before in
     let a = s .args in
-    let e = c .before .plan-of .ensures in
-    rw e (room-of (a .x) (a .r) (a .c) (a .labels) (length (a .ws .now)) (getD (a .s .looks) (a .x .first) 0) (getD (a .s .looks) (a .x .second) 0) (s .pre .0), (omega arith, led-of (a .x) (a .r) (a .c) (a .labels) (a .s) (a .ws .now) (s .pre .0) (s .pre .1 .0) (s .pre .1 .1 .0) (s .pre .1 .1 .1)))
+    rw (c .before .plan-of .ensures) (room-of (a .x) (a .r) (a .c) (a .labels) (length (a .ws .now)) (a .f .looks) (a .g .looks) (s .pre .0), (s .pre .0 .some-labels, led-kept (a .x) (a .r) (a .c) (a .labels) (a .f) (a .g) (a .ws .now) (s .pre .0) (s .pre .1 .0) (s .pre .1 .1)))
+
+cast-t18 : tie.Need-cast-t18
+cast-t18 c =
+    let s = c .before .before .before .before .before .before .before .before .before in
+    let a = s .args in
+    let b = c .before .before .before .build-plan in
+    let q = c .before .before .before .before .before .plan-of in
+    omega (arith, count-byte (a .x) (a .r) (a .c) (a .labels) (a .f) (a .g) (a .ws .now) (b .last .0) (q .result) (b .result) (s .pre .0 .ceiling) (q .ensures) (b .ensures))
 
 returns : tie.Need-returns
 returns c =
-    let s = c .before .before .before .before .before .before .before .before in
+    let s = c .before .before .before .before .before .before .before .before .before in
     let a = s .args in
     let b = c .before .before .before .build-plan in
     let q = c .before .before .before .before .before .plan-of in (
-      after-too-many (a .x) (a .r) (a .c) (a .labels) (a .s) (record { counts = a .s .counts; accepts = a .s .accepts; looks = a .s .looks; over = a .r }) (a .ws .now) (b .last .0) (q .result) (b .result)
-          (s .pre .0) (s .pre .1 .0) (q .ensures) (b .ensures) (s .pre .1 .1 .0) (c .if1 .taken) refl,
-      after-high (a .x) (a .r) (a .c) (a .labels) (a .s) (record { counts = a .s .counts; accepts = a .s .accepts; looks = a .s .looks; over = a .r }) (a .ws .now) (b .last .0) (q .result) (b .result)
-          (s .pre .0) (s .pre .1 .0) (q .ensures) (b .ensures) (s .pre .1 .1 .0),
+      adds-many (a .x) (a .r) (a .c) (a .labels) (a .f) (a .g) (a .ws .now) (s .pre .0) (s .pre .1 .0) (record { count = b .result .count; accept = 0; looks = 0 }) (b .last .0) (q .result) (b .result) (q .ensures) (b .ensures) refl (c .if1 .taken),
+      adds-high (a .x) (a .r) (a .c) (a .labels) (a .f) (a .g) (a .ws .now) (b .last .0) (q .result) (b .result) (q .ensures) (b .ensures),
     )
+
+cast-t20 : tie.Need-cast-t20
+cast-t20 c =
+    let s = c .before .before .before .before .before .before .before .before .before .before .before in
+    let a = s .args in
+    let e = s .pre .0 in
+    let hf : a .f .looks ≤ 255 = omega (arith, s .good .1 .1 .0 .1 .1 .1 .1 .0) in
+    let hg : a .g .looks ≤ 255 = omega (arith, s .good .1 .1 .1 .0 .1 .1 .1 .1 .0) in
+    rw (c .before .before .before .before .before .before .before .plan-of .ensures) (omega (arith, looks-byte (a .x .kind) (a .x .wx) (a .x .wy) (a .f .looks) (a .g .looks) (e .wx-pos) (e .wx-small) (e .wy-small) hf hg))
 
 returns-2 : tie.Need-returns-2
 returns-2 c =
-    let s = c .before .before .before .before .before .before .before .before .before .before in
+    let s = c .before .before .before .before .before .before .before .before .before .before .before in
     let a = s .args in
     let b = c .before .before .before .before .before .build-plan in
     let q = c .before .before .before .before .before .before .before .plan-of in
-    let w = c .accept-word in (
-      after-more (a .x) (a .r) (a .c) (a .labels) (a .s)
-          (record { counts = set (a .s .counts) (a .r) (b .result .count); accepts = set (a .s .accepts) (a .r) (w .result); looks = set (a .s .looks) (a .r) (q .result .looks); over = a .s .over })
-          (a .ws .now) (b .last .0) (q .result) (b .result) (s .pre .0) (s .pre .1 .0) (q .ensures) (b .ensures) (s .pre .1 .1 .0)
-          (id-length 64 (b .result .codes) (b .ok .1 .1 .0 .1 .0 .1)) (omega arith) refl (ap (set (a .s .accepts) (a .r)) (w .ensures)) refl
-          (id-length 128 (a .s .counts) (s .good .1 .1 .0 .1 .1 .0 .1 .0 .1)) (id-length 128 (a .s .accepts) (s .good .1 .1 .0 .1 .1 .1 .0 .1 .0 .1)) (id-length 128 (a .s .looks) (s .good .1 .1 .0 .1 .1 .1 .1 .0 .1 .0 .1)) refl,
-      after-high (a .x) (a .r) (a .c) (a .labels) (a .s)
-          (record { counts = set (a .s .counts) (a .r) (b .result .count); accepts = set (a .s .accepts) (a .r) (w .result); looks = set (a .s .looks) (a .r) (q .result .looks); over = a .s .over })
-          (a .ws .now) (b .last .0) (q .result) (b .result) (s .pre .0) (s .pre .1 .0) (q .ensures) (b .ensures) (s .pre .1 .1 .0),
+    let w = c .before .accept-word in (
+      adds-few (a .x) (a .r) (a .c) (a .labels) (a .f) (a .g) (a .ws .now) (s .pre .0) (s .pre .1 .0) (record { count = b .result .count; accept = w .result; looks = q .result .looks }) (b .last .0) (q .result) (b .result) (q .ensures) (b .ensures) refl
+          (id-length 64 (b .result .codes) (b .ok .1 .1 .0 .1 .0 .1)) (omega arith) (w .ensures) refl,
+      adds-high (a .x) (a .r) (a .c) (a .labels) (a .f) (a .g) (a .ws .now) (b .last .0) (q .result) (b .result) (q .ensures) (b .ensures),
     )
 
 pub explore-next-spec : {M : Type 1} → statement M
@@ -50,22 +61,13 @@ explore-next-spec =
     (tie.spec
     (λ c. search needs)
     (λ c. search needs)
-    (λ c. search needs)
-    (λ c. search needs)
     (λ c κs. search needs)
     build-plan-requires
+    cast-t18
     (λ c. search needs)
     returns
-    (λ c. search needs)
-    (λ c. search needs)
-    (λ c. search needs)
-    (λ c. search needs)
     (λ c κs. search needs)
     (λ c. search needs)
-    (λ c. search needs)
-    (λ c. search needs)
-    (λ c. search needs)
-    (λ c. search needs)
-    (λ c. search needs)
+    cast-t20
     (λ c. search needs)
     returns-2)
