@@ -14,7 +14,7 @@ use Rattle.machine.specs.Succ.{Step, entry, on, hit, hitRow}
 use Rattle.machine.specs.Word.{mem, any, wordOf}
 use Rattle.machine.specs.declared.explore.Kind.{Kind}
 use Rattle.machine.specs.declared.explore.Plan.{Plan}
-use Rattle.machine.specs.declared.explore.Kind.the-variants.{Subset, Single, Child1, Child2, Root, Not, Or, And, Exists, Close}
+use Rattle.machine.specs.declared.explore.Kind.the-variants.{Exists}
 
 -- does state q follow an i that is a member of x and state j under the label l or m
 abbrev pub hitColumn : Step → ℕ → ℕ → ℕ → ℕ → ℕ → ℕ → Bool
@@ -33,19 +33,6 @@ pub record Follows (f : Step) (l m s t : ℕ) (left right : List ℕ) : Type 0 w
 abbrev pub Serves : (ℕ → ℕ → ℕ → ℕ) → ℕ → List ℕ → ℕ → List ℕ → List ℕ → Type 0
 Serves succ l codes k left right =
     (i : ℕ) → i ≤ k → (getD right i 0 ≡ succ l (getD codes i 0) (getD codes k 0)) × (getD left i 0 ≡ succ l (getD codes k 0) (getD codes i 0))
-
--- a kind whose successors are not unions
-abbrev pub Plain : Kind → Type 0
-Plain Subset = Unit {0}
-Plain Single = Unit {0}
-Plain Child1 = Unit {0}
-Plain Child2 = Unit {0}
-Plain Root = Unit {0}
-Plain Not = Unit {0}
-Plain Or = Unit {0}
-Plain And = Unit {0}
-Plain Exists = ⊥
-Plain Close = Unit {0}
 
 -- the members of a set are below n
 abbrev pub Below : ℕ → ℕ → Type 0

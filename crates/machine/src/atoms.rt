@@ -1,15 +1,7 @@
 // The transition rules of the five atoms, as constant tables over the two bits and the two branch states.
 ghost use mathlib.Core.Path.{_≡_};
 ghost use Prim.Native.Nat.{_/_, _%_, _<_};
-ghost use Rattle.machine.specs.Succ.{atomIndex, subsetRule, singleRule, child1Rule, child2Rule, rootRule};
-
-// Where an atom's table has the entry for a label and two states.
-pub fn atom_index(wx: usize, wy: usize, l: usize, x: u64, y: u64) -> usize
-    requires { ⌜ (0 < wx) × (0 < wy) ⌝ }
-    ensures { λ r. ⌜ (r ≡ atomIndex wx wy l x y) × (r < 64) ⌝ }
-{
-    l / wx % 2 * 32 + l / wy % 2 * 16 + ((x % 4) as usize) * 4 + ((y % 4) as usize)
-}
+ghost use Rattle.machine.specs.Succ.{subsetRule, singleRule, child1Rule, child2Rule, rootRule};
 
 const SUBSET: [u8; 64] = [
     0,

@@ -5,15 +5,9 @@ ghost use mathlib.Core.List.{[], _∷_};
 ghost use mathlib.Core.Option.{some};
 ghost use lib.ListN.{length, getD, take};
 ghost use Rattle.machine.specs.Explore.{Distinct, place, insert};
-ghost use Rattle.machine.specs.Rows.{Plain, Guided, Led, Serves};
-ghost use Rattle.machine.specs.Succ.{Room, entry, through, off, notCode, pairCode, closeCode, successorOf, succIn, wordFound, existsStart, startOf};
+ghost use Rattle.machine.specs.Rows.{Guided, Led, Serves};
+ghost use Rattle.machine.specs.Succ.{Room, entry, through, off, pairCode, succIn, wordFound, existsStart, startOf};
 ghost use Rattle.machine.specs.Table.{listed, addr, Noted, Rowed, Ringed, Explored, Kept};
-use crate::atoms::atom_index;
-use crate::atoms::child1_at;
-use crate::atoms::child2_at;
-use crate::atoms::root_at;
-use crate::atoms::single_at;
-use crate::atoms::subset_at;
 use crate::rows::rows_of;
 use crate::words::with_member;
 
@@ -132,14 +126,6 @@ pub fn wide(x: u8) -> u64
     x as u64
 }
 
-// The successor for "not".
-pub fn not_code(low: &[u8], c: usize, a: usize, f: usize, l: usize, x: u64, y: u64) -> u64
-    requires { ⌜ (c ≤ 64) × (l < 256) × (a < 4294967296) ⌝ }
-    ensures { λ r. ⌜ r ≡ notCode (through f (entry (now (low .entry)) c a)) l x y ⌝ }
-{
-    entry_at(low, c, a, l & f, (x % 64) as usize, (y % 64) as usize)
-}
-
 // The successor for "and" and "or".
 pub fn pair_code(
     low: &[u8],
@@ -165,52 +151,6 @@ pub fn pair_code(
     );
     let second = entry_at(low, c, b, l & g, (x % 64) as usize, (y % 64) as usize);
     first * 64 + second
-}
-
-// The successor for the start of "exists": label 0 with the bound bit v.
-pub fn close_code(
-    low: &[u8],
-    c: usize,
-    a: usize,
-    f: usize,
-    w: usize,
-    v: usize,
-    x: u64,
-    y: u64,
-) -> u64
-    requires { ⌜ (c ≤ 64) × (v < 256) × (a < 4294967296) × (0 < w) × (w ≤ 128) ⌝ }
-    ensures { λ r. ⌜ r ≡ closeCode (through f (entry (now (low .entry)) c a)) w v x y ⌝ }
-{
-    let l = v % 2 * w;
-    entry_at(low, c, a, l & f, (x % 64) as usize, (y % 64) as usize)
-}
-
-// The successor of x and y by the kind of record; "exists" has rows instead.
-pub fn successor(low: &[u8], p: Plan, l: usize, x: u64, y: u64) -> u64
-    requires { ⌜ (p .c ≤ 64) × (l < 256) × (p .first < 4294967296) × (p .second < 4294967296) ⌝ }
-    requires { ⌜ (0 < p .wx) × (p .wx ≤ 128) × (0 < p .wy) × (p .wy ≤ 128) × Plain (p .kind) ⌝ }
-    ensures { λ r. ⌜ r ≡ successorOf (now (low .entry)) p l x y ⌝ }
-{
-    let kind = p.kind;
-    let c = p.c;
-    let a = p.first;
-    let b = p.second;
-    let wx = p.wx;
-    let wy = p.wy;
-    let f = p.look1;
-    let g = p.look2;
-    match kind {
-        Kind::Subset => subset_at(atom_index(wx, wy, l, x, y)),
-        Kind::Single => single_at(atom_index(wx, wy, l, x, y)),
-        Kind::Child1 => child1_at(atom_index(wx, wy, l, x, y)),
-        Kind::Child2 => child2_at(atom_index(wx, wy, l, x, y)),
-        Kind::Root => root_at(atom_index(wx, wy, l, x, y)),
-        Kind::Not => not_code(low, c, a, f, l, x, y),
-        Kind::Or => pair_code(low, c, a, b, f, g, l, x, y),
-        Kind::And => pair_code(low, c, a, b, f, g, l, x, y),
-        Kind::Exists => 0,
-        Kind::Close => close_code(low, c, a, f, wx, l, x, y),
-    }
 }
 
 // Where x stands among the first codes, none of which stands twice; their count where it does not. What is kept for x among the hints is

@@ -4,14 +4,19 @@ ghost use mathlib.Core.Bool.{true, _||_};
 ghost use mathlib.Core.Path.{_≡_};
 ghost use Prim.Native.Nat.{ℕ, _+_, _*_, _≤_, _<_};
 ghost use lib.ListN.{length, getD};
-ghost use Rattle.machine.specs.Rows.{Below, Plain, Ready, hitColumn, unionOf, Follows, Serves};
-ghost use Rattle.machine.specs.Succ.{entry, through, hit, hitRow, pairCode, existsCode, successorOf};
+ghost use Rattle.machine.specs.Rows.{Below, Ready, hitColumn, unionOf, Follows, Serves};
+ghost use Rattle.machine.specs.Succ.{atomCode, atomStep, partStep, entry, through, hit, hitRow, pairCode, existsCode, successorOf};
 ghost use Rattle.machine.specs.Word.{mem, any};
+use crate::atoms::child1_at;
+use crate::atoms::child2_at;
+use crate::atoms::root_at;
+use crate::atoms::single_at;
+use crate::atoms::subset_at;
 use crate::explore::Kind;
 use crate::explore::Plan;
 use crate::explore::cleared;
+use crate::explore::entry_at;
 use crate::explore::pair_code;
-use crate::explore::successor;
 use crate::explore::wide;
 use crate::words::size;
 use crate::words::smallest;
@@ -223,28 +228,70 @@ pub fn pair_rows(
     }
 }
 
-// The successors for a kind whose successors are read off one by one.
-pub fn plain_rows(
-    low: &[u8],
-    p: Plan,
+// An atom's successor, from the place in its table; 0 for any other kind.
+pub fn rule_at(kind: Kind, k: usize) -> u64
+    requires { ⌜ k < 64 ⌝ }
+    ensures { λ r. ⌜ r ≡ atomCode kind k ⌝ }
+{
+    match kind {
+        Kind::Subset => subset_at(k),
+        Kind::Single => single_at(k),
+        Kind::Child1 => child1_at(k),
+        Kind::Child2 => child2_at(k),
+        Kind::Root => root_at(k),
+        _ => 0,
+    }
+}
+
+// The successors for an atom, where wx and wy are the weights of its variables' bits.
+pub fn atom_rows(
+    kind: Kind,
+    wx: usize,
+    wy: usize,
     l: usize,
     codes: &[u64; 64],
     k: usize,
     left: &mut [u64; 64],
     right: &mut [u64; 64],
 )
-    requires { ⌜ (p .c ≤ 64) × (l < 256) × (p .first < 4294967296) × (p .second < 4294967296) × (k < 64) ⌝ }
-    requires { ⌜ (0 < p .wx) × (p .wx ≤ 128) × (0 < p .wy) × (p .wy ≤ 128) × Plain (p .kind) ⌝ }
+    requires { ⌜ (0 < wx) × (0 < wy) × (k < 64) ⌝ }
     requires { ⌜ (length (now left) ≡ 64) × (length (now right) ≡ 64) ⌝ }
     ensures { λ _. ⌜ (length (now (left .exit)) ≡ 64) × (length (now (right .exit)) ≡ 64) ⌝ }
-    ensures { λ _. ⌜ Serves (successorOf (now (low .entry)) p) l (now (codes .entry)) k (now (left .exit)) (now (right .exit)) ⌝ }
+    ensures { λ _. ⌜ Serves (atomStep kind wx wy) l (now (codes .entry)) k (now (left .exit)) (now (right .exit)) ⌝ }
 {
-    let new = codes[k];
+    let bits = l / wx % 2 * 32 + l / wy % 2 * 16;
+    let new = (codes[k] % 4) as usize;
     let mut i = 0;
     while i <= k {
-        let old = codes[i];
-        right[i] = successor(low, p, l, old, new);
-        left[i] = successor(low, p, l, new, old);
+        let old = (codes[i] % 4) as usize;
+        right[i] = rule_at(kind, bits + old * 4 + new);
+        left[i] = rule_at(kind, bits + new * 4 + old);
+        i += 1;
+    }
+}
+
+// The successors that the part's table has at label m.
+pub fn part_rows(
+    low: &[u8],
+    c: usize,
+    a: usize,
+    m: usize,
+    codes: &[u64; 64],
+    k: usize,
+    left: &mut [u64; 64],
+    right: &mut [u64; 64],
+)
+    requires { ⌜ (c ≤ 64) × (m < 512) × (a < 4294967296) × (k < 64) ⌝ }
+    requires { ⌜ (length (now left) ≡ 64) × (length (now right) ≡ 64) ⌝ }
+    ensures { λ _. ⌜ (length (now (left .exit)) ≡ 64) × (length (now (right .exit)) ≡ 64) ⌝ }
+    ensures { λ _. ⌜ Serves (partStep (entry (now (low .entry)) c a)) m (now (codes .entry)) k (now (left .exit)) (now (right .exit)) ⌝ }
+{
+    let new = (codes[k] % 64) as usize;
+    let mut i = 0;
+    while i <= k {
+        let old = (codes[i] % 64) as usize;
+        right[i] = entry_at(low, c, a, m, old, new);
+        left[i] = entry_at(low, c, a, m, new, old);
         i += 1;
     }
 }
@@ -273,10 +320,13 @@ pub fn rows_of(
     let f = p.look1;
     let g = p.look2;
     let wx = p.wx;
+    let wy = p.wy;
     match kind {
         Kind::Exists => exists_rows(low, c, a, f, wx, l, codes, k, left, right),
         Kind::Or => pair_rows(low, c, a, b, f, g, l, codes, k, left, right),
         Kind::And => pair_rows(low, c, a, b, f, g, l, codes, k, left, right),
-        _ => plain_rows(low, p, l, codes, k, left, right),
+        Kind::Not => part_rows(low, c, a, l & f, codes, k, left, right),
+        Kind::Close => part_rows(low, c, a, (l % 2 * wx) & f, codes, k, left, right),
+        _ => atom_rows(kind, wx, wy, l, codes, k, left, right),
     }
 }

@@ -1,38 +1,57 @@
 -- `rows_of` meets its contract: the successors of each kind. Assumes nothing.
 use borrow.Author.Needs.{needs}
+use Prim.Native.Nat.{ℕ, _*_, _%_, _≤_}
 use mathlib.Core.List.{[], _∷_}
+use mathlib.Core.Path.{_≡_, refl, sym, _∙_}
+use native.Mathlib.Nat.{mul-le-mul-right}
+use native.Mathlib.Omega.{arith}
 use types.Run.{OneOf, miss}
 use denote.Enum.Declared.{tagOf}
+use lib.Bits.{and-le-l}
 use Rattle.machine.proofs.explore.Kind.{the-type}
-use Rattle.machine.specs.Rows.{Plain}
-use Rattle.machine.specs.Succ.{successorOf, kindCode}
+use Rattle.machine.specs.Succ.{Step, atomCode, atomStep, entry, through, notCode, closeCode, kindCode, successorOf}
+use Rattle.machine.specs.Table.{seen}
 use Rattle.machine.specs.declared.explore.Kind.{Kind}
 use Rattle.machine.specs.declared.explore.Kind.the-variants.{Subset, Single, Child1, Child2, Root, Not, Or, And, Exists, Close}
 use Rattle.machine.proofs.rows.rows_of.Statement.{statement}
 use Rattle.machine.proofs.rows.rows_of.Tie as tie
 
--- what is left is a kind whose successors are read off
-plain : (k : Kind) → OneOf (0 ∷ 1 ∷ 2 ∷ 3 ∷ 4 ∷ 5 ∷ 9 ∷ []) (tagOf the-type k) → Plain k
-plain Subset h = tt
-plain Single h = tt
-plain Child1 h = tt
-plain Child2 h = tt
-plain Root h = tt
-plain Not h = tt
-plain Or h = tt
-plain And h = tt
-plain Exists h = absurd (miss (0 ∷ 1 ∷ 2 ∷ 3 ∷ 4 ∷ 5 ∷ 9 ∷ []) 8 tt h)
-plain Close h = tt
+-- what is left is an atom
+atom-code : (k : Kind) (f g : Step) (wx wy l x y : ℕ) → OneOf (0 ∷ 1 ∷ 2 ∷ 3 ∷ 4 ∷ []) (tagOf the-type k) → atomStep k wx wy l x y ≡ kindCode k f g wx wy l x y
+unfolding atomCode kindCode
+atom-code Subset f g wx wy l x y h = refl
+atom-code Single f g wx wy l x y h = refl
+atom-code Child1 f g wx wy l x y h = refl
+atom-code Child2 f g wx wy l x y h = refl
+atom-code Root f g wx wy l x y h = refl
+atom-code Not f g wx wy l x y h = absurd (miss (0 ∷ 1 ∷ 2 ∷ 3 ∷ 4 ∷ []) 5 tt h)
+atom-code Or f g wx wy l x y h = absurd (miss (0 ∷ 1 ∷ 2 ∷ 3 ∷ 4 ∷ []) 6 tt h)
+atom-code And f g wx wy l x y h = absurd (miss (0 ∷ 1 ∷ 2 ∷ 3 ∷ 4 ∷ []) 7 tt h)
+atom-code Exists f g wx wy l x y h = absurd (miss (0 ∷ 1 ∷ 2 ∷ 3 ∷ 4 ∷ []) 8 tt h)
+atom-code Close f g wx wy l x y h = absurd (miss (0 ∷ 1 ∷ 2 ∷ 3 ∷ 4 ∷ []) 9 tt h)
+
+-- the label of the start of "exists" is 0 or the bound bit alone
+bound-small : (l w : ℕ) → l % 2 * w ≤ w
+bound-small l w = let h : l % 2 * w ≤ 1 * w = mul-le-mul-right w (omega arith) in omega arith
 
 exists-rows-requires : tie.Need-exists-rows-requires
 exists-rows-requires c κs =
     let s = c .before .before .before .before .before in
     ((s .pre .0 .0, s .pre .0 .1, s .pre .0 .2, s .pre .1 .0 .0, s .pre .1 .0 .1, s .pre .0 .4), (s .pre .1 .1 .0 (c .before .before .enum-told .given .1), s .pre .1 .1 .1))
 
-plain-rows-requires : tie.Need-plain-rows-requires
-plain-rows-requires c κs =
-    let s = c .before .before .before .before in
-    (s .pre .0, ((s .pre .1 .0 .0, s .pre .1 .0 .1, s .pre .1 .0 .2, s .pre .1 .0 .3, plain (s .args .p .kind) (c .before .before .match .keys4)), s .pre .1 .1 .1))
+part-rows-requires : tie.Need-part-rows-requires
+part-rows-requires c κs =
+    let s = c .before .before .before .before .before in
+    ((s .pre .0 .0, omega (arith, s .pre .0, and-le-l (s .args .l) (s .args .p .look1)), s .pre .0 .2, s .pre .0 .4), s .pre .1 .1 .1)
+
+mul-part-rows : tie.Need-mul-part-rows
+mul-part-rows c = let s = c .before .before .before in omega (arith, s .pre .1 .0, bound-small (s .args .l) (s .args .p .wx))
+
+part-rows-requires-2 : tie.Need-part-rows-requires-2
+part-rows-requires-2 c κs =
+    let s = c .before .before .before .before .before in
+    let a = s .args in
+    ((s .pre .0 .0, omega (arith, s .pre .1 .0, bound-small (a .l) (a .p .wx), and-le-l (a .l % 2 * a .p .wx) (a .p .look1)), s .pre .0 .2, s .pre .0 .4), s .pre .1 .1 .1)
 
 returns : tie.Need-returns
 unfolding successorOf kindCode
@@ -46,6 +65,26 @@ returns-3 : tie.Need-returns-3
 unfolding successorOf kindCode
 returns-3 c = (c .pair-rows2 .ensures .0, rw (c .before .before .before .enum-told3 .given .1) (c .pair-rows2 .ensures .1))
 
+returns-4 : tie.Need-returns-4
+unfolding successorOf kindCode notCode through seen
+returns-4 c = (c .part-rows .ensures .0, rw (c .before .before .before .enum-told4 .given .1) (c .part-rows .ensures .1))
+
+returns-5 : tie.Need-returns-5
+unfolding successorOf kindCode closeCode through seen
+returns-5 c = (c .part-rows2 .ensures .0, rw (c .before .before .before .enum-told5 .given .1) (c .part-rows2 .ensures .1))
+
+returns-6 : tie.Need-returns-6
+unfolding successorOf
+returns-6 c =
+    let a = c .before .before .before .before .before .args in
+    let p = a .p in
+    let f = through (p .look1) (entry (a .low .now) (p .c) (p .first)) in
+    let g = through (p .look2) (entry (a .low .now) (p .c) (p .second)) in
+    let v = c .atom-rows .ensures in
+    let is : (x y : ℕ) → atomStep (p .kind) (p .wx) (p .wy) (a .l) x y ≡ kindCode (p .kind) f g (p .wx) (p .wy) (a .l) x y =
+    λ x y. atom-code (p .kind) f g (p .wx) (p .wy) (a .l) x y (c .before .before .before .match .keys6) in
+    (v .0, λ i h. (v .1 i h .0 ∙ is _ _, v .1 i h .1 ∙ is _ _))
+
 pub rows-of-spec : {M : Type 1} → statement M
 rows-of-spec =
     tie.close
@@ -56,8 +95,15 @@ rows-of-spec =
     (λ c κs. search needs)
     (λ c. search needs)
     (λ c κs. search needs)
-    plain-rows-requires
+    (λ c. search needs)
+    part-rows-requires
+    (λ c. search needs)
+    mul-part-rows
+    part-rows-requires-2
+    (λ c κs. search needs)
     returns
     returns-2
     returns-3
-    (λ c. search needs))
+    returns-4
+    returns-5
+    returns-6)

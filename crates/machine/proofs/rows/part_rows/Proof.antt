@@ -1,25 +1,25 @@
--- `plain_rows` meets its contract. The invariant: the words below i are written. Assumes nothing.
+-- `part_rows` meets its contract. The invariant: the words below i are written. Assumes nothing.
 use borrow.Author.Needs.{needs}
 use Prim.Native.Nat.{ℕ, _+_, _-_, _≤_}
 use mathlib.Core.Path.{_≡_}
 use native.Mathlib.Omega.{arith}
 use lib.ListN.{getD}
-use Rattle.machine.specs.Succ.{successorOf}
+use Rattle.machine.specs.Succ.{partStep, entry}
 use Rattle.machine.proofs.RowLaws.{Written, written-first, written-next}
-use Rattle.machine.proofs.rows.plain_rows.Statement.{statement}
-use Rattle.machine.proofs.rows.plain_rows.Tie as tie
+use Rattle.machine.proofs.rows.part_rows.Statement.{statement}
+use Rattle.machine.proofs.rows.part_rows.Tie as tie
 
 abbrev Inv-loop : tie.InvT-loop
-Inv-loop low p l codes k left₀ right₀ new i₀ left right i = (i ≤ k + 1) × Written (λ (j : ℕ). successorOf low p l (getD codes j 0) (getD codes k 0)) (λ (j : ℕ). successorOf low p l (getD codes k 0) (getD codes j 0)) i left right
+Inv-loop low c a m codes k left₀ right₀ new i₀ left right i = (i ≤ k + 1) × Written (λ (j : ℕ). partStep (entry low c a) m (getD codes j 0) (getD codes k 0)) (λ (j : ℕ). partStep (entry low c a) m (getD codes k 0) (getD codes j 0)) i left right
 
 abbrev μ-loop : tie.MeasureT-loop
-μ-loop low p l codes k left₀ right₀ new i₀ left right i = k + 1 - i
+μ-loop low c a m codes k left₀ right₀ new i₀ left right i = k + 1 - i
 
 loop-holds : tie.Need-loop-holds Inv-loop μ-loop
 loop-holds c =
     let s = c .before .before in
     let a = s .args in
-    (omega arith, written-first _ _ (a .left .now) (a .right .now) (s .pre .1 .1 .0) (s .pre .1 .1 .1))
+    (omega arith, written-first _ _ (a .left .now) (a .right .now) (s .pre .1 .0) (s .pre .1 .1))
 
 mul-old : tie.Need-mul-old Inv-loop μ-loop
 mul-old c = omega (arith, c .loop-test .taken, c .before .before .before .before .pre .0)
@@ -51,7 +51,7 @@ loop-again c =
     let h = c .before .before .before .before .loop in
     let t = c .before .before .before .loop-test .taken in (
       omega (arith, t),
-      written-next _ _ (h .i) (h .left) (h .right) (c .before .successor .result) (c .successor2 .result) (omega (arith, t, s .pre .0)) (h .inv .1) (c .before .successor .ensures) (c .successor2 .ensures),
+      written-next _ _ (h .i) (h .left) (h .right) (c .before .entry-at .result) (c .entry-at2 .result) (omega (arith, t, s .pre .0)) (h .inv .1) (c .before .entry-at .ensures .0) (c .entry-at2 .ensures .0),
     )
 
 returns : tie.Need-returns Inv-loop μ-loop
@@ -61,8 +61,8 @@ returns c =
     let w = rw e at (h .inv .1) in
     ((w .long-left, w .long-right), λ i l. w .done i (omega arith))
 
-pub plain-rows-spec : {M : Type 1} → statement M
-plain-rows-spec =
+pub part-rows-spec : {M : Type 1} → statement M
+part-rows-spec =
     tie.close
     (tie.spec
     Inv-loop
