@@ -70,8 +70,8 @@ marking-off a w q h v e = record {
   rest = λ i l. v .rest i (omega arith);
 }
 
-pub marking-done : (a : List ℕ) (w q : ℕ) → 64 ≤ q → Marking a w q → Marked a w 64
-marking-done a w q h v i l = v .done i (omega arith)
+pub marking-done : (a : List ℕ) (w q n : ℕ) → n ≤ q → Marking a w q → Marked a w n
+marking-done a w q n h v i l = v .done i (omega arith)
 
 -- what the builder's outcome says where no record has too many states
 no-over : (o : Made-outcome) (c labels m : ℕ) (s : Machines) (ws : List ℕ) → Made o c labels m s ws → 128 ≤ s .over → (ms : List Mach) × (o ≡ built ms) × Made (built ms) c labels m s ws
@@ -83,6 +83,13 @@ is-over (over k) c labels m s ws h l = ap over (sym (h .0))
 is-over (built ms) c labels m s ws h l = absurd (let a = h .0 in omega arith)
 
 module _ (o : Made-outcome) (c labels m : ℕ) (s : Machines) (ws : List ℕ) (h : Finished o c labels m s ws) (no : 128 ≤ s .over) (some : 0 < m) (top : c ≤ 64) where
+  -- the last record has no more than c states
+  pub last-few : getD (s .counts) (m - 1) 0 ≤ c
+  last-few =
+      let w = no-over o c labels m s ws (h .0) no in
+      let a : At c labels (m - 1) (getD (w .0) (m - 1) noMach) s ws = w .2 .2 (m - 1) (omega arith) in
+      omega (arith, a .count, a .few)
+
   -- the search may be called on the last record's share
   pub solve-whole : (P : ℕ) → P ≤ 255 → (table : List ℕ) → table ≡ drop ((m - 1) * (labels * c * c)) ws → labels * c * c ≤ length table → Whole labels table c (getD (s .counts) (m - 1) 0) P
   unfolding entry addr
@@ -132,7 +139,7 @@ module _ (records : List Decoded) (c P : ℕ) (s : Machines) (ws : List ℕ) (po
 
   module _ (no : 128 ≤ s .over) (accept table : List ℕ) (kind k size : ℕ) (label first second : List ℕ) where
     abbrev All : ℕ → List Record → ℕ → ℕ → Type 0
-    All n rs m labels = Finished (upto records c labels m) c labels m s ws → table ≡ drop ((m - 1) * (labels * c * c)) ws → Marked accept (getD (s .accepts) (m - 1) 0) 64
+    All n rs m labels = Finished (upto records c labels m) c labels m s ws → table ≡ drop ((m - 1) * (labels * c * c)) ws → Marked accept (getD (s .accepts) (m - 1) 0) (getD (s .counts) (m - 1) 0)
         → Ended (search labels (tableIn table c accept (getD (s .counts) (m - 1) 0)) P) kind k size label first second
         → report (getD (s .counts) (m - 1) 0) (answerOf kind k label first second) ≡ decideOf 2 n rs c P
 
@@ -151,7 +158,7 @@ module _ (records : List Decoded) (c P : ℕ) (s : Machines) (ws : List ℕ) (po
     reported q absent places states t e = absurd (let z : _≡_ {A = ℕ} 0 1 = cc in omega arith)
 
     -- an answer
-    pub solve-decided : (m labels : ℕ) → Finished (upto records c labels m) c labels m s ws → table ≡ drop ((m - 1) * (labels * c * c)) ws → Marked accept (getD (s .accepts) (m - 1) 0) 64
+    pub solve-decided : (m labels : ℕ) → Finished (upto records c labels m) c labels m s ws → table ≡ drop ((m - 1) * (labels * c * c)) ws → Marked accept (getD (s .accepts) (m - 1) 0) (getD (s .counts) (m - 1) 0)
         → Ended (search labels (tableIn table c accept (getD (s .counts) (m - 1) 0)) P) kind k size label first second
         → Solved records m c labels P (record { over = 128; states = getD (s .counts) (m - 1) 0; found = record { kind = kind; n = k; positions = size; label = label; first = first; second = second } })
     unfolding outcomeIf

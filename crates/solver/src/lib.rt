@@ -9,13 +9,14 @@ ghost use Rattle.solver.specs.Solve.{Marked, Solved, Judged};
 use machine::records::Decoded;
 use search::Found;
 
-// One byte for each state: 1 where it is a member of w.
-fn marks(w: u64) -> [u8; 64]
-    ensures { λ r. ⌜ Marked r w 64 ⌝ }
+// One byte for each of n states: 1 where it is a member of w.
+fn marks(w: u64, n: usize) -> [u8; 64]
+    requires { ⌜ n ≤ 64 ⌝ }
+    ensures { λ r. ⌜ Marked r w n ⌝ }
 {
     let mut a = [0u8; 64];
     let mut q: usize = 0;
-    while q < 64 {
+    while q < n {
         if machine::words::has(w, q) {
             a[q] = 1;
         }
@@ -75,7 +76,7 @@ pub fn solve(
             found: none,
         };
     }
-    let a = marks(accepts[last]);
+    let a = marks(accepts[last], count);
     let base = last_share(m, c, labels);
     let f = search::find(labels, &ws[base..], c, count, &a, p);
     Solution {

@@ -1,7 +1,8 @@
--- `core::marks` meets its contract. Assumes nothing.
+-- `marks` meets its contract. Assumes nothing.
 use mathlib.Core.Path.{sym, _∙_}
 use mathlib.Core.Logic.{⊎-elim}
-use Prim.Native.Nat.{_-_}
+use Prim.Native.Nat.{_-_, _≤_}
+use native.Mathlib.Omega.{arith}
 use borrow.Author.Needs.{needs}
 use Rattle.solver.proofs.Solving.{Marking, marking-first, marking-on, marking-off, marking-done}
 use Rattle.solver.proofs.marks.Statement.{statement}
@@ -11,13 +12,13 @@ use Rattle.solver.proofs.marks.Lts as lts
 use Rattle.machine.proofs.words.has.Reads as has-reads
 
 abbrev Inv-loop : tie.InvT-loop
-Inv-loop w a₀ q₀ a q = Marking a w q
+Inv-loop w n a₀ q₀ a q = (q ≤ n) × Marking a w q
 
 abbrev μ-loop : tie.MeasureT-loop
-μ-loop w a₀ q₀ a q = 64 - q
+μ-loop w n a₀ q₀ a q = n - q
 
 loop-holds : tie.Need-loop-holds Inv-loop μ-loop
-loop-holds c = marking-first _
+loop-holds c = (omega arith, marking-first _)
 
 has-requires : tie.Need-has-requires Inv-loop μ-loop
 has-requires c κs = search needs
@@ -33,14 +34,16 @@ loop-less c = search needs
 
 loop-again : tie.Need-loop-again Inv-loop μ-loop
 loop-again c =
-    let loop = c .before .before .before .loop in
-    ⊎-elim
-    (λ w. rw (w .1) (marking-on _ _ _ (search needs) (loop .inv) (sym (w .0 .taken) ∙ c .before .has .ensures)))
-    (λ w. rw (w .1) (marking-off _ _ _ (search needs) (loop .inv) (sym (w .0 .left) ∙ c .before .has .ensures)))
-    (c .if1 .came)
+    let loop = c .before .before .before .loop in (
+      omega (arith, c .before .before .loop-test .taken),
+      ⊎-elim
+          (λ w. rw (w .1) (marking-on _ _ _ (search needs) (loop .inv .1) (sym (w .0 .taken) ∙ c .before .has .ensures)))
+          (λ w. rw (w .1) (marking-off _ _ _ (search needs) (loop .inv .1) (sym (w .0 .left) ∙ c .before .has .ensures)))
+          (c .if1 .came),
+    )
 
 returns : tie.Need-returns Inv-loop μ-loop
-returns c = marking-done _ _ _ (search needs) (c .before .loop .inv)
+returns c = marking-done _ _ _ _ (search needs) (c .before .loop .inv .1)
 
 pub marks-spec : {M : Type 1} → statement M
 marks-spec = tie.close (tie.spec Inv-loop μ-loop loop-holds has-requires array-write-a add-q loop-less loop-again returns)

@@ -5,7 +5,7 @@ use native.Mathlib.Omega.{arith}
 use borrow.Author.Needs.{needs}
 use Rattle.machine.specs.Rule.{upto}
 use lib.ListN.{length}
-use Rattle.solver.proofs.Solving.{solve-whole, solve-share, solve-refused, solve-decided, part-at, part-long}
+use Rattle.solver.proofs.Solving.{last-few, solve-whole, solve-share, solve-refused, solve-decided, part-at, part-long}
 use Rattle.solver.proofs.solve.Statement.{statement}
 use Rattle.solver.proofs.solve.Tie as tie
 use Rattle.solver.proofs.solve.Reads as reads
@@ -41,7 +41,10 @@ array-read-marks : tie.Need-array-read-marks
 array-read-marks c = search needs
 
 marks-requires : tie.Need-marks-requires
-marks-requires c κs = search needs
+marks-requires c κs =
+    let a = c .before .before .before .before .before .before .before .before in
+    let b = c .before .before .before .before .before .build-all in
+    omega (arith, a .pre .0 .3, last-few (upto (a .args .records) (a .args .c) (a .args .labels) (a .args .m)) (a .args .c) (a .args .labels) (a .args .m) (b .result) (b .last .0) (b .ensures .0) (search needs) (a .pre .0 .0) (a .pre .0 .3))
 
 sub-find : tie.Need-sub-find
 sub-find c =

@@ -1,5 +1,4 @@
 -- `atom_rows` meets its contract. The invariant: the words below i are written. Assumes nothing.
-use borrow.Author.Needs.{needs}
 use Prim.Native.Nat.{ℕ, _+_, _-_, _≤_}
 use mathlib.Core.Path.{_≡_}
 use native.Mathlib.Omega.{arith}
