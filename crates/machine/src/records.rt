@@ -7,7 +7,6 @@ ghost use Rattle.machine.specs.Rule.{planOf, Fits, Sound, SomeKept, Firs
 ghost use Rattle.machine.specs.Succ.{looksOf};
 use crate::complement::copy_table;
 use crate::complement::flipped;
-use crate::explore::Builder;
 use crate::explore::Kind;
 use crate::explore::Plan;
 use crate::explore::build_plan;
@@ -36,13 +35,11 @@ pub fn accepts(kind: Kind, a: u64, b: u64, x: u64) -> bool
     }
 }
 
-// The set of the accepting states.
-pub fn accept_word(s: Builder, kind: Kind, a: u64, b: u64) -> u64
-    requires { ⌜ s .count ≤ 64 ⌝ }
-    ensures { λ r. ⌜ r ≡ acceptOf kind a b (take (s .count) (s .codes)) ⌝ }
+// The set of the accepting states, where the first codes are the states'.
+pub fn accept_word(codes: &[u64; 64], count: usize, kind: Kind, a: u64, b: u64) -> u64
+    requires { ⌜ (count ≤ 64) × (length (now codes) ≡ 64) ⌝ }
+    ensures { λ r. ⌜ r ≡ acceptOf kind a b (take count (now (codes .entry))) ⌝ }
 {
-    let codes = s.codes;
-    let count = s.count;
     let mut r: u64 = 0;
     let mut i = 0;
     while i < count {
@@ -57,10 +54,10 @@ pub fn accept_word(s: Builder, kind: Kind, a: u64, b: u64) -> u64
 // A record of a rule: its kind, the numbers of the records that are its parts, and the weights of its variables' bits.
 pub struct Decoded {
     pub kind: Kind,
-    pub first: usize,
-    pub second: usize,
-    pub wx: usize,
-    pub wy: usize,
+    pub first: u8,
+    pub second: u8,
+    pub wx: u8,
+    pub wy: u8,
 }
 
 // What is kept of the machines: for each record its number of states, the set of its accepting states and the bits of the labels that it
@@ -103,13 +100,15 @@ pub fn plan_of(x: Decoded, r: usize, c: usize, labels: usize, f: usize, g: usize
 {
     let share = labels * c * c;
     let kind = x.kind;
-    let looks = looks_of(kind, x.wx, x.wy, f, g);
+    let wx = x.wx as usize;
+    let wy = x.wy as usize;
+    let looks = looks_of(kind, wx, wy, f, g);
     Plan {
         kind,
-        first: x.first * share,
-        second: x.second * share,
-        wx: x.wx,
-        wy: x.wy,
+        first: x.first as usize * share,
+        second: x.second as usize * share,
+        wx,
+        wy,
         c,
         labels,
         base: r * share,
@@ -146,7 +145,7 @@ pub fn explore_next(
         };
     }
     let kind = x.kind;
-    let accept = accept_word(b, kind, f.accept, g.accept);
+    let accept = accept_word(&b.codes, count, kind, f.accept, g.accept);
     Summary {
         count: count as u8,
         accept,
@@ -170,7 +169,7 @@ pub fn complement_next(
     ensures { λ k. ⌜ AddsNot x f c labels r k (now (ws .entry)) (now (ws .exit)) ⌝ }
     ensures { λ k. ⌜ drop (r * (labels * c * c) + labels * c * c) (now (ws .exit)) ≡ drop (r * (labels * c * c) + labels * c * c) (now (ws .entry)) ⌝ }
 {
-    let first = x.first;
+    let first = x.first as usize;
     let n = f.count as usize;
     let bits = f.looks as usize;
     let share = labels * c * c;
@@ -229,8 +228,8 @@ pub fn build_all(
     let mut r = 0;
     while r < m {
         let x = records[r];
-        let first = x.first;
-        let second = x.second;
+        let first = x.first as usize;
+        let second = x.second as usize;
         let f = Summary {
             count: t.counts[first],
             accept: t.accepts[first],

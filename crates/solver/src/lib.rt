@@ -56,10 +56,8 @@ pub fn solve(
 {
     let t = machine::records::build_all(ws, records, m, c, labels);
     let over = t.over;
-    let counts = t.counts;
-    let accepts = t.accepts;
     let last = m - 1;
-    let count = counts[last] as usize;
+    let count = t.counts[last] as usize;
     if over < 128 {
         let zero = [0usize; 64];
         let none = Found {
@@ -76,7 +74,7 @@ pub fn solve(
             found: none,
         };
     }
-    let a = marks(accepts[last], count);
+    let a = marks(t.accepts[last], count);
     let base = last_share(m, c, labels);
     let f = search::find(labels, &ws[base..], c, count, &a, p);
     Solution {
@@ -110,11 +108,9 @@ pub fn judge(
 {
     let t = machine::records::build_all(ws, records, m, c, labels);
     let over = t.over;
-    let counts = t.counts;
-    let accepts = t.accepts;
     let last = m - 1;
-    let count = counts[last] as usize;
-    let accept = accepts[last];
+    let count = t.counts[last] as usize;
+    let accept = t.accepts[last];
     if over < 128 {
         return Ruling { over, yes: false };
     }

@@ -1,21 +1,26 @@
 -- Decoding a rule strip, record by record; and what the builder asks of decoded records. Assumes nothing.
-use Prim.Native.Nat.{ℕ, _+_, _-_, _*_, _≤_, _<_}
-use mathlib.Core.Path.{_≡_, refl, _∙_}
+use Prim.Native.Nat.{ℕ, suc, _+_, _-_, _*_, _≤_, _<_}
+use mathlib.Core.Path.{_≡_, refl, sym, _∙_, subst}
 use mathlib.Core.List.{List}
 use native.Mathlib.Decide.{ℕ-discrete}
 use native.Mathlib.Omega.{arith}
 use lib.ListN.{length, set, length-set}
+use lib.Pow.{pow-mono}
 use lib.Seq.{getD-set-same, getD-set-other}
 use Rattle.logic.specs.Rule.{Record}
 use Rattle.machine.specs.declared.records.Decoded.{Decoded}
 use Rattle.machine.specs.Rule.{noDecoded}
-use Rattle.refinement.specs.Decode.{decodedOf}
-use Rattle.strip.specs.RuleStrip.{variablesOf, countOf, ruleRefusal}
+use Rattle.refinement.specs.Decode.{weight, decodedOf}
+use Rattle.strip.specs.RuleStrip.{variablesOf, countOf, recordAt, ruleRefusal}
 use Rattle.strip.specs.RuleAnswers.{readRecord}
 use Rattle.strip.specs.declared.rule.Read.{Read}
 use Rattle.strip.specs.declared.rule.Read.the-variants.{Record as recordRead, Refused as refused}
-use Rattle.strip.proofs.RuleLaws.{read-fields, never-refused, rule-accepted}
+use Rattle.strip.proofs.RuleLaws.{read-fields, never-refused, rule-accepted, records-at, widths-at}
 use Rattle.ws2s.specs.Decoding.{DecodesTo}
+
+-- a weight fits in a byte
+pub weight-byte : (n x : ℕ) → n ≤ 8 → weight n x ≤ 255
+weight-byte n x few = let h : n - suc x ≤ 7 = omega arith in let e = pow-mono h in omega arith
 
 -- the loop's invariant
 pub record Decoding (s : List ℕ) (n m : ℕ) (records : List Decoded) (at i : ℕ) : Type 0 where
@@ -54,6 +59,13 @@ module _ (s : List ℕ) (n m : ℕ) (ok : ruleRefusal s ≡ 0) (en : n ≡ varia
 
     pub decoding-never : (k : ℕ) → r ≡ refused k → ⊥
     decoding-never k d = never-refused s ok i here r answer k d
+
+    -- a record's numbers fit in a byte
+    pub decoding-small : (op a b next : ℕ) → r ≡ recordRead op a b next → (a < 128) × (b < 128)
+    decoding-small op a b next d =
+        let w = widths-at s (16 + 18 * i) in
+        let e : recordAt s (16 + 18 * i) ≡ record { op = op; first = a; second = b } = sym (records-at s i here) ∙ read-fields s ok i here r answer op a b next d .0 in
+        (subst (λ (x : Record). x .first < 128) e (w .1), subst (λ (x : Record). x .second < 128) e (w .2))
 
     pub decoding-next : (op a b next : ℕ) → r ≡ recordRead op a b next → (x : Decoded) → x ≡ decodedOf n (record { op = op; first = a; second = b })
         → Decoding s n m (set records i x) next (i + 1)

@@ -37,25 +37,27 @@ fn weight_of(n: usize, x: usize) -> usize
 
 // "exists" has its variable first and its record second; the builder takes the record first.
 fn decoded(n: usize, op: usize, first: usize, second: usize) -> Decoded
-    requires { ⌜ n ≤ 8 ⌝ }
+    requires { ⌜ (n ≤ 8) × (first < 128) × (second < 128) ⌝ }
     ensures { λ r. ⌜ r ≡ decodedOf n (record { op = op; first = first; second = second }) ⌝ }
 {
     let kind = kind_of(op);
-    let wx = weight_of(n, first);
-    let wy = weight_of(n, second);
+    let wx = weight_of(n, first) as u8;
+    let wy = weight_of(n, second) as u8;
+    let a = first as u8;
+    let b = second as u8;
     if op == 8 {
         return Decoded {
             kind,
-            first: second,
-            second,
+            first: b,
+            second: b,
             wx,
             wy,
         };
     }
     Decoded {
         kind,
-        first,
-        second,
+        first: a,
+        second: b,
         wx,
         wy,
     }

@@ -20,8 +20,8 @@ build-all-requires c κs = search needs
 sub-last : tie.Need-sub-last
 sub-last c = search needs
 
-array-read-count : tie.Need-array-read-count
-array-read-count c = search needs
+element-copy-out-count : tie.Need-element-copy-out-count
+element-copy-out-count c = search needs
 
 cast-count : tie.Need-cast-count
 cast-count c = search needs
@@ -29,8 +29,8 @@ cast-count c = search needs
 mul-accept : tie.Need-mul-accept
 mul-accept c = search needs
 
-array-read-accept : tie.Need-array-read-accept
-array-read-accept c = search needs
+element-copy-out-accept : tie.Need-element-copy-out-accept
+element-copy-out-accept c = search needs
 
 same-length : tie.Need-same-length
 same-length c = search needs
@@ -107,10 +107,10 @@ judge-spec =
     (tie.spec
     build-all-requires
     sub-last
-    array-read-count
+    element-copy-out-count
     cast-count
     mul-accept
-    array-read-accept
+    element-copy-out-accept
     same-length
     returns
     (λ c κs. search needs)

@@ -20,8 +20,8 @@ build-all-requires c κs = search needs
 sub-last : tie.Need-sub-last
 sub-last c = search needs
 
-array-read-count : tie.Need-array-read-count
-array-read-count c = search needs
+element-copy-out-count : tie.Need-element-copy-out-count
+element-copy-out-count c = search needs
 
 cast-count : tie.Need-cast-count
 cast-count c = search needs
@@ -31,14 +31,14 @@ same-length c = search needs
 
 returns : tie.Need-returns
 returns c =
-    let a = c .before .before .before .before .before .before .before .before in
-    (solve-refused _ _ _ (c .before .before .before .before .before .build-all .result) _ (a .pre .0 .2) (a .pre .0 .3) _ _ (c .before .before .before .before .before .build-all .ensures .0) (search) _ refl refl, c .before .before .before .before .before .build-all .ensures .1)
+    let a = c .before .before .before .before .before .before .before in
+    (solve-refused _ _ _ (c .before .before .before .before .build-all .result) _ (a .pre .0 .2) (a .pre .0 .3) _ _ (c .before .before .before .before .build-all .ensures .0) (search) _ refl refl, c .before .before .before .before .build-all .ensures .1)
 
 mul-marks : tie.Need-mul-marks
 mul-marks c = search needs
 
-array-read-marks : tie.Need-array-read-marks
-array-read-marks c = search needs
+element-copy-out-marks : tie.Need-element-copy-out-marks
+element-copy-out-marks c = search needs
 
 marks-requires : tie.Need-marks-requires
 marks-requires c κs =
@@ -93,12 +93,12 @@ solve-spec =
     (tie.spec
     build-all-requires
     sub-last
-    array-read-count
+    element-copy-out-count
     cast-count
     same-length
     returns
     mul-marks
-    array-read-marks
+    element-copy-out-marks
     marks-requires
     (λ c κs. search needs)
     sub-find

@@ -12,17 +12,16 @@ use lib.Seq.{getD-take, length-take-le}
 use Rattle.machine.specs.Word.{mem}
 use Rattle.machine.proofs.WordLaws.{mem-zero, word-ext}
 use Rattle.machine.specs.Machine.{acceptBy, acceptOf}
-use Rattle.machine.proofs.Steps.{id-length}
 use Rattle.machine.proofs.Members.{accept-more, accept-same}
 use Rattle.machine.proofs.records.accept_word.Statement.{statement}
 use Rattle.machine.proofs.records.accept_word.Tie as tie
 
 abbrev Inv-loop : tie.InvT-loop
-Inv-loop kind a b codes count r₀ i₀ r i =
+Inv-loop codes count kind a b r₀ i₀ r i =
     (i ≤ count) × (count ≤ 64) × (r < 2 ^ 64) × ((q : ℕ) → mem q r ≡ (ltb q i && acceptBy kind a b (getD (take count codes) q 0)))
 
 abbrev μ-loop : tie.MeasureT-loop
-μ-loop kind a b codes count r₀ i₀ r i = count - i
+μ-loop codes count kind a b r₀ i₀ r i = count - i
 
 loop-holds : tie.Need-loop-holds Inv-loop μ-loop
 loop-holds c = (omega arith, omega arith, omega arith, λ q. rw (le-ltb q 0 (omega arith)) (mem-zero q))
@@ -30,8 +29,8 @@ loop-holds c = (omega arith, omega arith, omega arith, λ q. rw (le-ltb q 0 (ome
 mul-accepts : tie.Need-mul-accepts Inv-loop μ-loop
 mul-accepts c = search needs
 
-array-read-accepts : tie.Need-array-read-accepts Inv-loop μ-loop
-array-read-accepts c = search needs
+element-copy-out-accepts : tie.Need-element-copy-out-accepts Inv-loop μ-loop
+element-copy-out-accepts c = search needs
 
 accepts-requires : tie.Need-accepts-requires Inv-loop μ-loop
 accepts-requires c κs = search needs
@@ -48,11 +47,11 @@ loop-less c = search needs
 loop-again : tie.Need-loop-again Inv-loop μ-loop
 loop-again c =
     let a = c .before .before .before .before .before .args in
-    let h = c .before .before .before .loop in
-    let t = c .before .before .loop-test .taken in
+    let h = c .before .before .before .before .loop in
+    let t = c .before .before .before .loop-test .taken in
     let v = c .before .accepts in
-    let A : ℕ → Bool = λ q. acceptBy (a .kind) (a .a) (a .b) (getD (take (a .s .count) (a .s .codes)) q 0) in
-    let e : v .result ≡ A (h .i) = v .ensures ∙ ap (acceptBy (a .kind) (a .a) (a .b)) (sym (getD-take (a .s .count) (a .s .codes) (h .i) 0 t)) in
+    let A : ℕ → Bool = λ q. acceptBy (a .kind) (a .a) (a .b) (getD (take (a .count) (a .codes .now)) q 0) in
+    let e : v .result ≡ A (h .i) = v .ensures ∙ ap (acceptBy (a .kind) (a .a) (a .b)) (sym (getD-take (a .count) (a .codes .now) (h .i) 0 t)) in
     ⊎-elim
     (λ w.
     let m : h .i % 64 ≡ h .i = omega arith in (
@@ -68,11 +67,11 @@ loop-again c =
 returns : tie.Need-returns Inv-loop μ-loop
 unfolding acceptOf
 returns c =
-    let s = c .before .before .before in
+    let s = c .before .before in
     let a = s .args in
     let h = c .before .loop in
-    let cs = take (a .s .count) (a .s .codes) in
-    let n : length cs ≡ a .s .count = length-take-le (a .s .count) (a .s .codes) (omega (arith, id-length 64 (a .s .codes) (s .good .0 .1 .1 .0 .1 .0 .1))) in
+    let cs = take (a .count) (a .codes .now) in
+    let n : length cs ≡ a .count = length-take-le (a .count) (a .codes .now) (omega (arith, s .pre)) in
     let e : h .i ≡ length cs = omega arith in
     let all : (q : ℕ) → mem q (h .r) ≡ (ltb q (length cs) && acceptBy (a .kind) (a .a) (a .b) (getD cs q 0)) = rw e at (h .inv .3) in
     word-ext 64 (h .r) (λ (q : ℕ). ltb q (length cs) && acceptBy (a .kind) (a .a) (a .b) (getD cs q 0)) (h .inv .2) (λ q l. all q)
@@ -85,7 +84,7 @@ accept-word-spec =
     μ-loop
     loop-holds
     mul-accepts
-    array-read-accepts
+    element-copy-out-accepts
     accepts-requires
     with-member-requires
     add-i

@@ -35,38 +35,44 @@ loop-holds : tie.Need-loop-holds Inv-loop μ-loop
 unfolding upto
 loop-holds c = (omega arith, refl, refl, record { counts = refl; accepts = refl; looks = refl }, (refl, refl, λ a h. absurd (omega arith)), refl)
 
+cast-first : tie.Need-cast-first Inv-loop μ-loop
+cast-first c = omega (arith, c .before .before .before .before .before .pre .1 (c .before .before .before .loop .r) (c .before .before .loop-test .taken) .0 .first-in)
+
+cast-second : tie.Need-cast-second Inv-loop μ-loop
+cast-second c = omega (arith, c .before .before .before .before .before .before .pre .1 (c .before .before .before .before .loop .r) (c .before .before .before .loop-test .taken) .0 .second-in)
+
 element-copy-out-t27 : tie.Need-element-copy-out-t27 Inv-loop μ-loop
-element-copy-out-t27 c = c .before .before .before .before .pre .1 (c .before .before .loop .r) (c .before .loop-test .taken) .0 .first-in
+element-copy-out-t27 c = c .before .before .before .before .before .before .pre .1 (c .before .before .before .before .loop .r) (c .before .before .before .loop-test .taken) .0 .first-in
 
 mul-t21 : tie.Need-mul-t21 Inv-loop μ-loop
-mul-t21 c = omega (arith, c .before .before .before .before .before .pre .1 (c .before .before .before .loop .r) (c .before .before .loop-test .taken) .0 .first-in)
+mul-t21 c = omega (arith, c .before .before .before .before .before .before .before .pre .1 (c .before .before .before .before .before .loop .r) (c .before .before .before .before .loop-test .taken) .0 .first-in)
 
 element-copy-out-t30 : tie.Need-element-copy-out-t30 Inv-loop μ-loop
-element-copy-out-t30 c = c .before .before .before .before .before .pre .1 (c .before .before .before .loop .r) (c .before .before .loop-test .taken) .0 .first-in
+element-copy-out-t30 c = c .before .before .before .before .before .before .before .pre .1 (c .before .before .before .before .before .loop .r) (c .before .before .before .before .loop-test .taken) .0 .first-in
 
 element-copy-out-t33 : tie.Need-element-copy-out-t33 Inv-loop μ-loop
-element-copy-out-t33 c = c .before .before .before .before .before .before .pre .1 (c .before .before .before .before .loop .r) (c .before .before .before .loop-test .taken) .0 .first-in
+element-copy-out-t33 c = c .before .before .before .before .before .before .before .before .pre .1 (c .before .before .before .before .before .before .loop .r) (c .before .before .before .before .before .loop-test .taken) .0 .first-in
 
 element-copy-out-t27-2 : tie.Need-element-copy-out-t27-2 Inv-loop μ-loop
-element-copy-out-t27-2 c = c .before .before .before .before .before .before .before .pre .1 (c .before .before .before .before .before .loop .r) (c .before .before .before .before .loop-test .taken) .0 .second-in
+element-copy-out-t27-2 c = c .before .before .before .before .before .before .before .before .before .pre .1 (c .before .before .before .before .before .before .before .loop .r) (c .before .before .before .before .before .before .loop-test .taken) .0 .second-in
 
 mul-t21-2 : tie.Need-mul-t21-2 Inv-loop μ-loop
-mul-t21-2 c = omega (arith, c .before .before .before .before .before .before .before .before .pre .1 (c .before .before .before .before .before .before .loop .r) (c .before .before .before .before .before .loop-test .taken) .0 .second-in)
+mul-t21-2 c = omega (arith, c .before .before .before .before .before .before .before .before .before .before .pre .1 (c .before .before .before .before .before .before .before .before .loop .r) (c .before .before .before .before .before .before .before .loop-test .taken) .0 .second-in)
 
 element-copy-out-t30-2 : tie.Need-element-copy-out-t30-2 Inv-loop μ-loop
-element-copy-out-t30-2 c = c .before .before .before .before .before .before .before .before .pre .1 (c .before .before .before .before .before .before .loop .r) (c .before .before .before .before .before .loop-test .taken) .0 .second-in
+element-copy-out-t30-2 c = c .before .before .before .before .before .before .before .before .before .before .pre .1 (c .before .before .before .before .before .before .before .before .loop .r) (c .before .before .before .before .before .before .before .loop-test .taken) .0 .second-in
 
 element-copy-out-t33-2 : tie.Need-element-copy-out-t33-2 Inv-loop μ-loop
 element-copy-out-t33-2 c =
-    c .before .before .before .before .before .before .before .before .before .pre .1 (c .before .before .before .before .before .before .before .loop .r) (c .before .before .before .before .before .before .loop-test .taken) .0 .second-in
+    c .before .before .before .before .before .before .before .before .before .before .before .pre .1 (c .before .before .before .before .before .before .before .before .before .loop .r) (c .before .before .before .before .before .before .before .before .loop-test .taken) .0 .second-in
 
 build-next-requires : tie.Need-build-next-requires Inv-loop μ-loop
 build-next-requires c κs =
-    let s = c .before .before .before .before .before .before .before .before .before .before .before in
-    let h = c .before .before .before .before .before .before .before .before .before .loop in
+    let s = c .before .before .before .before .before .before .before .before .before .before .before .before .before in
+    let h = c .before .before .before .before .before .before .before .before .before .before .before .loop in
     let a = s .args in
     let x = getD (a .t2) (h .r) noDecoded in
-    let e = s .pre .1 (h .r) (c .before .before .before .before .before .before .before .before .loop-test .taken) in (
+    let e = s .pre .1 (h .r) (c .before .before .before .before .before .before .before .before .before .before .loop-test .taken) in (
       subst (Fits x (h .r) (a .c) (a .labels)) (sym (h .inv .1)) (e .0),
       (
         e .1,
@@ -81,9 +87,9 @@ build-next-requires c κs =
 
 returns : tie.Need-returns Inv-loop μ-loop
 returns c =
-    let s = c .before .before .before .before .before .before .before .before .before .before .before .before .before .before .before .before in
-    let h = c .before .before .before .before .before .before .before .before .before .before .before .before .before .before .loop in
-    let t = c .before .before .before .before .before .before .before .before .before .before .before .before .before .loop-test .taken in
+    let s = c .before .before .before .before .before .before .before .before .before .before .before .before .before .before .before .before .before .before in
+    let h = c .before .before .before .before .before .before .before .before .before .before .before .before .before .before .before .before .loop in
+    let t = c .before .before .before .before .before .before .before .before .before .before .before .before .before .before .before .loop-test .taken in
     let a = s .args in
     let v = c .before .before .before .before .build-next in
     let share = a .labels * a .c * a .c in
@@ -95,9 +101,9 @@ returns c =
 
 loop-again : tie.Need-loop-again Inv-loop μ-loop
 loop-again c =
-    let s = c .before .before .before .before .before .before .before .before .before .before .before .before .before .before .before .before in
-    let h = c .before .before .before .before .before .before .before .before .before .before .before .before .before .before .loop in
-    let t = c .before .before .before .before .before .before .before .before .before .before .before .before .before .loop-test .taken in
+    let s = c .before .before .before .before .before .before .before .before .before .before .before .before .before .before .before .before .before .before in
+    let h = c .before .before .before .before .before .before .before .before .before .before .before .before .before .before .before .before .loop in
+    let t = c .before .before .before .before .before .before .before .before .before .before .before .before .before .before .before .loop-test .taken in
     let a = s .args in
     let v = c .before .before .before .before .build-next in
     let share = a .labels * a .c * a .c in
@@ -176,6 +182,8 @@ build-all-spec =
     loop-holds
     (λ c. search needs)
     (λ c. search needs)
+    cast-first
+    cast-second
     element-copy-out-t27
     mul-t21
     element-copy-out-t30

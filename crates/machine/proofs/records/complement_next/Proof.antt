@@ -11,32 +11,32 @@ use Rattle.machine.proofs.records.complement_next.Tie as tie
 
 mul-share : tie.Need-mul-share
 mul-share c =
-    let s = c .before .before .before in
+    let s = c .before .before .before .before in
     let a = s .args in
     omega (arith, share-small (a .c) (a .labels) (s .pre .0 .ceiling) (s .pre .0 .few))
 
 mul-copy-table : tie.Need-mul-copy-table
 mul-copy-table c =
-    let s = c .before .before .before .before in
+    let s = c .before .before .before .before .before in
     let a = s .args in
     omega (arith, times-small (a .x .first) (a .c) (a .labels) (s .pre .0 .first-in) (s .pre .0 .ceiling) (s .pre .0 .few))
 
 copy-table-requires : tie.Need-copy-table-requires
 copy-table-requires c κs =
-    let s = c .before .before .before .before in
+    let s = c .before .before .before .before .before in
     let a = s .args in
     let h = not-first (a .x) (a .r) (a .labels) (s .pre .1 .0) (s .pre .1 .1 .0) in
     omega (arith, s .pre .0 .ceiling, s .pre .0 .few, s .pre .0 .share, few-kept (a .x) (a .r) (a .c) (a .labels) (a .f) (a .ws .now) (s .pre .1 .0) (s .pre .1 .1 .0) (s .pre .1 .1 .1), next-share (a .x .first) (a .r) (a .labels * a .c * a .c) h)
 
 flipped-requires : tie.Need-flipped-requires
 flipped-requires c κs =
-    let s = c .before .before .before .before .before .before .before in
+    let s = c .before .before .before .before .before .before .before .before in
     let a = s .args in
     omega (arith, s .pre .0 .ceiling, few-kept (a .x) (a .r) (a .c) (a .labels) (a .f) (a .ws .now) (s .pre .1 .0) (s .pre .1 .1 .0) (s .pre .1 .1 .1))
 
 returns : tie.Need-returns
 returns c =
-    let s = c .before .before .before .before .before .before .before .before in
+    let s = c .before .before .before .before .before .before .before .before .before in
     let a = s .args in
     let v = c .before .before .before .copy-table in
     let w = c .flipped in (
@@ -48,6 +48,7 @@ pub complement-next-spec : {M : Type 1} → statement M
 complement-next-spec =
     tie.close
     (tie.spec
+    (λ c. search needs)
     (λ c. search needs)
     (λ c. search needs)
     mul-share

@@ -11,18 +11,30 @@ mul-share c = let a = c .args in omega (arith, share-small (a .c) (a .labels) (o
 mul-share-2 : tie.Need-mul-share-2
 mul-share-2 c = let a = c .args in omega (arith, share-small (a .c) (a .labels) (omega arith) (omega arith))
 
-mul-t10 : tie.Need-mul-t10
-mul-t10 c = let a = c .before .before .args in omega (arith, times-small (a .x .first) (a .c) (a .labels) (omega arith) (omega arith) (omega arith))
+mul-t13 : tie.Need-mul-t13
+mul-t13 c = let a = c .before .before .before .before .args in omega (arith, times-small (a .x .first) (a .c) (a .labels) (omega arith) (omega arith) (omega arith))
 
-mul-t11 : tie.Need-mul-t11
-mul-t11 c = let a = c .before .before .before .args in omega (arith, times-small (a .x .second) (a .c) (a .labels) (omega arith) (omega arith) (omega arith))
+mul-t15 : tie.Need-mul-t15
+mul-t15 c = let a = c .before .before .before .before .before .args in omega (arith, times-small (a .x .second) (a .c) (a .labels) (omega arith) (omega arith) (omega arith))
 
-mul-t12 : tie.Need-mul-t12
-mul-t12 c = let a = c .before .before .before .args in omega (arith, times-small (a .r) (a .c) (a .labels) (omega arith) (omega arith) (omega arith))
+mul-t16 : tie.Need-mul-t16
+mul-t16 c = let a = c .before .before .before .before .before .args in omega (arith, times-small (a .r) (a .c) (a .labels) (omega arith) (omega arith) (omega arith))
 
 returns : tie.Need-returns
 returns c = rw (c .before .before .looks-of .ensures)
 
 pub plan-of-spec : {M : Type 1} → statement M
 plan-of-spec =
-    tie.close (tie.spec mul-share mul-share-2 (λ c κs. search needs) mul-t10 mul-t11 mul-t12 returns)
+    tie.close
+    (tie.spec
+    mul-share
+    mul-share-2
+    (λ c. search needs)
+    (λ c. search needs)
+    (λ c κs. search needs)
+    (λ c. search needs)
+    mul-t13
+    (λ c. search needs)
+    mul-t15
+    mul-t16
+    returns)

@@ -3,7 +3,7 @@ use Prim.Native.Nat.{_-_}
 use mathlib.Core.Path.{refl}
 use native.Mathlib.Omega.{arith}
 use borrow.Author.Needs.{needs}
-use Rattle.ws2s.proofs.Decodes.{Decoding, decoding-first, decoding-never, decoding-next, decoding-last}
+use Rattle.ws2s.proofs.Decodes.{Decoding, decoding-first, decoding-never, decoding-small, decoding-next, decoding-last}
 use Rattle.ws2s.proofs.decode.decode.Statement.{statement}
 use Rattle.ws2s.proofs.decode.decode.Tie as tie
 use Rattle.ws2s.proofs.decode.decode.Reads as reads
@@ -39,7 +39,11 @@ returns c =
     absurd (decoding-never _ _ _ (a .pre .0) (a .pre .1) (a .pre .2) _ _ _ (b .loop .inv) (search needs) _ (c .before .before .read-record .ensures) _ (c .enum-told .given .1))
 
 decoded-requires-2 : tie.Need-decoded-requires-2 Inv-loop μ-loop
-decoded-requires-2 c κs = search needs
+decoded-requires-2 c κs =
+    let b = c .before .before .before .before .before in
+    let a = b .before .before .before in
+    let w = decoding-small _ _ _ (a .pre .0) (a .pre .1) (a .pre .2) _ _ _ (b .loop .inv) (search needs) _ (c .before .before .before .read-record .ensures) _ _ _ _ (c .before .r .given .1) in
+    (b .loop .inv .few-variables, w .0, w .1)
 
 mul-records : tie.Need-mul-records Inv-loop μ-loop
 mul-records c = search needs

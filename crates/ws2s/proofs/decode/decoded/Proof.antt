@@ -1,11 +1,13 @@
 -- `ws2s::decode::decoded` meets its contract. Assumes nothing.
 use mathlib.Core.Path.{_≡_}
 use Prim.Native.Nat.{ℕ}
+use native.Mathlib.Omega.{arith}
 use borrow.Author.Needs.{needs}
 use borrow.Author.Tests.{eq-eqb, ne-eqb}
 use Rattle.machine.specs.declared.explore.Kind.{Kind}
 use Rattle.machine.specs.declared.records.Decoded.{Decoded}
 use Rattle.refinement.specs.Decode.{weight, kindAt, decodedOf}
+use Rattle.ws2s.proofs.Decodes.{weight-byte}
 use Rattle.ws2s.proofs.decode.decoded.Statement.{statement}
 use Rattle.ws2s.proofs.decode.decoded.Tie as tie
 use Rattle.ws2s.proofs.decode.decoded.Reads as reads
@@ -21,6 +23,12 @@ weight-of-requires c κs = search needs
 
 weight-of-requires-2 : tie.Need-weight-of-requires-2
 weight-of-requires-2 c κs = search needs
+
+cast-wx : tie.Need-cast-wx
+cast-wx c = let a = c .before .before .args in rw (c .weight-of .ensures) (omega (arith, weight-byte (a .n) (a .first) (omega arith)))
+
+cast-wy : tie.Need-cast-wy
+cast-wy c = let a = c .before .before .before .args in rw (c .weight-of2 .ensures) (omega (arith, weight-byte (a .n) (a .second) (omega arith)))
 
 module _ (n op first second : ℕ) (k : Kind) (x y : ℕ) (ek : k ≡ kindAt op) (ex : x ≡ weight n first) (ey : y ≡ weight n second) where
   turned : op ≡ 8 → _≡_ {A = Decoded} (record { kind = k; first = second; second = second; wx = x; wy = y }) (decodedOf n (record { op = op; first = first; second = second }))
@@ -39,4 +47,4 @@ returns-2 c = straight _ _ _ _ _ _ _ (c .before .before .before .kind-of .ensure
 
 pub decoded-spec : {M : Type 1} → statement M
 decoded-spec =
-    tie.close (tie.spec kind-of-requires weight-of-requires weight-of-requires-2 returns returns-2)
+    tie.close (tie.spec kind-of-requires weight-of-requires cast-wx weight-of-requires-2 cast-wy (λ c. search needs) (λ c. search needs) returns returns-2)
