@@ -72,10 +72,10 @@ bound: $(HOST)/bound
 example: $(HOST)/example
 	$(HOST)/example -f $(RULE) $(NAMES)
 
-bench: $(HOST)/bench
+bench: $(HOST)/bench target/bin/verdict
 	$(HOST)/bench -v tests/vectors/base/decide.txt -l tests/vectors/heavy.txt -l bench/worst.txt $(wildcard samples/*.rul)
 	bench/instructions.sh $(HOST)/bench $(foreach l,1 2 3 4 5,tests/vectors/heavy.txt:$(l)) $(wildcard samples/*.rul)
-	if command -v mona > /dev/null; then bench/mona.py --compare tests/vectors/base/decide.txt; else echo 'MONA is not installed'; fi
+	if command -v mona > /dev/null; then bench/mona.py --time target/bin/verdict $(wildcard samples/*.rul) && bench/mona.py --compare tests/vectors/base/decide.txt; else echo 'MONA is not installed'; fi
 
 install: target/bin/verdict $(LIB)
 	@mkdir -p $(HOST)
