@@ -5,6 +5,9 @@ use Rattle.machine.proofs.Shares.{share-small, times-small}
 use Rattle.machine.proofs.records.plan_of.Statement.{statement}
 use Rattle.machine.proofs.records.plan_of.Tie as tie
 
+returns : tie.Need-returns
+returns c = rw (c .before .before .looks-of .ensures)
+
 mul-share : tie.Need-mul-share
 mul-share c = let a = c .args in omega (arith, share-small (a .c) (a .labels) (omega arith) (omega arith))
 
@@ -19,9 +22,6 @@ mul-t15 c = let a = c .before .before .before .before .before .args in omega (ar
 
 mul-t16 : tie.Need-mul-t16
 mul-t16 c = let a = c .before .before .before .before .before .args in omega (arith, times-small (a .r) (a .c) (a .labels) (omega arith) (omega arith) (omega arith))
-
-returns : tie.Need-returns
-returns c = rw (c .before .before .looks-of .ensures)
 
 pub plan-of-spec : {M : Type 1} → statement M
 plan-of-spec =
