@@ -9,13 +9,12 @@
                                their sets if the answer is shown or yes, and not
                                if it is no
     mona.py --time PROGRAM RULE...  the verdict program's time and MONA's on rule
-                               files, each as a process of its own, the median of
+                               files, each as a process of its own, the least of
                                nine runs. Rules that are not accepted are left out
 """
 
 import argparse
 import os
-import statistics
 import subprocess
 import sys
 import tempfile
@@ -134,32 +133,31 @@ def compare(files, limit):
     return agreed + gave_up == asked and agreed > 0
 
 
-def median_of(run):
-    """The median time of nine runs, in milliseconds, and what the last one gave."""
-    times = []
-    for _ in range(9):
-        begin = time.monotonic()
-        given = run()
-        times.append(1000 * (time.monotonic() - begin))
-    return statistics.median(times), given
-
-
 def run_program(program, rule):
-    return subprocess.run([program], input=rule, capture_output=True).stdout.decode().split()
+    """The program's line for a rule, as words, and its time."""
+    begin = time.monotonic()
+    done = subprocess.run([program], input=rule, capture_output=True)
+    return done.stdout.decode().split(), time.monotonic() - begin
+
+
+def least_time(run):
+    """What a run gave, and the least time of nine, in milliseconds."""
+    runs = [run() for _ in range(9)]
+    return runs[0][0], 1000 * min(taken for _, taken in runs)
 
 
 def time_rules(program, rules, limit):
     print(f"{'':28} {'verdict ms':>12} {'MONA ms':>12}   verdict")
-    idle = statistics.median(run_mona("ws2s;\ntrue;\n", limit)[1] for _ in range(9))
     for name in rules:
         rule = open(name, "rb").read()
-        ours, said = median_of(lambda: run_program(program, rule))
+        said, ours = least_time(lambda: run_program(program, rule))
         if said[0] == "refused" and int(said[1]) <= 10:
             continue
         text = to_mona(rule)
-        theirs = 1000 * statistics.median(run_mona(text, limit)[1] for _ in range(9))
+        theirs = least_time(lambda: run_mona(text, limit))[1]
         print(f"{os.path.basename(name):28} {ours:12.2f} {theirs:12.2f}   {' '.join(said)}")
-    print(f"{'(MONA on a formula that is true)':41} {1000 * idle:12.2f}")
+    idle = least_time(lambda: run_mona("ws2s;\ntrue;\n", limit))[1]
+    print(f"{'(MONA on a formula that is true)':41} {idle:12.2f}")
 
 
 def main():
