@@ -41,11 +41,11 @@ $(HOST)/vectors: tests/host/vectors.c tests/host/lent.h include/ws2s.h $(LIB)
 	@mkdir -p $(HOST)
 	$(CC) $(CFLAGS) $(INCLUDES) $< $(LIB) -o $@
 
-$(HOST)/attack: tests/host/attack.c tests/host/lent.h tests/oracle/oracle.c tests/oracle/oracle.h include/ws2s.h $(LIB)
+$(HOST)/attack: tests/host/attack.c tests/host/lent.h tests/oracle/oracle.c tests/oracle/oracle.h tests/oracle/atom.h include/ws2s.h $(LIB)
 	@mkdir -p $(HOST)
 	$(CC) $(CFLAGS) $(INCLUDES) $< tests/oracle/oracle.c $(LIB) -o $@
 
-$(HOST)/bench: bench/bench.c tests/oracle/oracle.c tests/oracle/oracle.h include/ws2s.h $(LIB)
+$(HOST)/bench: bench/bench.c tests/oracle/oracle.c tests/oracle/oracle.h tests/oracle/atom.h include/ws2s.h $(LIB)
 	@mkdir -p $(HOST)
 	$(CC) $(CFLAGS) $(INCLUDES) $< tests/oracle/oracle.c $(LIB) -o $@
 
@@ -62,9 +62,9 @@ CALLS ?= 5000000
 attack: $(HOST)/attack
 	$(HOST)/attack $(SEED) $(CALLS)
 
-$(HOST)/bound: tests/bound/bound.c
+$(HOST)/bound: tests/bound/bound.c tests/oracle/atom.h
 	@mkdir -p $(HOST)
-	$(CC) $(CFLAGS) $< -o $@
+	$(CC) $(CFLAGS) $(INCLUDES) $< -o $@
 
 bound: $(HOST)/bound
 	$(HOST)/bound

@@ -34,6 +34,8 @@
  * - States are numbered in the order in which they are found. The steps alone fix
  *   that order, so frames that differ only in the names of their states have the
  *   same bytes. */
+#include "atom.h"
+
 #include <errno.h>
 #include <limits.h>
 #include <stdbool.h>
@@ -42,7 +44,6 @@
 #include <stdlib.h>
 #include <string.h>
 
-enum { SUBSET, SING, FIRST, SECOND, ROOT, ATOMS };
 enum { MOST_STATES = 16, MOST_VARIABLES = 5, MOST_LABELS = 1 << MOST_VARIABLES,
        MOST_ORDERS = 120 /* of MOST_VARIABLES */, FIRST_ROOM = 1024 };
 enum { VERDICT_C = 16, VERDICT_P = 60 };
@@ -147,29 +148,6 @@ struct recipe {
     bool mirrored;                 /* of a form */
     unsigned bound;                /* of "exists": the label bit of the variable */
 };
-
-static unsigned atom_step(unsigned op, bool x, bool y, unsigned first, unsigned second)
-{
-    unsigned sum = first + second + x;
-    switch (op) {
-    case SUBSET:
-        return first == 1 || second == 1 || (x && !y);
-    case SING:
-        return sum < 2 ? sum : 2;
-    case ROOT:
-        return first == 0 && second == 0 ? x : 2;
-    }
-    unsigned branch = op == FIRST ? first : second, other = op == FIRST ? second : first;
-    if (!x && !y && first == 0 && second == 0)
-        return 0;
-    if (!x && !y && ((first == 2 && second == 0) || (first == 0 && second == 2)))
-        return 2;
-    if (x && !y && first == 0 && second == 0)
-        return 1;
-    if (!x && y && branch == 1 && other == 0)
-        return 2;
-    return 3;
-}
 
 /* All steps from members of the two sets, with the bound bit 0 or 1. */
 static unsigned set_step(const struct frame *part, unsigned bound, unsigned label,

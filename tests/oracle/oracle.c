@@ -1,9 +1,10 @@
 #include "oracle.h"
+#include "atom.h"
 
 #include <stdbool.h>
 #include <string.h>
 
-enum { SUBSET, SING, FIRST, SECOND, ROOT, NOT, OR, AND, EXISTS, OPS };
+enum { NOT = ATOMS, OR, AND, EXISTS, OPS };
 enum { MOST_STATES = 64, MOST_RECORDS = 128, MOST_POSITIONS = 255 };
 enum { SHOWN = 0, NONE = 1, LARGER = 2, REFUSED = 3 };
 
@@ -139,29 +140,6 @@ static int number(struct found *f, uint64_t value)
     f->value[f->count] = value;
     f->slot[at] = (uint8_t)++f->count;
     return (int)f->count - 1;
-}
-
-static unsigned atom_step(unsigned op, bool x, bool y, unsigned first, unsigned second)
-{
-    unsigned sum = first + second + x;
-    switch (op) {
-    case SUBSET:
-        return first == 1 || second == 1 || (x && !y);
-    case SING:
-        return sum < 2 ? sum : 2;
-    case ROOT:
-        return first == 0 && second == 0 ? x : 2;
-    }
-    unsigned branch = op == FIRST ? first : second, other = op == FIRST ? second : first;
-    if (!x && !y && first == 0 && second == 0)
-        return 0;
-    if (!x && !y && ((first == 2 && second == 0) || (first == 0 && second == 2)))
-        return 2;
-    if (x && !y && first == 0 && second == 0)
-        return 1;
-    if (!x && y && branch == 1 && other == 0)
-        return 2;
-    return 3;
 }
 
 static uint64_t atom_accepting(unsigned op)
