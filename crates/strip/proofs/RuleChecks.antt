@@ -15,7 +15,8 @@ use borrow.Author.Tests.{lt-leb, leb-true, eqb-true, ne-eqb, not-false}
 use Rattle.logic.specs.Rule.{Record as RuleRecord}
 use Rattle.strip.specs.Bits.{bits, field, anySet}
 use Rattle.strip.specs.RuleStrip.{orElse, between, versionOf, variablesOf, countOf, recordAt, recordsFrom, recordsOf, ruleBytes, Use, variable, earlier, unused, firstUse, secondUse, badVariable, badEarlier, badUnused, recordRefusal, recordsRefusal, ruleRefusal}
-use Rattle.strip.specs.RuleAnswers.{useNumber, fieldRefusal, recordOr, readRecord, readRecords, headRefusal, checkedRule}
+use Rattle.strip.specs.RuleAnswers.{useNumber, fieldRefusal, fieldsOf, recordOr, readRecord, readRecords, headRefusal, checkedRule}
+use Rattle.strip.specs.declared.rule.Fields.{Fields}
 use Rattle.strip.specs.declared.rule.Read.{Read}
 use Rattle.strip.specs.declared.rule.Read.the-variants.{Record, Refused}
 use Rattle.strip.specs.declared.rule.RuleCheck.the-variants.{Accepted as accepted, Refused as turnedDown}
@@ -135,13 +136,13 @@ module _ (k : ℕ) (r : RuleRecord) (next : ℕ) where
       (f, λ z. let g : Refused l ≡ Record (r .op) (r .first) (r .second) next = sym e ∙ or-zero (f ∙ z) in let y : _≡_ {A = ℕ} 0 1 = cc in omega arith)
 
 -- what was read is what the reader answers
-module _ (s : List ℕ) (n i at op a b k : ℕ) (p : op ≡ field s at 4) (q : a ≡ field s (at + 4) 7) (r : b ≡ field s (at + 11) 7)
-    (h : k ≡ recordRefusal n i (record { op = op; first = a; second = b })) where
-  here-is : readRecord s n i at ≡ recordOr k (record { op = op; first = a; second = b }) (at + 18)
-  unfolding readRecord recordAt
-  here-is = rw (h, p, q, r) refl
+module _ (s : List ℕ) (n i at k : ℕ) (f : Fields) (p : f ≡ fieldsOf (recordAt s at))
+    (h : k ≡ recordRefusal n i (record { op = f .op; first = f .first; second = f .second })) where
+  here-is : readRecord s n i at ≡ recordOr k (record { op = f .op; first = f .first; second = f .second }) (at + 18)
+  unfolding readRecord
+  here-is = rw (h, p) refl
 
-  pub read-is : k ≡ 0 → Record op a b (at + 18) ≡ readRecord s n i at
+  pub read-is : k ≡ 0 → Record (f .op) (f .first) (f .second) (at + 18) ≡ readRecord s n i at
   read-is z = sym (here-is ∙ or-zero k _ _ z)
 
   pub refused-is : (k ≡ 0 → ⊥) → Refused k ≡ readRecord s n i at

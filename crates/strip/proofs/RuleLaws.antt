@@ -1,11 +1,11 @@
--- What an accepted rule strip gives: its head, its records and what reading each of them answers. Assumes nothing.
+-- What an accepted rule strip gives: its head and its records. Assumes nothing.
 use mathlib.Core.Path.{_≡_, refl, sym, ap, _∙_}
 use mathlib.Core.Logic.{_↔_, _⊎_, ⊎-elim}
 use mathlib.Core.Bool.{Bool, true, false, _&&_}
 use mathlib.Core.List.{List, [], _∷_}
 use Prim.Native.Nat.{ℕ, zero, suc, _+_, _-_, _*_, _/_, _%_, _^_, _≤_, _<_}
 use native.Mathlib.Decide.{decLt}
-use native.Mathlib.Nat.{not-suc-le-zero, le-of-suc-le-suc, lt-of-lt-of-le, le-mul-of-pos-right, mul-le-mul-right, mul-comm, mul-assoc, one-mul, zero-add, pow-suc}
+use native.Mathlib.Nat.{not-suc-le-zero, le-of-suc-le-suc, lt-of-lt-of-le, le-mul-of-pos-right, mul-le-mul-right, mul-comm, mul-assoc, one-mul, pow-suc}
 use native.Mathlib.Omega.{arith}
 use lib.Dec.{T, ltb, leb, eqb, lt→ltb, ltb→lt, eqb→eq, eqb·suc-zero}
 use lib.ListN.{length, getD, take, drop, List·getD-eq-default}
@@ -15,13 +15,11 @@ use borrow.Author.Tests.{lt-leb, leb-false, le-ltb}
 use Rattle.logic.specs.Rule.{Record, noRecord, good, goodFrom, Accepted}
 use Rattle.strip.specs.Bits.{bits, number, field, anySet}
 use Rattle.strip.specs.RuleStrip.{orElse, variablesOf, countOf, recordAt, recordsFrom, recordsOf, ruleBytes, Use, variable, earlier, unused, firstUse, secondUse, recordRefusal, recordsRefusal, ruleRefusal}
-use Rattle.strip.specs.RuleAnswers.{useNumber, limitOf, readRecord, headRefusal, checkedRule}
-use Rattle.strip.specs.declared.rule.Read.{Read}
-use Rattle.strip.specs.declared.rule.Read.the-variants.{Record as recordRead, Refused as refused}
+use Rattle.strip.specs.RuleAnswers.{useNumber, limitOf, headRefusal, checkedRule}
 use Rattle.strip.specs.declared.rule.RuleCheck.the-variants.{Accepted as accepted, Refused as turnedDown}
 use Rattle.strip.proofs.Digits.{bit-lt}
 use Rattle.strip.proofs.Fields.{length-bits, bits-at}
-use Rattle.strip.proofs.RuleChecks.{firstOf, fault, record-split, zero-or, or-zero, head-facts, bodyRefusal, rule-split}
+use Rattle.strip.proofs.RuleChecks.{firstOf, fault, record-split, zero-or, head-facts, bodyRefusal, rule-split}
 
 -- ---- one record
 
@@ -142,19 +140,6 @@ records-good n i (r ∷ rs) e =
     let w = first-passed (recordRefusal n i r) (recordsRefusal n (suc i) rs) e in
     of-both (good 2 n i r) _ (good-iff n i r .0 (w .0)) (records-good n (suc i) rs (w .1))
 
-record-good : (n i : ℕ) (rs : List Record) → recordsRefusal n i rs ≡ 0 → (j : ℕ) → j < length rs
-    → recordRefusal n (i + j) (getD rs j noRecord) ≡ 0
-unfolding recordsRefusal
-record-good n i [] e j h = absurd (not-suc-le-zero h)
-record-good n i (r ∷ rs) e zero h =
-    let w = first-passed (recordRefusal n i r) (recordsRefusal n (suc i) rs) e in
-    let f : i + 0 ≡ i = omega arith in
-    rw f (w .0)
-record-good n i (r ∷ rs) e (suc j) h =
-    let w = first-passed (recordRefusal n i r) (recordsRefusal n (suc i) rs) e in
-    let f : i + suc j ≡ suc i + j = omega arith in
-    rw f (record-good n (suc i) rs (w .1) j (le-of-suc-le-suc h))
-
 records-length : (s : List ℕ) (at m : ℕ) → length (recordsFrom s at m) ≡ m
 unfolding recordsFrom
 records-length s at zero = refl
@@ -234,37 +219,6 @@ module _ (s : List ℕ) (e : ruleRefusal s ≡ 0) where
         records-accepted = (omega arith, records-good (variablesOf s) 0 (recordsOf s) unrefused);
         records-count = l;
       }
-
-  module _ (i : ℕ) (h : i < countOf s) where
-    unrefused-at : recordRefusal (variablesOf s) i (recordAt s (16 + 18 * i)) ≡ 0
-    unrefused-at =
-        let l = records-count in
-        rw (← records-at s i h) (rw zero-add at (record-good (variablesOf s) 0 (recordsOf s) unrefused i (omega arith)))
-
-    -- record i is read whole, and the next one after it
-    pub read-accepted : readRecord s (variablesOf s) i (16 + 18 * i)
-        ≡ recordRead (recordAt s (16 + 18 * i) .op) (recordAt s (16 + 18 * i) .first) (recordAt s (16 + 18 * i) .second) (16 + 18 * suc i)
-    unfolding readRecord
-    read-accepted =
-        let f : 16 + 18 * i + 18 ≡ 16 + 18 * suc i = omega arith in
-        or-zero _ (recordAt s (16 + 18 * i)) (16 + 18 * i + 18) unrefused-at ∙ rw f refl
-
-    module _ (r : Read) (q : r ≡ readRecord s (variablesOf s) i (16 + 18 * i)) where
-      pub read-fields : (op a b next : ℕ) → r ≡ recordRead op a b next
-          → (getD (recordsOf s) i noRecord ≡ record { op = op; first = a; second = b }) × (next ≡ 16 + 18 * suc i)
-      read-fields op a b next d =
-          let f = sym d ∙ q ∙ read-accepted in
-          let x : op ≡ recordAt s (16 + 18 * i) .op = cc in
-          let y : a ≡ recordAt s (16 + 18 * i) .first = cc in
-          let z : b ≡ recordAt s (16 + 18 * i) .second = cc in
-          (rw (records-at s i h, x, y, z) refl, cc)
-
-      pub never-refused : (k : ℕ) → r ≡ refused k → ⊥
-      never-refused k d = let f = sym d ∙ q ∙ read-accepted in let z : _≡_ {A = ℕ} 0 1 = cc in omega arith
-
-    -- its op and fields are within their limits
-    pub facts-at : RecordFacts (variablesOf s) i (recordAt s (16 + 18 * i))
-    facts-at = record-facts (variablesOf s) i (recordAt s (16 + 18 * i)) unrefused-at
 
 -- ---- what the check's answer says
 module _ (s : List ℕ) where

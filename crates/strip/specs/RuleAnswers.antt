@@ -6,6 +6,7 @@ use lib.Dec.{ltb, leb, eqb}
 use lib.ListN.{length}
 use Rattle.logic.specs.Rule.{Record as RuleRecord}
 use Rattle.strip.specs.RuleStrip.{orElse, between, versionOf, variablesOf, countOf, ruleBytes, recordAt, recordsFrom, Use, variable, earlier, unused, recordRefusal, recordsRefusal, ruleRefusal}
+use Rattle.strip.specs.declared.rule.Fields.{Fields}
 use Rattle.strip.specs.declared.rule.Read.{Read}
 use Rattle.strip.specs.declared.rule.Read.the-variants.{Record, Refused}
 use Rattle.strip.specs.declared.rule.RuleCheck.{RuleCheck}
@@ -25,6 +26,10 @@ limitOf n i kind = orElse (eqb kind 8) n (orElse (eqb kind 9) i 1)
 -- the refusal of a field v of that use, or 0
 abbrev pub fieldRefusal : ℕ → ℕ → ℕ → ℕ → ℕ
 fieldRefusal n i kind v = orElse (leb (limitOf n i kind) v) kind 0
+
+-- a record, as the code holds it
+abbrev pub fieldsOf : RuleRecord → Fields
+fieldsOf r = record { op = r .op; first = r .first; second = r .second }
 
 -- "the reader answers either a record with the next bit place or a refusal number": the refusal, where it is not 0
 abbrev pub recordOr : ℕ → RuleRecord → ℕ → Read

@@ -5,8 +5,15 @@ ghost use mathlib.Core.Bool.{not};
 ghost use Prim.Native.Nat.{_+_, _*_, _<_, _≤_};
 ghost use lib.ListN.{length, drop};
 ghost use Rattle.strip.specs.Bits.{bits, anySet};
-ghost use Rattle.strip.specs.RuleStrip.{between, firstUse, secondUse, recordRefusal};
-ghost use Rattle.strip.specs.RuleAnswers.{useNumber, limitOf, fieldRefusal, readRecord, readRecords, headRefusal, checkedRule};
+ghost use Rattle.strip.specs.RuleStrip.{between, firstUse, secondUse, recordAt, recordRefusal};
+ghost use Rattle.strip.specs.RuleAnswers.{useNumber, limitOf, fieldRefusal, fieldsOf, readRecord, readRecords, headRefusal, checkedRule};
+
+// A record's three fields, as they stand in the strip.
+pub struct Fields {
+    pub op: usize,
+    pub first: usize,
+    pub second: usize,
+}
 
 // What reading a record answers: the record with the next bit place, or a refusal number.
 pub enum Read {
@@ -80,21 +87,32 @@ fn record_refusal(n: usize, i: usize, op: usize, first: usize, second: usize) ->
     field_refusal(n, i, second_use(op), second)
 }
 
+// The fields of the record at a bit place.
+pub fn fields_at(s: &[u8], at: usize) -> Fields
+    requires { ⌜ length (now s) ≤ 4096 ⌝ }
+    requires { ⌜ at + 18 ≤ 8 * length (now s) ⌝ }
+    ensures { λ r. ⌜ r ≡ fieldsOf (recordAt (now (s .entry)) at) ⌝ }
+{
+    Fields {
+        op: bits::field_at(s, at, 4) as usize,
+        first: bits::field_at(s, at + 4, 7) as usize,
+        second: bits::field_at(s, at + 11, 7) as usize,
+    }
+}
+
 // Record number i, at a bit place.
 pub fn read_record(s: &[u8], n: usize, i: usize, at: usize) -> Read
     requires { ⌜ length (now s) ≤ 4096 ⌝ }
     requires { ⌜ at + 18 ≤ 8 * length (now s) ⌝ }
     ensures { λ r. ⌜ r ≡ readRecord (now (s .entry)) n i at ⌝ }
 {
-    let op = bits::field_at(s, at, 4) as usize;
-    let first = bits::field_at(s, at + 4, 7) as usize;
-    let second = bits::field_at(s, at + 11, 7) as usize;
-    let refused = record_refusal(n, i, op, first, second);
+    let f = fields_at(s, at);
+    let refused = record_refusal(n, i, f.op, f.first, f.second);
     if refused == 0 {
         return Read::Record {
-            op,
-            first,
-            second,
+            op: f.op,
+            first: f.first,
+            second: f.second,
             next: at + 18,
         };
     }
@@ -187,12 +205,16 @@ pub fn check_rule(s: &[u8]) -> RuleCheck
     if any_set(s, 16 + 18 * m) {
         return RuleCheck::Refused(6);
     }
-    let r = read_records(s, n, m);
-    let Read::Refused(number) = r else {
-        return RuleCheck::Accepted {
+    match read_records(s, n, m) {
+        Read::Refused(number) => RuleCheck::Refused(number),
+        Read::Record {
+            op: _,
+            first: _,
+            second: _,
+            next: _,
+        } => RuleCheck::Accepted {
             variables: n,
             records: m,
-        };
-    };
-    RuleCheck::Refused(number)
+        },
+    }
 }

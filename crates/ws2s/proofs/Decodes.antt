@@ -7,20 +7,22 @@ use native.Mathlib.Omega.{arith}
 use lib.ListN.{length, set, length-set}
 use lib.Pow.{pow-mono}
 use lib.Seq.{getD-set-same, getD-set-other}
-use Rattle.logic.specs.Rule.{Record}
 use Rattle.machine.specs.declared.records.Decoded.{Decoded}
 use Rattle.machine.specs.Rule.{noDecoded}
 use Rattle.refinement.specs.Decode.{weight, decodedOf}
 use Rattle.strip.specs.RuleStrip.{variablesOf, countOf, recordAt, ruleRefusal}
-use Rattle.strip.specs.RuleAnswers.{readRecord}
-use Rattle.strip.specs.declared.rule.Read.{Read}
-use Rattle.strip.specs.declared.rule.Read.the-variants.{Record as recordRead, Refused as refused}
-use Rattle.strip.proofs.RuleLaws.{read-fields, never-refused, rule-accepted, records-at, widths-at}
+use Rattle.strip.specs.RuleAnswers.{fieldsOf}
+use Rattle.strip.specs.declared.rule.Fields.{Fields}
+use Rattle.strip.proofs.RuleLaws.{rule-accepted, records-at, widths-at}
 use Rattle.ws2s.specs.Decoding.{DecodesTo}
 
 -- a weight fits in a byte
 pub weight-byte : (n x : ℕ) → n ≤ 8 → weight n x ≤ 255
 weight-byte n x few = let h : n - suc x ≤ 7 = omega arith in let e = pow-mono h in omega arith
+
+-- and so do a record's fields
+pub fields-byte : (s : List ℕ) (at : ℕ) (f : Fields) → f ≡ fieldsOf (recordAt s at) → (f .first < 128) × (f .second < 128)
+fields-byte s at f q = let w = widths-at s at in rw q (w .1, w .2)
 
 -- the loop's invariant
 pub record Decoding (s : List ℕ) (n m : ℕ) (records : List Decoded) (at i : ℕ) : Type 0 where
@@ -50,33 +52,16 @@ module _ (s : List ℕ) (n m : ℕ) (ok : ruleRefusal s ≡ 0) (en : n ≡ varia
         whole = omega arith;
       }
 
-  module _ (records : List Decoded) (at i : ℕ) (v : Decoding s n m records at i) (h : i < m) (r : Read) (q : r ≡ readRecord s n i at) where
-    answer : r ≡ readRecord s (variablesOf s) i (16 + 18 * i)
-    answer = q ∙ rw (en, v .place)
-
-    here : i < countOf s
-    here = omega arith
-
-    pub decoding-never : (k : ℕ) → r ≡ refused k → ⊥
-    decoding-never k d = never-refused s ok i here r answer k d
-
-    -- a record's numbers fit in a byte
-    pub decoding-small : (op a b next : ℕ) → r ≡ recordRead op a b next → (a < 128) × (b < 128)
-    decoding-small op a b next d =
-        let w = widths-at s (16 + 18 * i) in
-        let e : recordAt s (16 + 18 * i) ≡ record { op = op; first = a; second = b } = sym (records-at s i here) ∙ read-fields s ok i here r answer op a b next d .0 in
-        (subst (λ (x : Record). x .first < 128) e (w .1), subst (λ (x : Record). x .second < 128) e (w .2))
-
-    pub decoding-next : (op a b next : ℕ) → r ≡ recordRead op a b next → (x : Decoded) → x ≡ decodedOf n (record { op = op; first = a; second = b })
-        → Decoding s n m (set records i x) next (i + 1)
-    decoding-next op a b next d x ex =
-        let w = read-fields s ok i here r answer op a b next d in
+  module _ (records : List Decoded) (at i : ℕ) (v : Decoding s n m records at i) (h : i < m) (f : Fields) (q : f ≡ fieldsOf (recordAt s at)) where
+    pub decoding-next : (x : Decoded) → x ≡ decodedOf n (record { op = f .op; first = f .first; second = f .second })
+        → Decoding s n m (set records i x) (at + 18) (i + 1)
+    decoding-next x ex =
         record {
           low = omega arith;
-          place = w .1 ∙ omega arith;
+          place = omega (arith, v .place);
           long = length-set records i x ∙ v .long;
           done = λ j l. elim (ℕ-discrete j i) [
-            | yes p ↦ rw (p, getD-set-same records i x noDecoded (omega (arith, v .long, v .few))) (ex ∙ rw (en, w .0))
+            | yes p ↦ rw (p, getD-set-same records i x noDecoded (omega (arith, v .long, v .few))) (ex ∙ rw (en, q, v .place, records-at s i (omega arith)) refl)
             | no p ↦ rw (getD-set-other records i j x noDecoded p) (v .done j (omega arith))
           ];
           few = v .few;

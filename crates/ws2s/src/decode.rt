@@ -6,7 +6,6 @@ ghost use Rattle.strip.specs.RuleStrip.{variablesOf, countOf, ruleRefusal};
 ghost use Rattle.ws2s.specs.Decoding.{DecodesTo};
 use machine::explore::Kind;
 use machine::records::Decoded;
-use strip::rule::Read;
 
 fn kind_of(op: usize) -> Kind
     ensures { λ r. ⌜ r ≡ kindAt op ⌝ }
@@ -63,7 +62,7 @@ fn decoded(n: usize, op: usize, first: usize, second: usize) -> Decoded
     }
 }
 
-// All records of the strip; entries past them are of no account.
+// All records of the strip; entries past them are of no account. The strip is accepted, so no record is refused here.
 pub fn decode(s: &[u8], n: usize, m: usize) -> [Decoded; 128]
     requires { ⌜ (ruleRefusal (now s) ≡ 0) × (n ≡ variablesOf (now s)) × (m ≡ countOf (now s)) ⌝ }
     ensures { λ r. ⌜ DecodesTo (now (s .entry)) m r ⌝ }
@@ -72,18 +71,9 @@ pub fn decode(s: &[u8], n: usize, m: usize) -> [Decoded; 128]
     let mut at: usize = 16;
     let mut i: usize = 0;
     while i < m {
-        let r = strip::rule::read_record(s, n, i, at);
-        let Read::Record {
-            op,
-            first,
-            second,
-            next,
-        } = r
-        else {
-            return records;
-        };
-        records[i] = decoded(n, op, first, second);
-        at = next;
+        let f = strip::rule::fields_at(s, at);
+        records[i] = decoded(n, f.op, f.first, f.second);
+        at += 18;
         i += 1;
     }
     records

@@ -43,19 +43,19 @@ read-records-requires c κs = let h = head (c .before .before .before .before) i
 
 returns-3 : tie.Need-returns-3
 returns-3 c =
+    let d = c .before .before .before .before in
+    let b = d .before .before in
+    let a = b .before .before in
+    check-records _ (unrefused a) _ _ (b .before .field-at .ensures) (b .field-at2 .ensures)
+    _ (d .before .any-set .ensures) (d .if2 .left) _ (c .before .before .before .read-records .ensures) _ (c .before .number .given .1)
+
+returns-4 : tie.Need-returns-4
+returns-4 c =
     let d = c .before .before .before in
     let b = d .before .before in
     let a = b .before .before in
     check-accepted _ (unrefused a) _ _ (b .before .field-at .ensures) (b .field-at2 .ensures)
     _ (d .before .any-set .ensures) (d .if2 .left) _ (c .before .before .read-records .ensures) _ _ _ _ (c .enum-told .given .1)
-
-returns-4 : tie.Need-returns-4
-returns-4 c =
-    let d = c .before .before .before .before in
-    let b = d .before .before in
-    let a = b .before .before in
-    check-records _ (unrefused a) _ _ (b .before .field-at .ensures) (b .field-at2 .ensures)
-    _ (d .before .any-set .ensures) (d .if2 .left) _ (c .before .before .before .read-records .ensures) _ (c .before .r .given .1)
 
 pub check-rule-spec : {M : Type 1} → statement M
 check-rule-spec =
