@@ -9,4 +9,3 @@ pub mod RuleLaws
 pub mod TreePack
 pub mod TreeLaws
 pub mod TreeWalk
-pub mod Examples

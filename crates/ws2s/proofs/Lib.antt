@@ -3,3 +3,4 @@ pub mod Rooms
 pub mod Deciding
 pub mod Verdicts
 pub mod Judging
+pub mod Examples
