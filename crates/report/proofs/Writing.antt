@@ -8,7 +8,7 @@ use native.Mathlib.Numerals.{add-one}
 use native.Mathlib.Omega.{arith}
 use borrow.Author.Tests.{lt-ltb, le-ltb}
 use lib.ListN.{length, set, take, drop, getD, length-append, length-set}
-use lib.Seq.{sets, drop-cons, drop-length, length-take-le}
+use lib.Seq.{sets, length-sets, sets-eq, take-at, drop-cons, drop-length, length-take-le}
 use Rattle.report.specs.Text.{glyph, decimal, hex, Put}
 
 -- a text after another
@@ -31,6 +31,17 @@ then {a} {b} {c} {xs} {ys} {i} {j} {k} p q = record {
 -- what was written, up to the place after it, as a part of the line
 pub front : {a b xs : List ℕ} {i j : ℕ} → Put a i xs j b → j ≡ length (take j b)
 front {a} {b} {xs} {i} {j} p = sym (length-take-le j b (p .fits))
+
+-- a line keeps its length
+pub size : {a b xs : List ℕ} {i j : ℕ} → Put a i xs j b → length b ≡ length a
+size {a} {b} {xs} {i} p = ap length (p .line) ∙ length-sets a i xs
+
+-- a text written at the front of a line is what stands there
+pub whole : {a b xs : List ℕ} {j : ℕ} → Put a 0 xs j b → take j b ≡ xs
+whole {a} {b} {xs} {j} p =
+    let n : j ≡ length xs = omega (arith, p .place) in
+    let f : 0 + length xs ≤ length a = omega (arith, p .fits, p .place, size p) in
+    rw (p .line, n, sets-eq xs a 0 f, take-at xs (drop (0 + length xs) a) (length xs) refl) refl
 
 -- one byte
 byte : (l : List ℕ) (at x : ℕ) → at < length l → Put l at (x ∷ []) (at + 1) (set l at x)

@@ -249,16 +249,15 @@ fn judge(line: &[u8], at: usize, ws: &mut [u8], answer: &mut [u8]) -> usize
     tell_judged(&rule[..count], c, room, &tree[..size], ws, answer)
 }
 
-// The verdict program's line for an input, of which the first 300 bytes count.
+// The verdict program's line for an input.
 fn tell_verdict(input: &[u8], answer: &mut [u8]) -> usize
     requires { ⌜ 1024 ≤ length (now answer) ⌝ }
     ensures { λ r. ⌜ Counts r (now (answer .exit)) ⌝ }
 {
-    let mut ws = [0u8; 32768];
-    let mut out = [0u8; 77];
-    let n = least(300, input.len());
-    let v = ws2s::decide::decide(&input[..n], 16, 60, &mut ws, &mut out);
-    write_line(v, &out, answer)
+    let line = report::program::verdict_line(input);
+    let bytes = line.bytes;
+    let count = line.count;
+    put_bytes(answer, 0, &bytes[..count])
 }
 
 // `verdict STDIN`

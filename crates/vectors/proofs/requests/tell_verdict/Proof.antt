@@ -1,46 +1,30 @@
 -- `vectors::requests::tell_verdict` meets its contract. Assumes nothing.
+use native.Mathlib.Omega.{arith}
 use Rattle.vectors.proofs.Reading.{part, written}
 use borrow.Author.Needs.{needs}
 use Rattle.vectors.proofs.requests.tell_verdict.Statement.{statement}
 use Rattle.vectors.proofs.requests.tell_verdict.Tie as tie
 
-least-requires : tie.Need-least-requires
-least-requires c κs = search needs
+slice-aggregate-put-bytes : tie.Need-slice-aggregate-put-bytes
+slice-aggregate-put-bytes c =
+    let v = c .before .before .before .verdict-line in
+    part (v .result .count) (v .result .bytes) (v .ensures .fits)
 
-slice-aggregate-decide : tie.Need-slice-aggregate-decide
-slice-aggregate-decide c = part (c .before .least .result) (c .before .before .before .before .args .input .now) (search needs)
-
-slice-aggregate-decide-2 : tie.Need-slice-aggregate-decide-2
-slice-aggregate-decide-2 c = search needs
-
-slice-aggregate-decide-3 : tie.Need-slice-aggregate-decide-3
-slice-aggregate-decide-3 c = search needs
-
-decide-requires : tie.Need-decide-requires
-decide-requires c κs = search needs
-
-slice-aggregate-write-line : tie.Need-slice-aggregate-write-line
-slice-aggregate-write-line c = search needs
-
-write-line-requires : tie.Need-write-line-requires
-write-line-requires c κs = search needs
-
-same-length : tie.Need-same-length
-same-length c = search needs
+put-bytes-requires : tie.Need-put-bytes-requires
+put-bytes-requires c κs =
+    let v = c .before .before .before .verdict-line in
+    omega (arith, part (v .result .count) (v .result .bytes) (v .ensures .fits), v .ensures .fits, v .ensures .size)
 
 returns : tie.Need-returns
-returns c = written (c .before .before .write-line .ensures)
+returns c = written (c .before .before .put-bytes .ensures)
 
 pub tell-verdict-spec : {M : Type 1} → statement M
 tell-verdict-spec =
     tie.close
     (tie.spec
-    least-requires
-    slice-aggregate-decide
-    slice-aggregate-decide-2
-    slice-aggregate-decide-3
-    decide-requires
-    slice-aggregate-write-line
-    write-line-requires
-    same-length
+    (λ c κs. search needs)
+    (λ c. search needs)
+    slice-aggregate-put-bytes
+    put-bytes-requires
+    (λ c. search needs)
     returns)

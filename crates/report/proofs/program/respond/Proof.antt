@@ -1,7 +1,7 @@
--- `verdict::respond` meets its contract. Assumes nothing.
+-- `report::program::respond` meets its contract. Assumes nothing.
 use borrow.Author.Needs.{needs}
-use Rattle.verdict.proofs.respond.Statement.{statement}
-use Rattle.verdict.proofs.respond.Tie as tie
+use Rattle.report.proofs.program.respond.Statement.{statement}
+use Rattle.report.proofs.program.respond.Tie as tie
 
 decide-requires : tie.Need-decide-requires
 decide-requires c κs = search needs

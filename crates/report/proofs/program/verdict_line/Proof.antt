@@ -1,0 +1,24 @@
+-- `report::program::verdict_line` meets its contract, from those of `rule_in` and `respond`. Assumes nothing.
+use borrow.Author.Needs.{needs}
+use Rattle.report.specs.Program.{verdictLine}
+use Rattle.report.proofs.Writing.{size, whole}
+use Rattle.report.proofs.program.verdict_line.Statement.{statement}
+use Rattle.report.proofs.program.verdict_line.Tie as tie
+
+returns : tie.Need-returns
+unfolding verdictLine
+returns c =
+    let p = c .before .before .before .respond .ensures in
+    let r = c .before .before .before .before .before .before .before .rule-in .ensures in
+    record { size = size p; fits = p .fits; line = rw (← r) (whole p) }
+
+pub verdict-line-spec : {M : Type 1} → statement M
+verdict-line-spec =
+    tie.close
+    (tie.spec
+    (λ c κs. search needs)
+    (λ c. search needs)
+    (λ c. search needs)
+    (λ c. search needs)
+    (λ c κs. search needs)
+    returns)
