@@ -55,6 +55,9 @@
  * neither each other nor anything else that is lent. Strips handed in are only
  * read. Nothing is kept between calls.
  *
+ * Stack. 64 KiB are enough for any call, the deepest trees included; a thread
+ * needs what its own frames take beside that. Nothing is put on the heap.
+ *
  * In every result the fields that do not apply are 0.
  */
 #ifndef WS2S_H
