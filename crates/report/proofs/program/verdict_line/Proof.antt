@@ -10,7 +10,7 @@ unfolding verdictLine
 returns c =
     let p = c .before .before .before .respond .ensures in
     let r = c .before .before .before .before .before .before .before .rule-in .ensures in
-    record { size = size p; fits = p .fits; line = rw (← r) (whole p) }
+    record { line = rw (← r) (whole p); size = size p; fits = p .fits }
 
 pub verdict-line-spec : {M : Type 1} → statement M
 verdict-line-spec =
