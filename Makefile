@@ -7,12 +7,13 @@ VERSION := 1.0.0
 
 LIB := target/staticlib/libws2s.a
 HOST := target/host
-SOURCES := $(wildcard crates/*/src/*.rt crates/*/specs/*.antt crates/*/proofs/*.antt) crates.txt
 INCLUDES := -Iinclude -Itests/oracle
 VECTORS := $(wildcard tests/vectors/base/*.txt)
 
-.PHONY: help run test host-test attack bound example bench install clean
+.PHONY: help run test host-test attack bound example bench install clean FORCE
 .DELETE_ON_ERROR:
+# Two runs of rt on one target/ would disturb each other.
+.NOTPARALLEL:
 
 help:
 	@echo 'make run [RULE=file]   prove and build the verdict program, and decide a rule strip'
@@ -27,12 +28,23 @@ help:
 run: target/bin/verdict
 	@target/bin/verdict < $(RULE)
 
-target/bin/verdict: $(SOURCES) crates/verdict/src/main.rt
-	@mkdir -p target
-	rt check verdict > target/verdict.log 2>&1 || { cat target/verdict.log; exit 1; }
+# rt knows by content whether anything that a crate is made of has changed, so it is always asked: a list of sources here could miss one.
+prove = rt check $(1) > target/$(1).log 2>&1 || { cat target/$(1).log; exit 1; }
 
-$(LIB): $(SOURCES)
+target/bin/verdict: FORCE
+	@mkdir -p target
+	@[ -f $@ ] || rm -f target/stamp/verdict
+	$(call prove,verdict)
+
+# rt writes the stamp only when it proves the crate anew, and the archive is then made again.
+target/stamp/ws2s: FORCE
+	@mkdir -p target
+	$(call prove,ws2s)
+
+$(LIB): target/stamp/ws2s
 	rt staticlib ws2s
+
+FORCE:
 
 test:
 	.ci/run
