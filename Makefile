@@ -18,7 +18,7 @@ VECTORS := $(wildcard tests/vectors/base/*.txt)
 help:
 	@echo 'make run [RULE=file]   prove and build the verdict program, and decide a rule strip'
 	@echo 'make test              the gate: prove everything from nothing and run every test'
-	@echo 'make host-test         build the C library and run the vectors and a short attack through it'
+	@echo 'make host-test         build the C library and run every test of tests/host: vectors, a short attack, broken sources'
 	@echo 'make attack            a longer attack [SEED=n CALLS=n]'
 	@echo 'make bound             how many places a rule of at most 16 states can need'
 	@echo 'make example           the example host program on a rule strip [RULE=file NAMES="belt seat"]'
@@ -65,9 +65,10 @@ $(HOST)/example: examples/host.c include/ws2s.h $(LIB)
 	@mkdir -p $(HOST)
 	$(CC) $(CFLAGS) $(INCLUDES) $< $(LIB) -o $@
 
-host-test: $(HOST)/vectors $(HOST)/attack
+host-test: $(HOST)/vectors $(HOST)/attack target/bin/verdict
 	$(HOST)/vectors $(VECTORS) tests/vectors/heavy.txt
 	$(HOST)/attack 1 200000
+	tests/host/make_notices.sh
 
 SEED ?= 2
 CALLS ?= 5000000
