@@ -49,7 +49,7 @@ FORCE:
 test:
 	.ci/run
 
-$(HOST)/vectors: tests/host/vectors.c tests/host/lent.h include/ws2s.h $(LIB)
+$(HOST)/vectors: tests/host/vectors.c tests/host/lent.h tests/host/request.h include/ws2s.h $(LIB)
 	@mkdir -p $(HOST)
 	$(CC) $(CFLAGS) $(INCLUDES) $< $(LIB) -o $@
 
