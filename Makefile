@@ -18,7 +18,7 @@ VECTORS := $(wildcard tests/vectors/base/*.txt)
 help:
 	@echo 'make run [RULE=file]   prove and build the verdict program, and decide a rule strip'
 	@echo 'make test              the gate: prove everything from nothing and run every test'
-	@echo 'make host-test         build the C library and run every test of tests/host: vectors, a short attack, the verdict program, broken sources'
+	@echo 'make host-test         build the C library and run every test of tests/host: vectors, a short attack, a small stack, the verdict program, broken sources'
 	@echo 'make attack            a longer attack [SEED=n CALLS=n]'
 	@echo 'make bound             how many places a rule of at most 16 states can need'
 	@echo 'make example           the example host program on a rule strip [RULE=file NAMES="belt seat"]'
@@ -61,6 +61,10 @@ $(HOST)/verdict: tests/host/verdict.c tests/host/request.h tests/oracle/oracle.c
 	@mkdir -p $(HOST)
 	$(CC) $(CFLAGS) $(INCLUDES) $< tests/oracle/oracle.c $(LIB) -o $@
 
+$(HOST)/stack: tests/host/stack.c tests/host/lent.h tests/host/request.h tests/oracle/oracle.c tests/oracle/oracle.h tests/oracle/atom.h include/ws2s.h $(LIB)
+	@mkdir -p $(HOST)
+	$(CC) $(CFLAGS) $(INCLUDES) -pthread $< tests/oracle/oracle.c $(LIB) -o $@
+
 $(HOST)/bench: bench/bench.c tests/oracle/oracle.c tests/oracle/oracle.h tests/oracle/atom.h include/ws2s.h $(LIB)
 	@mkdir -p $(HOST)
 	$(CC) $(CFLAGS) $(INCLUDES) $< tests/oracle/oracle.c $(LIB) -o $@
@@ -69,9 +73,10 @@ $(HOST)/example: examples/host.c include/ws2s.h $(LIB)
 	@mkdir -p $(HOST)
 	$(CC) $(CFLAGS) $(INCLUDES) $< $(LIB) -o $@
 
-host-test: $(HOST)/vectors $(HOST)/attack $(HOST)/verdict target/bin/verdict
+host-test: $(HOST)/vectors $(HOST)/attack $(HOST)/stack $(HOST)/verdict target/bin/verdict
 	$(HOST)/vectors $(VECTORS) tests/vectors/heavy.txt
 	$(HOST)/attack 1 200000
+	$(HOST)/stack $(VECTORS) tests/vectors/heavy.txt
 	$(HOST)/verdict target/bin/verdict tests/vectors/base/verdict.txt
 	tests/host/make_notices.sh
 

@@ -118,14 +118,20 @@ static inline void lent_broken(int sign)
     _exit(3);
 }
 
+/* Has signals of this thread handled on another stack than its own. */
+static inline void lent_watch_thread(void)
+{
+    static uint8_t other[1 << 16];
+    stack_t stack = { .ss_sp = other, .ss_size = sizeof other };
+    sigaltstack(&stack, NULL);
+}
+
 /* Watches for calls that end the program, a stack run over included. */
 static inline void lent_watch(void)
 {
     static const int signs[] = { SIGSEGV, SIGBUS, SIGILL, SIGFPE, SIGABRT, SIGALRM };
-    static uint8_t other[1 << 16];
-    stack_t stack = { .ss_sp = other, .ss_size = sizeof other };
     struct sigaction action = { .sa_handler = lent_broken, .sa_flags = SA_ONSTACK };
-    sigaltstack(&stack, NULL);
+    lent_watch_thread();
     for (size_t i = 0; i < sizeof signs / sizeof signs[0]; i++)
         sigaction(signs[i], &action, NULL);
 }

@@ -1,0 +1,480 @@
+/* Runs the library on a stack of 64 KiB:
+ *
+ *     stack FILE...
+ *
+ * Every call is made in a thread of its own with just that much stack, below
+ * which nothing may be touched. The calls are the lines of the vector files,
+ * those of the verdict program aside, and what goes deepest: the longest rule
+ * strips, trees of 255 nodes in several shapes, whole and refused late, and
+ * these trees judged by the files' rules. For calls that are no vectors the
+ * oracle must give the same answer, which is mostly stated here too. It prints
+ * what fails, the most bytes of stack that each function used, counted from the
+ * frame of its caller, and a count, and ends with status 1 if anything failed. */
+#define _DEFAULT_SOURCE
+#include "lent.h"
+#include "oracle.h"
+#include "request.h"
+
+#include <pthread.h>
+
+enum { STACK = 1 << 16, GUARD = 1 << 16, MOST_SECONDS = 600, KINDS = JUDGE + 1 };
+static const char *const names[KINDS] = {
+    [CHECK_RULE] = "ws2s_check_rule", [CHECK_TREE] = "ws2s_check_tree",
+    [DECIDE] = "ws2s_decide", [JUDGE] = "ws2s_judge" };
+
+static uint8_t *stack, *workspace;
+static struct lent lent_rule, lent_tree, lent_out;
+
+/* The most that each function used, and where; how often it was called. */
+static struct {
+    size_t used;
+    char what[200];
+    unsigned long calls;
+} most[KINDS];
+static unsigned long passed, failed;
+
+/* ---- Calls ---- */
+
+union result {
+    ws2s_rule rule;
+    ws2s_tree tree;
+    ws2s_judgement judgement;
+    ws2s_verdict verdict;
+};
+
+static void ask(const struct request *r, bool library, union result *result)
+{
+    const uint8_t *rule = lent_rule.at, *tree = lent_tree.at;
+    switch (r->kind) {
+    case CHECK_RULE:
+        result->rule = (library ? ws2s_check_rule : oracle_check_rule)(rule, r->rule.length);
+        break;
+    case CHECK_TREE:
+        result->tree = (library ? ws2s_check_tree : oracle_check_tree)(tree, r->tree.length);
+        break;
+    case JUDGE:
+        result->judgement = (library ? ws2s_judge : oracle_judge)(
+            rule, r->rule.length, r->c, workspace, r->workspace, tree, r->tree.length);
+        break;
+    case DECIDE:
+        result->verdict = (library ? ws2s_decide : oracle_decide)(
+            rule, r->rule.length, r->c, r->p, workspace, r->workspace, lent_out.at, r->out);
+    }
+}
+
+static void lend_all(const struct request *r)
+{
+    lend_bytes(&lent_rule, r->rule.byte, r->rule.length, LENT_AT_END);
+    lend_bytes(&lent_tree, r->tree.byte, r->tree.length, LENT_AT_END);
+    lend(&lent_out, r->out, LENT_AT_END);
+}
+
+static bool tell(const struct request *r, const union result *result, char *text)
+{
+    switch (r->kind) {
+    case CHECK_RULE:
+        return tell_check(text, result->rule.refusal, result->rule.variables, result->rule.records);
+    case CHECK_TREE:
+        return tell_check(text, result->tree.refusal, result->tree.variables, result->tree.positions);
+    case JUDGE:
+        return tell_judgement(text, &result->judgement);
+    default:
+        return tell_verdict(text, &result->verdict, lent_out.at, r->out);
+    }
+}
+
+/* ---- The small stack ---- */
+
+struct call {
+    const struct request *request;
+    union result result;
+    size_t used;
+};
+
+static void open_all(void)
+{
+    uint8_t *all = mmap(NULL, GUARD + STACK, PROT_NONE, MAP_PRIVATE | MAP_ANONYMOUS, -1, 0);
+    workspace = malloc(MOST_WORKSPACE);
+    if (!workspace || all == MAP_FAILED || mprotect(all + GUARD, STACK, PROT_READ | PROT_WRITE) != 0) {
+        perror("stack");
+        exit(2);
+    }
+    stack = all + GUARD;
+    lent_open(&lent_rule, MOST_STRIP);
+    lent_open(&lent_tree, MOST_STRIP);
+    lent_open(&lent_out, MOST_OUT);
+}
+
+/* The use counts from the frame that calls the library down to the lowest byte
+ * that no longer has the pattern. */
+__attribute__((noinline)) static void call_library(struct call *c)
+{
+    const uint8_t *frame = __builtin_frame_address(0), *pattern = lent_pattern(0);
+    size_t untouched = 0;
+    ask(c->request, true, &c->result);
+    while (untouched < LENT_CHUNK && stack[untouched] == pattern[untouched])
+        untouched++;
+    c->used = (size_t)(frame - (stack + untouched));
+}
+
+static void *run_thread(void *call)
+{
+    lent_watch_thread();
+    call_library(call);
+    return NULL;
+}
+
+/* The bytes that the pattern leaves over are at the upper end, and the thread's
+ * own. */
+static void run_on_stack(struct call *c)
+{
+    pthread_attr_t attributes;
+    pthread_t thread;
+    memcpy(stack, lent_pattern(0), LENT_CHUNK);
+    if (pthread_attr_init(&attributes) != 0 || pthread_attr_setstack(&attributes, stack, STACK) != 0
+        || pthread_create(&thread, &attributes, run_thread, c) != 0
+        || pthread_join(thread, NULL) != 0) {
+        fprintf(stderr, "no thread with a stack of %d bytes\n", STACK);
+        exit(2);
+    }
+    pthread_attr_destroy(&attributes);
+}
+
+/* ---- Trying ---- */
+
+static void fails(const struct request *r, const char *what, const char *fault, const char *answer)
+{
+    failed++;
+    printf("%s, %s: %s\n  expected %s\n  answer   %s\n", names[r->kind], what, fault, r->expected, answer);
+}
+
+static void try_request(const struct request *r, const char *what)
+{
+    static char answer[MOST_LINE];
+    struct call c = { .request = r };
+    snprintf(lent_doing, sizeof lent_doing, "%s, %s, on a stack of %d bytes", names[r->kind], what, STACK);
+    alarm(MOST_SECONDS);
+    lend_all(r);
+    run_on_stack(&c);
+    bool idle = tell(r, &c.result, answer);
+    if (strcmp(answer, r->expected) != 0)
+        fails(r, what, "another answer", answer);
+    else if (!idle)
+        fails(r, what, "a field that does not apply is not 0", answer);
+    else
+        passed++;
+    most[r->kind].calls++;
+    if (c.used > most[r->kind].used) {
+        most[r->kind].used = c.used;
+        snprintf(most[r->kind].what, sizeof most[r->kind].what, "%s", what);
+    }
+}
+
+/* Asks the oracle too, on the stack that this program has. Its answer is the
+ * expected one if none is stated. */
+static void try_both(struct request *r, const char *what, const char *stated)
+{
+    static char answer[MOST_LINE];
+    union result result;
+    lend_all(r);
+    ask(r, false, &result);
+    tell(r, &result, answer);
+    r->expected = stated ? stated : answer;
+    if (strcmp(answer, r->expected) != 0)
+        fails(r, what, "another answer of the oracle", answer);
+    try_request(r, what);
+}
+
+/* ---- Strips ---- */
+
+static void put(struct bytes *b, size_t *at, unsigned bits, unsigned value)
+{
+    for (; bits; bits--, ++*at) {
+        if (*at % 8 == 0)
+            b->byte[b->length++] = 0;
+        b->byte[*at / 8] |= (uint8_t)((value >> (bits - 1) & 1) << (7 - *at % 8));
+    }
+}
+
+struct record {
+    unsigned op, first, second;
+};
+
+static void put_heading(struct bytes *b, size_t *at, unsigned n, unsigned records)
+{
+    *at = 0;
+    b->length = 0;
+    put(b, at, 4, 1);
+    put(b, at, 4, n);
+    put(b, at, 8, records);
+}
+
+static void put_record(struct bytes *b, size_t *at, unsigned op, unsigned first, unsigned second)
+{
+    put(b, at, 4, op);
+    put(b, at, 7, first);
+    put(b, at, 7, second);
+}
+
+/* Each record has the op if it can, and names variables in turn and the record
+ * before; the first is X0 subset X0. With a last record given it ends in that. */
+static size_t make_rule(struct bytes *b, unsigned n, unsigned records, unsigned op,
+                        const struct record *last)
+{
+    size_t at;
+    put_heading(b, &at, n, records);
+    for (unsigned i = 0; i < records; i++) {
+        struct record r = { i ? op : 0, i % n, i % n };
+        if (r.op >= 5 && r.op <= 7)
+            r.first = i - 1;
+        if (r.op >= 6)
+            r.second = i - 1;
+        if (r.op == 1 || r.op == 4 || r.op == 5)
+            r.second = 0;
+        if (last && i == records - 1)
+            r = *last;
+        put_record(b, &at, r.op, r.first, r.second);
+    }
+    return at;
+}
+
+enum { NODES = 255 };
+enum shape { BY_FIRST, BY_SECOND, BY_TURNS, BROAD, SHAPES };
+static const char *const shape_names[] = { "a chain by the first branch", "a chain by the second branch",
+                                           "a chain by turns", "a broad tree" };
+
+/* Labels have all their bits, but the last one has none if it is to be bare. */
+static void put_tree(struct bytes *b, size_t *at, unsigned n, unsigned nodes, enum shape shape, bool bare)
+{
+    if (nodes == 0) {
+        put(b, at, 1, 0);
+        return;
+    }
+    unsigned rest = nodes - 1, first = rest;
+    if (shape == BY_SECOND || (shape == BY_TURNS && nodes % 2))
+        first = 0;
+    else if (shape == BROAD)
+        first = rest / 2;
+    put(b, at, 1, 1);
+    put(b, at, n, bare && nodes == 1 ? 0 : (1u << n) - 1);
+    put_tree(b, at, n, first, shape, bare && first == rest);
+    put_tree(b, at, n, rest - first, shape, bare && first < rest);
+}
+
+static size_t make_tree(struct bytes *b, unsigned n, unsigned nodes, enum shape shape, bool bare)
+{
+    size_t at = 0;
+    b->length = 0;
+    put(b, &at, 4, 1);
+    put(b, &at, 4, n);
+    put_tree(b, &at, n, nodes, shape, bare);
+    return at;
+}
+
+/* ---- What goes deepest ---- */
+
+static struct request made;
+static char what[200];
+
+static void try_rules(void)
+{
+    static const struct {
+        struct record last;
+        const char *stated;
+    } bad[] = {
+        { { 9, 0, 0 }, "refused 7" }, { { 15, 127, 127 }, "refused 7" }, { { 0, 8, 0 }, "refused 8" },
+        { { 3, 0, 127 }, "refused 8" }, { { 8, 8, 0 }, "refused 8" }, { { 6, 127, 0 }, "refused 9" },
+        { { 7, 0, 127 }, "refused 9" }, { { 8, 0, 127 }, "refused 9" }, { { 1, 0, 1 }, "refused 10" },
+        { { 5, 0, 127 }, "refused 10" } };
+    static const struct {
+        uint8_t heading, records;
+        size_t length;
+        const char *stated;
+    } heads[] = {
+        { 0x18, 128, 0, "refused 1" }, { 0x18, 128, 1, "refused 1" }, { 0x28, 128, 290, "refused 2" },
+        { 0x10, 128, 290, "refused 3" }, { 0x19, 128, 290, "refused 3" }, { 0x18, 0, 290, "refused 4" },
+        { 0x18, 129, 290, "refused 4" }, { 0x18, 128, 289, "refused 5" }, { 0x18, 128, 291, "refused 5" } };
+    made.kind = CHECK_RULE;
+    for (unsigned op = 0; op <= 8; op++) {
+        make_rule(&made.rule, 8, 128, op, NULL);
+        snprintf(what, sizeof what, "128 records of op %u", op);
+        try_both(&made, what, "ok 8 128");
+    }
+    for (size_t i = 0; i < sizeof bad / sizeof bad[0]; i++) {
+        make_rule(&made.rule, 8, 128, 7, &bad[i].last);
+        snprintf(what, sizeof what, "a last record %u %u %u", bad[i].last.op, bad[i].last.first,
+                 bad[i].last.second);
+        try_both(&made, what, bad[i].stated);
+    }
+    for (size_t i = 0; i < sizeof heads / sizeof heads[0]; i++) {
+        make_rule(&made.rule, 8, 128, 7, NULL);
+        made.rule.byte[0] = heads[i].heading;
+        made.rule.byte[1] = heads[i].records;
+        made.rule.byte[290] = 0;
+        made.rule.length = heads[i].length;
+        snprintf(what, sizeof what, "a strip %02X%02X... of %zu bytes", heads[i].heading,
+                 heads[i].records, heads[i].length);
+        try_both(&made, what, heads[i].stated);
+    }
+    size_t end = make_rule(&made.rule, 8, 127, 7, NULL);
+    put(&made.rule, &end, 1, 1);
+    try_both(&made, "127 records and a padding bit", "refused 6");
+}
+
+/* Trees of as many nodes as there may be, and what is refused only after them. */
+enum { WHOLE, LEFT_OVER, PADDED, BARE, TOO_MANY, CUT, CUT_DEEP, TREES };
+static const struct {
+    const char *how, *refusal;
+} trees[TREES] = {
+    [WHOLE] = { "whole", NULL }, [LEFT_OVER] = { "and a byte left over", "refused 21" },
+    [PADDED] = { "and a padding bit", "refused 21" }, [BARE] = { "with a bare last node", "refused 19" },
+    [TOO_MANY] = { "of 256 nodes", "refused 20" }, [CUT] = { "without its last byte", "refused 18" },
+    [CUT_DEEP] = { "cut where a chain is deepest", "refused 18" } };
+
+static void make_deep(unsigned n, enum shape shape, int which)
+{
+    struct bytes *t = &made.tree;
+    size_t end = make_tree(t, n, which == TOO_MANY ? NODES + 1 : NODES, shape, which == BARE);
+    if (which == LEFT_OVER)
+        t->byte[t->length++] = 0;
+    else if (which == PADDED)
+        put(t, &end, 1, 1); /* neither with 1 nor with 8 variables does a tree fill its last byte */
+    else if (which == CUT)
+        t->length--;
+    else if (which == CUT_DEEP)
+        t->length = (8 + NODES * ((size_t)n + 1)) / 8;
+}
+
+/* Lends what a rule needs, if the state ceiling is within range. */
+static void set_ceilings(uint64_t c)
+{
+    made.c = c;
+    made.p = NODES;
+    made.workspace = ((size_t)made.rule.byte[1] << (made.rule.byte[0] & 15)) * c * c;
+    made.out = 320;
+}
+
+static const struct {
+    unsigned records, op;
+    uint64_t c;
+    const char *answer; /* for trees whose labels have all their bits */
+} rules[] = {
+    { 1, 0, 1, "yes" }, { 1, 0, 64, "yes" }, { 128, 0, 1, "yes" }, { 128, 0, 64, "yes" },
+    { 128, 8, 1, "yes" }, { 128, 8, 64, "yes" }, { 128, 1, 64, "no" }, { 128, 1, 1, "refused 14 1" } };
+enum { RULES = sizeof rules / sizeof rules[0] };
+
+static void try_trees(unsigned n)
+{
+    char ok[40];
+    snprintf(ok, sizeof ok, "ok %u %d", n, NODES);
+    for (enum shape shape = BY_FIRST; shape < SHAPES; shape++)
+        for (int which = WHOLE; which < TREES; which++) {
+            make_deep(n, shape, which);
+            int used = snprintf(what, sizeof what, "n = %u, %s %s", n, shape_names[shape], trees[which].how);
+            made.kind = CHECK_TREE;
+            try_both(&made, what, which == WHOLE ? ok : trees[which].refusal);
+            made.kind = JUDGE;
+            for (int i = 0; i < RULES; i++) {
+                make_rule(&made.rule, n, rules[i].records, rules[i].op, NULL);
+                set_ceilings(rules[i].c);
+                snprintf(what + used, sizeof what - (size_t)used, ", records %u, op %u, c = %d",
+                         rules[i].records, rules[i].op, (int)rules[i].c);
+                try_both(&made, what, which == WHOLE ? rules[i].answer : trees[which].refusal);
+            }
+            make_rule(&made.rule, 9 - n, 128, 0, NULL);
+            set_ceilings(1);
+            snprintf(what + used, sizeof what - (size_t)used, ", a rule of another n");
+            try_both(&made, what, which == WHOLE ? "refused 22" : trees[which].refusal);
+        }
+}
+
+static void try_decide(unsigned n)
+{
+    made.kind = DECIDE;
+    for (int i = 0; i < RULES; i++) {
+        make_rule(&made.rule, n, rules[i].records, rules[i].op, NULL);
+        set_ceilings(rules[i].c);
+        snprintf(what, sizeof what, "n = %u, records %u, op %u, c = %d", n, rules[i].records,
+                 rules[i].op, (int)rules[i].c);
+        try_both(&made, what, NULL);
+    }
+}
+
+/* The deepest tree to be shown: a chain of so many nodes, for a rule that says of
+ * the last, by "exists" of the one before and so on, how it is reached. With 17
+ * nodes a record has more than 64 states. */
+static void try_shown(unsigned nodes)
+{
+    size_t at;
+    unsigned last = 0;
+    put_heading(&made.rule, &at, 2, 3 * nodes - 2);
+    put_record(&made.rule, &at, 4, 0, 0);
+    for (unsigned i = 1; i < nodes; i++, last += 3) {
+        put_record(&made.rule, &at, 2, i % 2, (i - 1) % 2);
+        put_record(&made.rule, &at, 7, last, last + 1);
+        put_record(&made.rule, &at, 8, (i - 1) % 2, last + 2);
+    }
+    made.kind = DECIDE;
+    set_ceilings(64);
+    snprintf(what, sizeof what, "a chain of %u nodes to be shown", nodes);
+    try_both(&made, what, NULL);
+}
+
+/* Judges the deepest trees by a rule that has an answer. */
+static void judge_by(const struct request *decide, const char *name)
+{
+    unsigned n = decide->rule.byte[0] & 15;
+    made.kind = JUDGE;
+    made.rule = decide->rule;
+    set_ceilings(decide->c);
+    for (enum shape shape = BY_FIRST; shape < SHAPES; shape++) {
+        make_deep(n, shape, WHOLE);
+        snprintf(what, sizeof what, "%s, %s", name, shape_names[shape]);
+        try_both(&made, what, NULL);
+    }
+}
+
+static void run_file(const char *name)
+{
+    static char line[MOST_LINE];
+    static struct request r;
+    char place[100];
+    FILE *file = fopen(name, "r");
+    if (!file) {
+        perror(name);
+        exit(2);
+    }
+    for (unsigned long number = 1; fgets(line, sizeof line, file); number++) {
+        line[strcspn(line, "\r\n")] = 0;
+        snprintf(place, sizeof place, "%s:%lu", name, number);
+        r = (struct request){ .expected = "" };
+        if (!read_request(line, &r)) {
+            fails(&r, place, "not a line of this form", "");
+        } else if (!r.program) {
+            try_request(&r, place);
+            if (r.kind == DECIDE && strncmp(r.expected, "refused ", 8) != 0)
+                judge_by(&r, place);
+        }
+    }
+    fclose(file);
+}
+
+int main(int argc, char **argv)
+{
+    lent_watch();
+    open_all();
+    try_rules();
+    for (unsigned n = 1; n <= 8; n += 7) {
+        try_trees(n);
+        try_decide(n);
+    }
+    for (unsigned nodes = 1; nodes <= 17; nodes++)
+        try_shown(nodes);
+    for (int i = 1; i < argc; i++)
+        run_file(argv[i]);
+    for (int kind = 0; kind < KINDS; kind++)
+        printf("%s: at most %zu bytes of stack in %lu calls (%s)\n", names[kind], most[kind].used,
+               most[kind].calls, most[kind].what);
+    printf("stack of %d bytes: %lu passed, %lu failed\n", STACK, passed, failed);
+    return failed || !passed;
+}
