@@ -18,7 +18,7 @@ VECTORS := $(wildcard tests/vectors/base/*.txt)
 help:
 	@echo 'make run [RULE=file]   prove and build the verdict program, and decide a rule strip'
 	@echo 'make test              the gate: prove everything from nothing and run every test'
-	@echo 'make host-test         build the C library and run every test of tests/host: vectors, a short attack, a small stack, the verdict program, broken sources'
+	@echo 'make host-test         build the C library and run every test of tests/host: header, vectors, attack, stack, verdict program, make'
 	@echo 'make attack            a longer attack [SEED=n CALLS=n]'
 	@echo 'make bound             how many places a rule of at most 16 states can need'
 	@echo 'make example           the example host program on a rule strip [RULE=file NAMES="belt seat"]'
@@ -74,6 +74,7 @@ $(HOST)/example: examples/host.c include/ws2s.h $(LIB)
 	$(CC) $(CFLAGS) $(INCLUDES) $< $(LIB) -o $@
 
 host-test: $(HOST)/vectors $(HOST)/attack $(HOST)/stack $(HOST)/verdict target/bin/verdict
+	CC='$(CC)' tests/host/exports.sh crates/ws2s/src/exports.rt include/ws2s.h $(LIB)
 	$(HOST)/vectors $(VECTORS) tests/vectors/heavy.txt
 	$(HOST)/attack 1 200000
 	$(HOST)/stack $(VECTORS) tests/vectors/heavy.txt

@@ -1,0 +1,55 @@
+#!/bin/sh
+# Holds the C header to what the library exports, and both to the archive:
+#
+#     exports.sh EXPORTS HEADER ARCHIVE
+#
+# EXPORTS is the source of the exported structures and functions. The header's
+# structures must have the same fields in the same places, and its functions the
+# same results and the same parameters, by type, name and order. The archive must
+# define just these functions, and take nothing from outside but memcpy and
+# memset. It prints what differs, and ends with status 1 if anything does.
+set -u
+
+if [ $# -ne 3 ]; then
+    echo "usage: $0 EXPORTS HEADER ARCHIVE" >&2
+    exit 2
+fi
+exports=$1 header=$2 archive=$3
+room=$(mktemp -d) || exit 2
+trap 'rm -rf "$room"' EXIT
+trap 'exit 2' HUP INT TERM
+: >"$room/exported" && : >"$room/declared" && : >"$room/defined" || exit 2
+bad=0
+
+differ() {
+    echo "exports: $1:"
+    head -n 20 "$room/said"
+    bad=1
+}
+
+same() { # what two lists of names are, the lists
+    sort "$room/$2" >"$room/$2.sorted"
+    sort "$room/$3" | diff "$room/$2.sorted" - >"$room/said" || differ "$1 are not the same"
+}
+
+awk -v room="$room" -f "$(dirname "$0")/exports.awk" "$exports" "$header" || bad=1
+same 'the functions exported and those of the header' exported declared
+cp "$header" "$room/ws2s.h" || exit 2
+# shellcheck disable=SC2086 # CC may have words after the compiler's name
+${CC:-cc} -std=c11 -Wall -Wextra -Werror -fsyntax-only "$room/both.c" >"$room/said" 2>&1 ||
+    differ 'a C compiler says that the header is another'
+
+nm -P -g "$archive" >"$room/symbols" || exit 2
+awk -v room="$room" '
+    NF < 2 { next } # the name of a part of the archive
+    $2 ~ /^[Uvw]$/ { wanted[$1]; next }
+    { defined[$1]; print $1 >(room "/defined") }
+    END {
+        for (name in wanted)
+            if (!(name in defined) && name != "memcpy" && name != "memset") print name
+    }' "$room/symbols" >"$room/said"
+[ ! -s "$room/said" ] || differ 'the archive takes from outside'
+same 'the functions exported and those of the archive' exported defined
+
+[ "$bad" -ne 0 ] || echo "exports: $(cat "$room/count") agree with the header and the archive"
+exit "$bad"
