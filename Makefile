@@ -36,13 +36,14 @@ target/bin/verdict: FORCE
 	@[ -f $@ ] || rm -f target/stamp/verdict
 	$(call prove,verdict)
 
-# rt writes the stamp only when it proves the crate anew, and the archive is then made again.
 target/stamp/ws2s: FORCE
 	@mkdir -p target
 	$(call prove,ws2s)
 
-$(LIB): target/stamp/ws2s
-	rt staticlib ws2s
+# The archive stays only if it is, byte for byte, what was made here from the crate with this stamp: rt staticlib by hand may have
+# made it of other sources.
+$(LIB): target/stamp/ws2s FORCE
+	@cat $< $@ 2> /dev/null | cksum | cmp -s - $@.sum || { echo rt staticlib ws2s; rt staticlib ws2s && cat $< $@ | cksum > $@.sum; }
 
 FORCE:
 
