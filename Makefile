@@ -18,7 +18,7 @@ VECTORS := $(wildcard tests/vectors/base/*.txt)
 help:
 	@echo 'make run [RULE=file]   prove and build the verdict program, and decide a rule strip'
 	@echo 'make test              the gate: prove everything from nothing and run every test'
-	@echo 'make host-test         build the C library and run every test of tests/host: header, vectors, attack, stack, verdict program, make'
+	@echo 'make host-test         build the C library and run every test of tests/host: header, vectors, attack, stack, verdict program, documents, make'
 	@echo 'make attack            a longer attack [SEED=n CALLS=n]'
 	@echo 'make bound             how many places a rule of at most 16 states can need'
 	@echo 'make example           the example host program on a rule strip [RULE=file NAMES="belt seat"]'
@@ -79,7 +79,8 @@ host-test: $(HOST)/vectors $(HOST)/attack $(HOST)/stack $(HOST)/verdict target/b
 	$(HOST)/vectors $(VECTORS) tests/vectors/heavy.txt
 	$(HOST)/attack 1 200000
 	$(HOST)/stack $(VECTORS) tests/vectors/heavy.txt
-	$(HOST)/verdict target/bin/verdict tests/vectors/base/verdict.txt
+	$(HOST)/verdict target/bin/verdict $(VECTORS)
+	CC='$(CC)' tests/host/documents.sh target/bin/verdict $(LIB)
 	tests/host/make_notices.sh
 
 SEED ?= 2
