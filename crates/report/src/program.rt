@@ -1,7 +1,7 @@
 // The verdict program, but for reading and writing: document 01, "The verdict program".
 ghost use mathlib.Core.Path.{_≡_};
 ghost use Prim.Native.Nat.{_+_, _*_, _≤_};
-ghost use lib.ListN.{length, take};
+ghost use lib.ListN.{length};
 ghost use Rattle.report.specs.Text.{Put};
 ghost use Rattle.report.specs.Line.{lineOf};
 ghost use Rattle.report.specs.Program.{ruleIn, Printed};
