@@ -50,19 +50,19 @@ FORCE:
 test:
 	.ci/run
 
-$(HOST)/vectors: tests/host/vectors.c tests/host/lent.h tests/host/request.h include/ws2s.h $(LIB)
+$(HOST)/vectors: tests/host/vectors.c tests/host/lent.h tests/host/request.h tests/host/strip.h include/ws2s.h $(LIB)
 	@mkdir -p $(HOST)
 	$(CC) $(CFLAGS) $(INCLUDES) $< $(LIB) -o $@
 
-$(HOST)/attack: tests/host/attack.c tests/host/lent.h tests/oracle/oracle.c tests/oracle/oracle.h tests/oracle/atom.h include/ws2s.h $(LIB)
+$(HOST)/attack: tests/host/attack.c tests/host/lent.h tests/host/strip.h tests/oracle/oracle.c tests/oracle/oracle.h tests/oracle/atom.h include/ws2s.h $(LIB)
 	@mkdir -p $(HOST)
 	$(CC) $(CFLAGS) $(INCLUDES) $< tests/oracle/oracle.c $(LIB) -o $@
 
-$(HOST)/verdict: tests/host/verdict.c tests/host/request.h tests/oracle/oracle.c tests/oracle/oracle.h tests/oracle/atom.h include/ws2s.h $(LIB)
+$(HOST)/verdict: tests/host/verdict.c tests/host/request.h tests/host/strip.h tests/oracle/oracle.c tests/oracle/oracle.h tests/oracle/atom.h include/ws2s.h $(LIB)
 	@mkdir -p $(HOST)
 	$(CC) $(CFLAGS) $(INCLUDES) $< tests/oracle/oracle.c $(LIB) -o $@
 
-$(HOST)/stack: tests/host/stack.c tests/host/lent.h tests/host/request.h tests/oracle/oracle.c tests/oracle/oracle.h tests/oracle/atom.h include/ws2s.h $(LIB)
+$(HOST)/stack: tests/host/stack.c tests/host/lent.h tests/host/request.h tests/host/strip.h tests/oracle/oracle.c tests/oracle/oracle.h tests/oracle/atom.h include/ws2s.h $(LIB)
 	@mkdir -p $(HOST)
 	$(CC) $(CFLAGS) $(INCLUDES) -pthread $< tests/oracle/oracle.c $(LIB) -o $@
 

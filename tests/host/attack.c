@@ -12,11 +12,12 @@
 #define _DEFAULT_SOURCE
 #include "lent.h"
 #include "oracle.h"
+#include "strip.h"
 #include "ws2s.h"
 
 #include <inttypes.h>
 
-enum { MOST_STRIP = 512, MOST_OUT = 1024, MOST_SECONDS = 120, MOST_DIFFERENCES = 10 };
+enum { MOST_OUT = 1024, MOST_SECONDS = 120, MOST_DIFFERENCES = 10 };
 enum { SMALL_SPACE = 1 << 16, MIDDLE_SPACE = 1 << 21, LARGE_SPACE = 1 << 24 };
 
 /* ---- Chance ---- */
@@ -43,21 +44,6 @@ static bool once_in(unsigned times)
 
 /* ---- Strips ---- */
 
-struct strip {
-    uint8_t byte[MOST_STRIP];
-    size_t length;
-};
-
-static void put(struct strip *s, size_t *at, unsigned bits, unsigned value)
-{
-    for (; bits && *at < 8 * MOST_STRIP; bits--, ++*at) {
-        if (*at % 8 == 0)
-            s->byte[*at / 8] = 0;
-        s->byte[*at / 8] |= (uint8_t)((value >> (bits - 1) & 1) << (7 - *at % 8));
-    }
-    s->length = (*at + 7) / 8;
-}
-
 static unsigned some_variables(void)
 {
     return once_in(6) ? 1 + below(8) : 1 + below(3);
@@ -77,21 +63,6 @@ static unsigned some_record(unsigned below_this)
 static bool names_second_variable(unsigned op)
 {
     return op == 0 || op == 2 || op == 3;
-}
-
-static void put_heading(struct strip *s, size_t *at, unsigned n, unsigned m)
-{
-    *at = 0;
-    put(s, at, 4, 1);
-    put(s, at, 4, n);
-    put(s, at, 8, m);
-}
-
-static void put_record(struct strip *s, size_t *at, unsigned op, unsigned first, unsigned second)
-{
-    put(s, at, 4, op);
-    put(s, at, 7, first);
-    put(s, at, 7, second);
 }
 
 /* A rule strip of valid records; at times one record has fields of any kind. */

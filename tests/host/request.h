@@ -3,6 +3,7 @@
 #ifndef REQUEST_H
 #define REQUEST_H
 
+#include "strip.h"
 #include "ws2s.h"
 
 #include <inttypes.h>
@@ -11,27 +12,22 @@
 #include <stdlib.h>
 #include <string.h>
 
-enum { MOST_LINE = 4096, MOST_STRIP = MOST_LINE / 2, MOST_OUT = 1 << 16 };
+enum { MOST_LINE = 2 * MOST_STRIP, MOST_OUT = 1 << 16 };
 static const size_t MOST_WORKSPACE = (size_t)128 << 20;
 
 /* How the verdict program asks: it reads so many bytes, and lends so many. */
 enum { VERDICT_INPUT = 300, VERDICT_C = 16, VERDICT_P = 60, VERDICT_WORKSPACE = 32768,
        VERDICT_OUT = 77 };
 
-struct bytes {
-    uint8_t byte[MOST_STRIP];
-    size_t length;
-};
-
 struct request {
     enum { CHECK_RULE, CHECK_TREE, DECIDE, JUDGE } kind;
     bool program; /* a decide request of the verdict program, whose input is the rule */
-    struct bytes rule, tree, shown; /* shown: the strip expected in out */
+    struct strip rule, tree, shown; /* shown: the strip expected in out */
     uint64_t c, p, workspace, out;
     const char *expected;
 };
 
-static inline bool read_bytes(const char *word, struct bytes *b)
+static inline bool read_bytes(const char *word, struct strip *b)
 {
     b->length = 0;
     if (!word)

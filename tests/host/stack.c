@@ -187,42 +187,17 @@ static void try_both(struct request *r, const char *what, const char *stated)
 
 /* ---- Strips ---- */
 
-static void put(struct bytes *b, size_t *at, unsigned bits, unsigned value)
-{
-    for (; bits; bits--, ++*at) {
-        if (*at % 8 == 0)
-            b->byte[b->length++] = 0;
-        b->byte[*at / 8] |= (uint8_t)((value >> (bits - 1) & 1) << (7 - *at % 8));
-    }
-}
-
 struct record {
     unsigned op, first, second;
 };
 
-static void put_heading(struct bytes *b, size_t *at, unsigned n, unsigned records)
-{
-    *at = 0;
-    b->length = 0;
-    put(b, at, 4, 1);
-    put(b, at, 4, n);
-    put(b, at, 8, records);
-}
-
-static void put_record(struct bytes *b, size_t *at, unsigned op, unsigned first, unsigned second)
-{
-    put(b, at, 4, op);
-    put(b, at, 7, first);
-    put(b, at, 7, second);
-}
-
 /* Each record has the op if it can, and names variables in turn and the record
  * before; the first is X0 subset X0. With a last record given it ends in that. */
-static size_t make_rule(struct bytes *b, unsigned n, unsigned records, unsigned op,
+static size_t make_rule(struct strip *s, unsigned n, unsigned records, unsigned op,
                         const struct record *last)
 {
     size_t at;
-    put_heading(b, &at, n, records);
+    put_heading(s, &at, n, records);
     for (unsigned i = 0; i < records; i++) {
         struct record r = { i ? op : 0, i % n, i % n };
         if (r.op >= 5 && r.op <= 7)
@@ -233,7 +208,7 @@ static size_t make_rule(struct bytes *b, unsigned n, unsigned records, unsigned 
             r.second = 0;
         if (last && i == records - 1)
             r = *last;
-        put_record(b, &at, r.op, r.first, r.second);
+        put_record(s, &at, r.op, r.first, r.second);
     }
     return at;
 }
@@ -244,10 +219,10 @@ static const char *const shape_names[] = { "a chain by the first branch", "a cha
                                            "a chain by turns", "a broad tree" };
 
 /* Labels have all their bits, but the last one has none if it is to be bare. */
-static void put_tree(struct bytes *b, size_t *at, unsigned n, unsigned nodes, enum shape shape, bool bare)
+static void put_tree(struct strip *s, size_t *at, unsigned n, unsigned nodes, enum shape shape, bool bare)
 {
     if (nodes == 0) {
-        put(b, at, 1, 0);
+        put(s, at, 1, 0);
         return;
     }
     unsigned rest = nodes - 1, first = rest;
@@ -255,19 +230,18 @@ static void put_tree(struct bytes *b, size_t *at, unsigned n, unsigned nodes, en
         first = 0;
     else if (shape == BROAD)
         first = rest / 2;
-    put(b, at, 1, 1);
-    put(b, at, n, bare && nodes == 1 ? 0 : (1u << n) - 1);
-    put_tree(b, at, n, first, shape, bare && first == rest);
-    put_tree(b, at, n, rest - first, shape, bare && first < rest);
+    put(s, at, 1, 1);
+    put(s, at, n, bare && nodes == 1 ? 0 : (1u << n) - 1);
+    put_tree(s, at, n, first, shape, bare && first == rest);
+    put_tree(s, at, n, rest - first, shape, bare && first < rest);
 }
 
-static size_t make_tree(struct bytes *b, unsigned n, unsigned nodes, enum shape shape, bool bare)
+static size_t make_tree(struct strip *s, unsigned n, unsigned nodes, enum shape shape, bool bare)
 {
     size_t at = 0;
-    b->length = 0;
-    put(b, &at, 4, 1);
-    put(b, &at, 4, n);
-    put_tree(b, &at, n, nodes, shape, bare);
+    put(s, &at, 4, 1);
+    put(s, &at, 4, n);
+    put_tree(s, &at, n, nodes, shape, bare);
     return at;
 }
 
@@ -333,7 +307,7 @@ static const struct {
 
 static void make_deep(unsigned n, enum shape shape, int which)
 {
-    struct bytes *t = &made.tree;
+    struct strip *t = &made.tree;
     size_t end = make_tree(t, n, which == TOO_MANY ? NODES + 1 : NODES, shape, which == BARE);
     if (which == LEFT_OVER)
         t->byte[t->length++] = 0;
