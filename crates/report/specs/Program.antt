@@ -23,6 +23,6 @@ verdictLine input =
 
 -- what is handed back: the first `count` of 256 bytes are that line
 pub record Printed (input : List ℕ) (o : Output) : Type 0 where
+  pub line : take (o .count) (o .bytes) ≡ verdictLine input
   pub size : length (o .bytes) ≡ 256
   pub fits : o .count ≤ length (o .bytes)
-  pub line : take (o .count) (o .bytes) ≡ verdictLine input
