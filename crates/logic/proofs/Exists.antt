@@ -8,7 +8,7 @@ use mathlib.Core.Bool.{Bool, true, false, cond}
 use mathlib.Core.List.{List, [], _∷_}
 use native.Mathlib.Nat.{not-suc-le-zero}
 use lib.Pow.{pow-pos}
-use lib.Dec.{T, eqb, eqb→eq}
+use lib.Dec.{eqb, eqb→eq}
 use Rattle.logic.specs.Trim.{under, depth}
 use Rattle.logic.specs.Meaning.{Branch, Place, samePlace, has, Assignment, Formula, exists, Holds, assign}
 use Rattle.logic.specs.Tree.{branches, Tree, empty, node, bitAt, Proper, Represents, bit}

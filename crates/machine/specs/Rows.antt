@@ -12,7 +12,6 @@ use Rattle.machine.specs.Table.{seen}
 use Rattle.machine.specs.Machine.{Bit}
 use Rattle.machine.specs.Succ.{Step, entry, on, hit, hitRow}
 use Rattle.machine.specs.Word.{mem, any, wordOf}
-use Rattle.machine.specs.declared.explore.Kind.{Kind}
 use Rattle.machine.specs.declared.explore.Plan.{Plan}
 use Rattle.machine.specs.declared.explore.Kind.the-variants.{Exists}
 

@@ -9,7 +9,7 @@ use mathlib.Core.Option.{Option, none, some}
 use native.Mathlib.Omega.{arith}
 use lib.Dec.{T, eqb}
 use lib.ListN.{length, getD}
-use Rattle.logic.specs.Tree.{Tree, empty, node, Proper}
+use Rattle.logic.specs.Tree.{Tree, Proper}
 use Rattle.logic.specs.Meaning.{Formula, subset, singleton, successor, root, negation, disjunction, conjunction, exists as someF}
 use Rattle.logic.specs.Machine.{Machine, run, complement}
 use Rattle.logic.specs.Atom.{subsetMachine, singletonMachine, successorMachine, rootMachine}

@@ -13,14 +13,13 @@ use lib.ListN.{length, getD, length-append}
 use Rattle.refinement.specs.Decode.{decodedOf}
 use Rattle.logic.specs.Meaning.{Branch, Formula, successor, root}
 use Rattle.logic.specs.Tree.{Tree}
-use Rattle.logic.specs.Rule.{noRecord, Record, formulaOf, formulaAt, extend, good, goodFrom, successorAt, lastOf, Accepted}
+use Rattle.logic.specs.Rule.{noRecord, Record, formulaOf, formulaAt, extend, good, goodFrom, successorAt, Accepted}
 use Rattle.logic.specs.Machine.{Machine}
 use Rattle.logic.specs.Reach.{below, Reached, started, stepped}
-use Rattle.logic.specs.Search.{search}
 use Rattle.logic.specs.Alike.{Alike, MachineOf}
 use Rattle.logic.specs.Two.{one, two, pairOf}
 use Rattle.logic.specs.Claims.{refused14, unbuilt, statesAt, FirstOver}
-use Rattle.logic.specs.Decide.{report, decideOf, judgeOf}
+use Rattle.logic.specs.Decide.{decideOf, judgeOf}
 use Rattle.logic.proofs.Branches.{branch-same}
 use Rattle.logic.proofs.Connectives.{and-iff}
 use Rattle.logic.proofs.Reach.{elem-below}
@@ -28,7 +27,7 @@ use Rattle.logic.proofs.Satisfiable.{tree-reached}
 use Rattle.logic.proofs.Tables.{Valid}
 use Rattle.logic.proofs.Rules.{record-valid, record-formula, getD-snoc}
 use Rattle.logic.proofs.Answers.{decide-answers, judge-judges}
-use Rattle.logic.proofs.Builders.{of-alike, states-any, over-index, decide-any}
+use Rattle.logic.proofs.Builders.{of-alike, states-any, over-index}
 use Rattle.machine.specs.Explore.{explore}
 use Rattle.machine.proofs.Found.{Reach, at-start, by-step, Ok, Closed, explore-ok, explore-closed, too-many}
 use Rattle.machine.specs.Word.{mem}
@@ -255,11 +254,3 @@ module _ (n c : ℕ) (pos : 0 < c) (top : c ≤ 64) where
     pub judge-over : (t : Tree 2) (r : ℕ) → upto xs c labels (length rs) ≡ over r → judgeOf n rs c t ≡ unbuilt r
     unfolding Linked
     judge-over t r e = ((judge-judges 2 n rs c 0 acc t) .unbuilt-is r) .1 (subst (Linked (length rs)) e (linked (length rs) (omega arith)))
-
-    pub decide-built : (P : ℕ) (ms : List Mach) → upto xs c labels (length rs) ≡ built ms
-        → report (length (getD ms (lastOf rs) noMach .codes)) (search (2 ^ n) (record { count = length (getD ms (lastOf rs) noMach .codes); machine = machOf (getD ms (lastOf rs) noMach) }) P) ≡ decideOf 2 n rs c P
-    unfolding Linked
-    decide-built P ms e =
-        let w : Linked (length rs) (built ms) = subst (Linked (length rs)) e (linked (length rs) (omega arith)) in
-        let g = w .1 (lastOf rs) (let z = acc .0 in omega arith) in
-        decide-any 2 n rs acc c P (few-states (length rs) ms (omega arith) (w .1)) (machOf (getD ms (lastOf rs) noMach)) (g .machine) (length (getD ms (lastOf rs) noMach .codes)) (g .full)

@@ -7,7 +7,7 @@ use native.Mathlib.Nat.{div-div-eq-div-mul, pow-suc, mul-assoc, zero-div, zero-m
 use native.Mathlib.Omega.{arith}
 use lib.Arith.{mod-mul}
 use lib.Pow.{pow-pos}
-use lib.Dec.{T, eqb}
+use lib.Dec.{eqb}
 use Rattle.refinement.specs.Decode.{weight}
 use Rattle.logic.specs.Meaning.{Branch}
 use Rattle.logic.specs.Tree.{Tree, empty, node, bit}

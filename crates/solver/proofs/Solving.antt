@@ -10,7 +10,7 @@ use borrow.Author.Tests.{lt-ltb}
 use native.Mathlib.Nat.{mul-le-mul, suc-mul}
 use mathlib.Core.Bool.{Bool, true, false}
 use Rattle.logic.specs.Rule.{noRecord, Record, Accepted, lastOf}
-use Rattle.logic.specs.Claims.{Outcome, refused14, shown}
+use Rattle.logic.specs.Claims.{refused14, shown}
 use Rattle.logic.specs.Tree.{Tree}
 use Rattle.logic.specs.Machine.{Machine, run}
 use Rattle.logic.specs.Two.{binary}

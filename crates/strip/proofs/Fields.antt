@@ -10,7 +10,7 @@ use lib.Dec.{lit<}
 use lib.Pow.{shr-shr, mod-pow-add, mod-mod-pow, high, low}
 use lib.Pow.{field as Pow-field}
 use lib.ListN.{length, getD, set, take, drop, length-append, length-drop, take-append-drop, length-set, List·getD-append}
-use lib.Seq.{getD-append-add, set-append-left, ext-getD, getD-set-same, getD-set-other, take-suc, getD-drop, sets, length-take-le, drop-append-le, take-append-le, drop-append-add}
+use lib.Seq.{getD-append-add, set-append-left, ext-getD, getD-set-same, getD-set-other, take-suc, sets, length-take-le, drop-append-le, take-append-le, drop-append-add}
 use lib.Bits.{bitOr}
 use Rattle.strip.proofs.Digits.{bit, same}
 use Rattle.strip.proofs.Digits.{with-bit, bit-lt}
@@ -95,16 +95,6 @@ bits-set (x ∷ s) zero j h l =
 bits-set (x ∷ s) (suc i) j h l =
     let e : 8 * suc i + j ≡ length (digits 8 x) + (8 * i + j) = omega (arith, length-digits 8 x) in
     rw e (ap (λ (r : List ℕ). digits 8 x ++ r) (bits-set s i j (le-of-suc-le-suc h) l) ∙ sym (set-append-add (digits 8 x) (bits s) (8 * i + j) 1))
-
--- a field with one bit more
-number-snoc : (n : ℕ) (l : List ℕ) (d : ℕ) → number n (l ++ (d ∷ [])) ≡ number n l * 2 + d
-number-snoc n [] d = refl
-number-snoc n (x ∷ l) d = number-snoc (n * 2 + x) l d
-
-pub field-more : (s : List ℕ) (at k : ℕ) → at + k < 8 * length s → field s at (k + 1) ≡ field s at k * 2 + getD (bits s) (at + k) 0
-field-more s at k h =
-    let l : k < length (drop at (bits s)) = simp (length-drop, length-bits) (omega arith) in
-    rw (add-one k, take-suc (drop at (bits s)) k 0 l, number-snoc, getD-drop) refl
 
 -- a run of stores with one more; and what lies after it
 pub sets-snoc : (l : List ℕ) (i : ℕ) (vs : List ℕ) (x : ℕ) → sets l i (vs ++ (x ∷ [])) ≡ set (sets l i vs) (i + length vs) x

@@ -13,7 +13,7 @@ use lib.ListN.{length, getD, drop}
 use lib.Seq.{drop-cons}
 use borrow.Author.Tests.{lt-leb, leb-true, eqb-true, ne-eqb, not-false}
 use Rattle.logic.specs.Rule.{Record as RuleRecord}
-use Rattle.strip.specs.Bits.{bits, field, anySet}
+use Rattle.strip.specs.Bits.{bits, anySet}
 use Rattle.strip.specs.RuleStrip.{orElse, between, versionOf, variablesOf, countOf, recordAt, recordsFrom, recordsOf, ruleBytes, Use, variable, earlier, unused, firstUse, secondUse, badVariable, badEarlier, badUnused, recordRefusal, recordsRefusal, ruleRefusal}
 use Rattle.strip.specs.RuleAnswers.{useNumber, fieldRefusal, fieldsOf, recordOr, readRecord, readRecords, headRefusal, checkedRule}
 use Rattle.strip.specs.declared.rule.Fields.{Fields}

@@ -24,18 +24,6 @@ loop-holds : tie.Need-loop-holds Inv-loop μ-loop
 unfolding scanSecond loop
 loop-holds c = search needs
 
-element-copy-out-wide : tie.Need-element-copy-out-wide Inv-loop μ-loop
-element-copy-out-wide c = search needs
-
-wide-requires : tie.Need-wide-requires Inv-loop μ-loop
-wide-requires c κs = search needs
-
-element-copy-out-wide-2 : tie.Need-element-copy-out-wide-2 Inv-loop μ-loop
-element-copy-out-wide-2 c = search needs
-
-wide-requires-2 : tie.Need-wide-requires-2 Inv-loop μ-loop
-wide-requires-2 c κs = search needs
-
 cell-requires : tie.Need-cell-requires Inv-loop μ-loop
 cell-requires c κs =
     let loop = c .before .before .before .before .before .loop in
@@ -50,18 +38,6 @@ element-copy-out-consider c =
     let ready = start .pre .0 in
     rw (c .cell .ensures) (ready-steps ready _ _ _ (start .pre .1 .0 .0) (omega (arith, ready .states (start .args .i) (start .pre .1 .0 .1))) (omega (arith, ready .states (loop .j) (omega arith))))
 
-mul-consider : tie.Need-mul-consider Inv-loop μ-loop
-mul-consider c = search needs
-
-element-copy-out-consider-2 : tie.Need-element-copy-out-consider-2 Inv-loop μ-loop
-element-copy-out-consider-2 c = search needs
-
-mul-consider-2 : tie.Need-mul-consider-2 Inv-loop μ-loop
-mul-consider-2 c = search needs
-
-element-copy-out-consider-3 : tie.Need-element-copy-out-consider-3 Inv-loop μ-loop
-element-copy-out-consider-3 c = search needs
-
 add-consider : tie.Need-add-consider Inv-loop μ-loop
 add-consider c =
     let loop = c .before .before .before .before .before .before .before .before .before .loop in
@@ -73,15 +49,6 @@ add-consider-2 c =
     let loop = c .before .before .before .before .before .before .before .before .before .loop in
     let start = c .before .before .before .before .before .before .before .before .before .before .before in
     omega (arith, start .pre .0 .sizes (start .args .i) (start .pre .1 .0 .1), start .pre .0 .sizes (loop .j) (omega arith))
-
-consider-requires : tie.Need-consider-requires Inv-loop μ-loop
-consider-requires c κs = search needs
-
-add-j : tie.Need-add-j Inv-loop μ-loop
-add-j c = search needs
-
-loop-less : tie.Need-loop-less Inv-loop μ-loop
-loop-less c = search needs
 
 loop-again : tie.Need-loop-again Inv-loop μ-loop
 loop-again c =
@@ -102,20 +69,20 @@ row-spec =
     Inv-loop
     μ-loop
     loop-holds
-    element-copy-out-wide
-    wide-requires
-    element-copy-out-wide-2
-    wide-requires-2
+    (λ c. search needs)
+    (λ c κs. search needs)
+    (λ c. search needs)
+    (λ c κs. search needs)
     cell-requires
     element-copy-out-consider
-    mul-consider
-    element-copy-out-consider-2
-    mul-consider-2
-    element-copy-out-consider-3
+    (λ c. search needs)
+    (λ c. search needs)
+    (λ c. search needs)
+    (λ c. search needs)
     add-consider
     add-consider-2
-    consider-requires
-    add-j
-    loop-less
+    (λ c κs. search needs)
+    (λ c. search needs)
+    (λ c. search needs)
     loop-again
     returns)

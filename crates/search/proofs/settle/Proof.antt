@@ -20,15 +20,6 @@ Inv-loop labels table c count accept p done₀ state₀ size₀ label₀ first�
 abbrev μ-loop : tie.MeasureT-loop
 μ-loop labels table c count accept p done₀ state₀ size₀ label₀ first₀ second₀ n₀ done state size label first second n = count - n
 
-array-write-done : tie.Need-array-write-done Inv-loop μ-loop
-array-write-done c = search needs
-
-element-copy-out-if1 : tie.Need-element-copy-out-if1 Inv-loop μ-loop
-element-copy-out-if1 c = search needs
-
-ended-requires : tie.Need-ended-requires Inv-loop μ-loop
-ended-requires c κs = search needs
-
 returns : tie.Need-returns Inv-loop μ-loop
 returns c =
     let wh = c .before .before .before .before .pre in
@@ -46,18 +37,12 @@ scan-requires c κs =
     let wh = c .before .before .before .before .before .before .before .before .pre in
     round-ready _ _ _ _ _ _ wh _ _ _ _ _ _ _ (loop .inv)
 
-ended-requires-2 : tie.Need-ended-requires-2 Inv-loop μ-loop
-ended-requires-2 c κs = search needs
-
 returns-2 : tie.Need-returns-2 Inv-loop μ-loop
 returns-2 c =
     let loop = c .before .before .before .before .before .before .before .loop in
     let wh = c .before .before .before .before .before .before .before .before .before .before .before .pre in
     rw (c .ended2 .ensures)
     (round-none _ _ _ _ _ _ wh _ _ _ _ _ _ _ (loop .inv) (search) (c .before .before .scan .result) (c .before .before .scan .ensures) (search))
-
-ended-requires-3 : tie.Need-ended-requires-3 Inv-loop μ-loop
-ended-requires-3 c κs = search needs
 
 returns-3 : tie.Need-returns-3 Inv-loop μ-loop
 returns-3 c =
@@ -73,18 +58,12 @@ array-read-wide c =
     let r = round-range _ _ _ _ _ _ wh _ _ _ _ _ _ _ (loop .inv) (search) (c .before .before .scan .result) (c .before .before .scan .ensures) (search) in
     omega (arith, r .1, loop .inv .high, wh .within, wh .few)
 
-wide-requires : tie.Need-wide-requires Inv-loop μ-loop
-wide-requires c κs = search needs
-
 array-read-wide-2 : tie.Need-array-read-wide-2 Inv-loop μ-loop
 array-read-wide-2 c =
     let loop = c .before .before .before .before .before .before .before .before .loop in
     let wh = c .before .before .before .before .before .before .before .before .before .before .before .before .pre in
     let r = round-range _ _ _ _ _ _ wh _ _ _ _ _ _ _ (loop .inv) (search) (c .before .before .before .scan .result) (c .before .before .before .scan .ensures) (search) in
     omega (arith, r .2, loop .inv .high, wh .within, wh .few)
-
-wide-requires-2 : tie.Need-wide-requires-2 Inv-loop μ-loop
-wide-requires-2 c κs = search needs
 
 cell-requires : tie.Need-cell-requires Inv-loop μ-loop
 cell-requires c κs =
@@ -93,50 +72,17 @@ cell-requires c κs =
     let r = round-range _ _ _ _ _ _ wh _ _ _ _ _ _ _ (loop .inv) (search) (c .before .before .before .before .scan .result) (c .before .before .before .before .scan .ensures) (search) in
     (wh .whole, (r .0, omega (arith, wh .within, loop .inv .tame ((c .before .before .before .before .scan .result) .first)), omega (arith, wh .within, loop .inv .tame ((c .before .before .before .before .scan .result) .second))))
 
-mul-label : tie.Need-mul-label Inv-loop μ-loop
-mul-label c = search needs
-
-array-write-label : tie.Need-array-write-label Inv-loop μ-loop
-array-write-label c = search needs
-
-mul-first : tie.Need-mul-first Inv-loop μ-loop
-mul-first c = search needs
-
-array-write-first : tie.Need-array-write-first Inv-loop μ-loop
-array-write-first c = search needs
-
-mul-second : tie.Need-mul-second Inv-loop μ-loop
-mul-second c = search needs
-
-array-write-second : tie.Need-array-write-second Inv-loop μ-loop
-array-write-second c = search needs
-
 narrow-requires : tie.Need-narrow-requires Inv-loop μ-loop
 narrow-requires c κs =
     let e : c .cell .result < 64 = round-small _ _ _ _ _ _ (c .before .before .before .before .before .before .before .before .before .before .before .before .before .before .pre) _ _ _ _ _ _ _ (c .before .before .before .before .before .before .before .before .before .before .loop .inv) (search) (c .before .before .before .before .before .scan .result) (c .before .before .before .before .before .scan .ensures) (search) _ _ (c .cell .result) (c .before .before .wide .ensures) (c .before .wide2 .ensures) (c .cell .ensures) in omega arith
-
-array-write-state : tie.Need-array-write-state Inv-loop μ-loop
-array-write-state c = search needs
-
-mul-size : tie.Need-mul-size Inv-loop μ-loop
-mul-size c = search needs
-
-array-write-size : tie.Need-array-write-size Inv-loop μ-loop
-array-write-size c = search needs
 
 array-write-done-2 : tie.Need-array-write-done-2 Inv-loop μ-loop
 array-write-done-2 c =
     round-small _ _ _ _ _ _ (c .before .before .before .before .before .before .before .before .before .before .before .before .before .before .before .pre) _ _ _ _ _ _ _ (c .before .before .before .before .before .before .before .before .before .before .before .loop .inv) (search) (c .before .before .before .before .before .before .scan .result) (c .before .before .before .before .before .before .scan .ensures) (search) _ _ (c .before .cell .result) (c .before .before .before .wide .ensures) (c .before .before .wide2 .ensures) (c .before .cell .ensures)
 
-add-n : tie.Need-add-n Inv-loop μ-loop
-add-n c = search needs
-
 element-copy-out-if4 : tie.Need-element-copy-out-if4 Inv-loop μ-loop
 element-copy-out-if4 c =
     round-small _ _ _ _ _ _ (c .before .before .before .before .before .before .before .before .before .before .before .before .before .before .before .pre) _ _ _ _ _ _ _ (c .before .before .before .before .before .before .before .before .before .before .before .loop .inv) (search) (c .before .before .before .before .before .before .scan .result) (c .before .before .before .before .before .before .scan .ensures) (search) _ _ (c .before .cell .result) (c .before .before .before .wide .ensures) (c .before .before .wide2 .ensures) (c .before .cell .ensures)
-
-ended-requires-4 : tie.Need-ended-requires-4 Inv-loop μ-loop
-ended-requires-4 c κs = search needs
 
 returns-4 : tie.Need-returns-4 Inv-loop μ-loop
 returns-4 c =
@@ -146,18 +92,12 @@ returns-4 c =
     (round-shown′ _ _ _ _ _ _ wh _ _ _ _ _ _ _ (loop .inv) (search) (c .before .before .before .before .before .before .before .before .before .scan .result) (c .before .before .before .before .before .before .before .before .before .scan .ensures) (search) (c .before .before .before .before .cell .result)
     (round-target _ _ _ _ _ _ wh _ _ _ _ _ _ _ (loop .inv) (search) (c .before .before .before .before .before .before .before .before .before .scan .result) (c .before .before .before .before .before .before .before .before .before .scan .ensures) (search) _ _ (c .before .before .before .before .cell .result) (c .before .before .before .before .before .before .wide .ensures) (c .before .before .before .before .before .wide2 .ensures) (c .before .before .before .before .cell .ensures)) (search) (search))
 
-loop-less : tie.Need-loop-less Inv-loop μ-loop
-loop-less c = search needs
-
 loop-again : tie.Need-loop-again Inv-loop μ-loop
 loop-again c =
     let loop = c .before .before .before .before .before .before .before .before .before .before .before .before .before .loop in
     let wh = c .before .before .before .before .before .before .before .before .before .before .before .before .before .before .before .before .before .pre in
     round-more _ _ _ _ _ _ wh _ _ _ _ _ _ _ (loop .inv) (search) (c .before .before .before .before .before .before .before .before .scan .result) (c .before .before .before .before .before .before .before .before .scan .ensures) (search) (c .before .before .before .cell .result) _
     (round-target _ _ _ _ _ _ wh _ _ _ _ _ _ _ (loop .inv) (search) (c .before .before .before .before .before .before .before .before .scan .result) (c .before .before .before .before .before .before .before .before .scan .ensures) (search) _ _ (c .before .before .before .cell .result) (c .before .before .before .before .before .wide .ensures) (c .before .before .before .before .wide2 .ensures) (c .before .before .before .cell .ensures)) (c .before .before .narrow .ensures) (search) (search)
-
-ended-requires-5 : tie.Need-ended-requires-5 Inv-loop μ-loop
-ended-requires-5 c κs = search needs
 
 returns-5 : tie.Need-returns-5 Inv-loop μ-loop
 returns-5 c =
@@ -172,37 +112,37 @@ settle-spec =
     (tie.spec
     Inv-loop
     μ-loop
-    array-write-done
-    element-copy-out-if1
-    ended-requires
+    (λ c. search needs)
+    (λ c. search needs)
+    (λ c κs. search needs)
     returns
     loop-holds
     scan-requires
-    ended-requires-2
+    (λ c κs. search needs)
     returns-2
-    ended-requires-3
+    (λ c κs. search needs)
     returns-3
     array-read-wide
-    wide-requires
+    (λ c κs. search needs)
     array-read-wide-2
-    wide-requires-2
+    (λ c κs. search needs)
     cell-requires
-    mul-label
-    array-write-label
-    mul-first
-    array-write-first
-    mul-second
-    array-write-second
+    (λ c. search needs)
+    (λ c. search needs)
+    (λ c. search needs)
+    (λ c. search needs)
+    (λ c. search needs)
+    (λ c. search needs)
     narrow-requires
-    array-write-state
-    mul-size
-    array-write-size
+    (λ c. search needs)
+    (λ c. search needs)
+    (λ c. search needs)
     array-write-done-2
-    add-n
+    (λ c. search needs)
     element-copy-out-if4
-    ended-requires-4
+    (λ c κs. search needs)
     returns-4
-    loop-less
+    (λ c. search needs)
     loop-again
-    ended-requires-5
+    (λ c κs. search needs)
     returns-5)

@@ -14,27 +14,6 @@ use Rattle.machine.proofs.records.build_all.Reads as build-all-reads
 use Rattle.machine.proofs.words.has.Reads as has-reads
 use Rattle.solver.proofs.run.run.Reads as run-reads
 
-build-all-requires : tie.Need-build-all-requires
-build-all-requires c κs = search needs
-
-sub-last : tie.Need-sub-last
-sub-last c = search needs
-
-element-copy-out-count : tie.Need-element-copy-out-count
-element-copy-out-count c = search needs
-
-cast-count : tie.Need-cast-count
-cast-count c = search needs
-
-mul-accept : tie.Need-mul-accept
-mul-accept c = search needs
-
-element-copy-out-accept : tie.Need-element-copy-out-accept
-element-copy-out-accept c = search needs
-
-same-length : tie.Need-same-length
-same-length c = search needs
-
 returns : tie.Need-returns
 returns c =
     let a = c .before .before .before .before .before .before .before .before .before in
@@ -54,9 +33,6 @@ part-run-start c =
     let e = solve-share (a .args .m) (a .args .labels * a .args .c * a .args .c) (a .pre .0 .0) in
     let l = a .pre .0 .5 in
     search needs
-
-part-run-end : tie.Need-part-run-end
-part-run-end c = search needs
 
 run-requires : tie.Need-run-requires
 run-requires c κs =
@@ -86,9 +62,6 @@ has-requires c κs =
     (part-at ((a .args .m - 1) * share) (c .before .before .before .last-share .result) ws (c .before .before .before .last-share .ensures)) (part-long (c .before .before .before .last-share .result) share ws (omega (arith, q, c .before .before .before .last-share .ensures))) in
     omega (arith, c .run .ensures .1 .0, w .within, w .few)
 
-same-length-2 : tie.Need-same-length-2
-same-length-2 c = search needs
-
 returns-2 : tie.Need-returns-2
 returns-2 c =
     let a = c .before .before .before .before .before .before .before .before .before .before .before .before .before .before in
@@ -105,19 +78,19 @@ pub judge-spec : {M : Type 1} → statement M
 judge-spec =
     tie.close
     (tie.spec
-    build-all-requires
-    sub-last
-    element-copy-out-count
-    cast-count
-    mul-accept
-    element-copy-out-accept
-    same-length
+    (λ c κs. search needs)
+    (λ c. search needs)
+    (λ c. search needs)
+    (λ c. search needs)
+    (λ c. search needs)
+    (λ c. search needs)
+    (λ c. search needs)
     returns
     (λ c κs. search needs)
     sub-run
     part-run-start
-    part-run-end
+    (λ c. search needs)
     run-requires
     has-requires
-    same-length-2
+    (λ c. search needs)
     returns-2)

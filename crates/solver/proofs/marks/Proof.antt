@@ -20,18 +20,6 @@ abbrev μ-loop : tie.MeasureT-loop
 loop-holds : tie.Need-loop-holds Inv-loop μ-loop
 loop-holds c = (omega arith, marking-first _)
 
-has-requires : tie.Need-has-requires Inv-loop μ-loop
-has-requires c κs = search needs
-
-array-write-a : tie.Need-array-write-a Inv-loop μ-loop
-array-write-a c = search needs
-
-add-q : tie.Need-add-q Inv-loop μ-loop
-add-q c = search needs
-
-loop-less : tie.Need-loop-less Inv-loop μ-loop
-loop-less c = search needs
-
 loop-again : tie.Need-loop-again Inv-loop μ-loop
 loop-again c =
     let loop = c .before .before .before .loop in (
@@ -46,4 +34,4 @@ returns : tie.Need-returns Inv-loop μ-loop
 returns c = marking-done _ _ _ _ (search needs) (c .before .loop .inv .1)
 
 pub marks-spec : {M : Type 1} → statement M
-marks-spec = tie.close (tie.spec Inv-loop μ-loop loop-holds has-requires array-write-a add-q loop-less loop-again returns)
+marks-spec = tie.close (tie.spec Inv-loop μ-loop loop-holds (λ c κs. search needs) (λ c. search needs) (λ c. search needs) (λ c. search needs) loop-again returns)

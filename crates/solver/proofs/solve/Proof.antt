@@ -14,31 +14,10 @@ use Rattle.solver.proofs.marks.Reads as marks-reads
 use Rattle.machine.proofs.records.build_all.Reads as build-all-reads
 use Rattle.search.proofs.find.Reads as find-reads
 
-build-all-requires : tie.Need-build-all-requires
-build-all-requires c κs = search needs
-
-sub-last : tie.Need-sub-last
-sub-last c = search needs
-
-element-copy-out-count : tie.Need-element-copy-out-count
-element-copy-out-count c = search needs
-
-cast-count : tie.Need-cast-count
-cast-count c = search needs
-
-same-length : tie.Need-same-length
-same-length c = search needs
-
 returns : tie.Need-returns
 returns c =
     let a = c .before .before .before .before .before .before .before in
     (solve-refused _ _ _ (c .before .before .before .before .build-all .result) _ (a .pre .0 .2) (a .pre .0 .3) _ _ (c .before .before .before .before .build-all .ensures .0) (search) _ refl refl, c .before .before .before .before .build-all .ensures .1)
-
-mul-marks : tie.Need-mul-marks
-mul-marks c = search needs
-
-element-copy-out-marks : tie.Need-element-copy-out-marks
-element-copy-out-marks c = search needs
 
 marks-requires : tie.Need-marks-requires
 marks-requires c κs =
@@ -60,9 +39,6 @@ part-find-start c =
     let l = a .pre .0 .6 in
     search needs
 
-part-find-end : tie.Need-part-find-end
-part-find-end c = search needs
-
 find-requires : tie.Need-find-requires
 find-requires c κs =
     let a = c .before .before .before .before .before .before .before .before .before .before .before .before .before in
@@ -73,9 +49,6 @@ find-requires c κs =
     let q : (a .args .m - 1) * share + share ≤ length ws = omega arith in
     solve-whole (upto (a .args .records) (a .args .c) (a .args .labels) (a .args .m)) (a .args .c) (a .args .labels) (a .args .m) (c .before .before .before .before .before .before .before .before .before .before .build-all .result) ws (c .before .before .before .before .before .before .before .before .before .before .build-all .ensures .0) (search needs) (a .pre .0 .0) (a .pre .0 .3) _ (a .pre .0 .4) _
     (part-at ((a .args .m - 1) * share) (c .before .before .before .last-share .result) ws (c .before .before .before .last-share .ensures)) (part-long (c .before .before .before .last-share .result) share ws (omega (arith, q, c .before .before .before .last-share .ensures)))
-
-same-length-2 : tie.Need-same-length-2
-same-length-2 c = search needs
 
 returns-2 : tie.Need-returns-2
 returns-2 c =
@@ -91,19 +64,19 @@ pub solve-spec : {M : Type 1} → statement M
 solve-spec =
     tie.close
     (tie.spec
-    build-all-requires
-    sub-last
-    element-copy-out-count
-    cast-count
-    same-length
+    (λ c κs. search needs)
+    (λ c. search needs)
+    (λ c. search needs)
+    (λ c. search needs)
+    (λ c. search needs)
     returns
-    mul-marks
-    element-copy-out-marks
+    (λ c. search needs)
+    (λ c. search needs)
     marks-requires
     (λ c κs. search needs)
     sub-find
     part-find-start
-    part-find-end
+    (λ c. search needs)
     find-requires
-    same-length-2
+    (λ c. search needs)
     returns-2)

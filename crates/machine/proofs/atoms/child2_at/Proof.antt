@@ -11,9 +11,6 @@ use Rattle.machine.proofs.atoms.child2_at.Tie as tie
 entries : List ℕ
 entries = 0 ∷ 3 ∷ 2 ∷ 3 ∷ 3 ∷ 3 ∷ 3 ∷ 3 ∷ 2 ∷ 3 ∷ 3 ∷ 3 ∷ 3 ∷ 3 ∷ 3 ∷ 3 ∷ 3 ∷ 2 ∷ 3 ∷ 3 ∷ 3 ∷ 3 ∷ 3 ∷ 3 ∷ 3 ∷ 3 ∷ 3 ∷ 3 ∷ 3 ∷ 3 ∷ 3 ∷ 3 ∷ 1 ∷ 3 ∷ 3 ∷ 3 ∷ 3 ∷ 3 ∷ 3 ∷ 3 ∷ 3 ∷ 3 ∷ 3 ∷ 3 ∷ 3 ∷ 3 ∷ 3 ∷ 3 ∷ 3 ∷ 3 ∷ 3 ∷ 3 ∷ 3 ∷ 3 ∷ 3 ∷ 3 ∷ 3 ∷ 3 ∷ 3 ∷ 3 ∷ 3 ∷ 3 ∷ 3 ∷ 3 ∷ []
 
-array-read-result : tie.Need-array-read-result
-array-read-result c = search needs
-
 returns : tie.Need-returns
 unfolding entries
 returns c = rule-at child2Rule entries tt (c .args .k) (search needs)
@@ -23,4 +20,4 @@ unfolding entries
 cast-result c = let b = byte-at entries tt (c .args .k) (search needs) in omega arith
 
 pub child2-at-spec : {M : Type 1} → statement M
-child2-at-spec = tie.close (tie.spec array-read-result cast-result returns)
+child2-at-spec = tie.close (tie.spec (λ c. search needs) cast-result returns)

@@ -11,9 +11,6 @@ use Rattle.machine.proofs.atoms.single_at.Tie as tie
 entries : List ℕ
 entries = 0 ∷ 1 ∷ 2 ∷ 2 ∷ 1 ∷ 2 ∷ 2 ∷ 2 ∷ 2 ∷ 2 ∷ 2 ∷ 2 ∷ 2 ∷ 2 ∷ 2 ∷ 2 ∷ 0 ∷ 1 ∷ 2 ∷ 2 ∷ 1 ∷ 2 ∷ 2 ∷ 2 ∷ 2 ∷ 2 ∷ 2 ∷ 2 ∷ 2 ∷ 2 ∷ 2 ∷ 2 ∷ 1 ∷ 2 ∷ 2 ∷ 2 ∷ 2 ∷ 2 ∷ 2 ∷ 2 ∷ 2 ∷ 2 ∷ 2 ∷ 2 ∷ 2 ∷ 2 ∷ 2 ∷ 2 ∷ 1 ∷ 2 ∷ 2 ∷ 2 ∷ 2 ∷ 2 ∷ 2 ∷ 2 ∷ 2 ∷ 2 ∷ 2 ∷ 2 ∷ 2 ∷ 2 ∷ 2 ∷ 2 ∷ []
 
-array-read-result : tie.Need-array-read-result
-array-read-result c = search needs
-
 returns : tie.Need-returns
 unfolding entries
 returns c = rule-at singleRule entries tt (c .args .k) (search needs)
@@ -23,4 +20,4 @@ unfolding entries
 cast-result c = let b = byte-at entries tt (c .args .k) (search needs) in omega arith
 
 pub single-at-spec : {M : Type 1} → statement M
-single-at-spec = tie.close (tie.spec array-read-result cast-result returns)
+single-at-spec = tie.close (tie.spec (λ c. search needs) cast-result returns)

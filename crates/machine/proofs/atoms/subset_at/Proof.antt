@@ -11,9 +11,6 @@ use Rattle.machine.proofs.atoms.subset_at.Tie as tie
 entries : List ℕ
 entries = 0 ∷ 1 ∷ 1 ∷ 1 ∷ 1 ∷ 1 ∷ 1 ∷ 1 ∷ 1 ∷ 1 ∷ 1 ∷ 1 ∷ 1 ∷ 1 ∷ 1 ∷ 1 ∷ 0 ∷ 1 ∷ 1 ∷ 1 ∷ 1 ∷ 1 ∷ 1 ∷ 1 ∷ 1 ∷ 1 ∷ 1 ∷ 1 ∷ 1 ∷ 1 ∷ 1 ∷ 1 ∷ 1 ∷ 1 ∷ 1 ∷ 1 ∷ 1 ∷ 1 ∷ 1 ∷ 1 ∷ 1 ∷ 1 ∷ 1 ∷ 1 ∷ 1 ∷ 1 ∷ 1 ∷ 1 ∷ 0 ∷ 1 ∷ 1 ∷ 1 ∷ 1 ∷ 1 ∷ 1 ∷ 1 ∷ 1 ∷ 1 ∷ 1 ∷ 1 ∷ 1 ∷ 1 ∷ 1 ∷ 1 ∷ []
 
-array-read-result : tie.Need-array-read-result
-array-read-result c = search needs
-
 returns : tie.Need-returns
 unfolding entries
 returns c = rule-at subsetRule entries tt (c .args .k) (search needs)
@@ -23,4 +20,4 @@ unfolding entries
 cast-result c = let b = byte-at entries tt (c .args .k) (search needs) in omega arith
 
 pub subset-at-spec : {M : Type 1} → statement M
-subset-at-spec = tie.close (tie.spec array-read-result cast-result returns)
+subset-at-spec = tie.close (tie.spec (λ c. search needs) cast-result returns)

@@ -17,9 +17,6 @@ abbrev μ-loop : tie.MeasureT-loop
 loop-holds : tie.Need-loop-holds Inv-loop μ-loop
 loop-holds c = let a = c .before .args in (omega arith, refl, rows-first (a .ws .now) (a .from) (a .to) (a .c) (a .l) (a .n))
 
-cell-requires : tie.Need-cell-requires Inv-loop μ-loop
-cell-requires c κs = omega arith
-
 add-copy : tie.Need-add-copy Inv-loop μ-loop
 add-copy c =
     let a = c .before .before .before .before .before .args in
@@ -37,12 +34,6 @@ copy-requires c κs =
     let a = c .before .before .before .before .before .args in
     let i = c .before .before .before .loop .i in
     omega (arith, c .before .before .before .loop .inv .1, c .before .cell .ensures, row-at (a .c) (a .l) i, row-room (a .c) (a .l) i (omega arith))
-
-add-i : tie.Need-add-i Inv-loop μ-loop
-add-i c = omega arith
-
-loop-less : tie.Need-loop-less Inv-loop μ-loop
-loop-less c = omega arith
 
 loop-again : tie.Need-loop-again Inv-loop μ-loop
 loop-again c =
@@ -71,12 +62,12 @@ copy-label-spec =
     Inv-loop
     μ-loop
     loop-holds
-    cell-requires
+    (λ c κs. omega arith)
     add-copy
     add-copy-2
     copy-requires
-    add-i
-    loop-less
+    (λ c. omega arith)
+    (λ c. omega arith)
     loop-again
     same-length
     returns)

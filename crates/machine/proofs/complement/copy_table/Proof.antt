@@ -25,12 +25,6 @@ copy-label-requires c κs =
     let h = c .before .before .before .loop in
     omega (arith, h .inv .1, label-in (a .c) (h .l) (a .labels) (omega arith))
 
-add-l : tie.Need-add-l Inv-loop μ-loop
-add-l c = omega arith
-
-loop-less : tie.Need-loop-less Inv-loop μ-loop
-loop-less c = omega arith
-
 loop-again : tie.Need-loop-again Inv-loop μ-loop
 unfolding seen
 loop-again c =
@@ -63,8 +57,8 @@ copy-table-spec =
     μ-loop
     loop-holds
     copy-label-requires
-    add-l
-    loop-less
+    (λ c. omega arith)
+    (λ c. omega arith)
     loop-again
     same-length
     returns)

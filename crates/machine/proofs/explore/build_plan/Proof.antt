@@ -11,9 +11,6 @@ use borrow.Author.Needs.{needs}
 use Rattle.machine.proofs.explore.build_plan.Statement.{statement}
 use Rattle.machine.proofs.explore.build_plan.Tie as tie
 
-start-code-requires : tie.Need-start-code-requires
-start-code-requires c κs = search needs
-
 build-requires : tie.Need-build-requires
 build-requires c κs =
     let s = c .before .before .before .before .before .before in
@@ -25,9 +22,6 @@ build-requires c κs =
           (subst (λ (n : ℕ). Guided low (a .p) (some (n ∷ []))) (sym (v .ensures .0)) (start-guided low (a .p) (s .pre .0 .ceiling) (s .pre .0 .some-state) (s .pre .1 .1))),
     )
 
-same-length : tie.Need-same-length
-same-length c = search needs
-
 returns : tie.Need-returns
 returns c =
     let a = c .before .before .before .before .before .before .before .before .before .args in
@@ -36,4 +30,4 @@ returns c =
     then-built (a .p) (s .result) (b .result) (a .ws .now) (s .last .0) (b .last .0) (s .ensures .0) (s .ensures .1) (b .ensures)
 
 pub build-plan-spec : {M : Type 1} → statement M
-build-plan-spec = tie.close (tie.spec start-code-requires build-requires same-length returns)
+build-plan-spec = tie.close (tie.spec (λ c κs. search needs) build-requires (λ c. search needs) returns)

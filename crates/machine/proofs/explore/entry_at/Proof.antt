@@ -9,19 +9,10 @@ use borrow.Author.Needs.{needs}
 use Rattle.machine.proofs.explore.entry_at.Statement.{statement}
 use Rattle.machine.proofs.explore.entry_at.Tie as tie
 
-cell-requires : tie.Need-cell-requires
-cell-requires c κs = search needs
-
 add-read : tie.Need-add-read
 add-read c =
     let a = c .before .before .args in
     omega (arith, addr-small (a .c) (a .l) (a .i) (a .j) (omega arith) (omega arith) (omega arith) (omega arith))
-
-read-requires : tie.Need-read-requires
-read-requires c κs = search needs
-
-wide-requires : tie.Need-wide-requires
-wide-requires c κs = search needs
 
 returns : tie.Need-returns
 unfolding entry
@@ -30,4 +21,4 @@ returns c =
     (c .wide .ensures .0 ∙ c .before .read .ensures ∙ ap (λ (k : ℕ). getD (a .low .now) (a .a + k) 0) (c .before .before .cell .ensures), c .wide .ensures .1)
 
 pub entry-at-spec : {M : Type 1} → statement M
-entry-at-spec = tie.close (tie.spec cell-requires add-read read-requires wide-requires returns)
+entry-at-spec = tie.close (tie.spec (λ c κs. search needs) add-read (λ c κs. search needs) (λ c κs. search needs) returns)

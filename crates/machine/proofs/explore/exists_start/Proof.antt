@@ -21,11 +21,5 @@ build-requires c κs =
     let s = c .before .before in
     (room-closing (s .args .p) (length (s .args .ws .now)) (omega arith) (s .pre .0), closing-guided (take (s .args .p .base) (s .args .ws .now)) (s .args .p) 0)
 
-word-found-requires : tie.Need-word-found-requires
-word-found-requires c κs = search needs
-
-same-length : tie.Need-same-length
-same-length c = search needs
-
 pub exists-start-spec : {M : Type 1} → statement M
-exists-start-spec = tie.close (tie.spec build-requires word-found-requires same-length returns)
+exists-start-spec = tie.close (tie.spec build-requires (λ c κs. search needs) (λ c. search needs) returns)

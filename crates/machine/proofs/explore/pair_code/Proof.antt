@@ -15,16 +15,10 @@ entry-at-requires c κs = let a = c .before .args in omega (arith, and-le-l (a .
 entry-at-requires-2 : tie.Need-entry-at-requires-2
 entry-at-requires-2 c κs = let a = c .before .before .args in omega (arith, and-le-l (a .l) (a .g))
 
-mul-result : tie.Need-mul-result
-mul-result c = search needs
-
-add-result : tie.Need-add-result
-add-result c = search needs
-
 returns : tie.Need-returns
 unfolding pairCode through seen
 returns c = ap₂ (λ (a b : ℕ). a * 64 + b) (c .before .entry-at .ensures .0) (c .entry-at2 .ensures .0)
 
 pub pair-code-spec : {M : Type 1} → statement M
 pair-code-spec =
-    tie.close (tie.spec entry-at-requires entry-at-requires-2 mul-result add-result returns)
+    tie.close (tie.spec entry-at-requires entry-at-requires-2 (λ c. search needs) (λ c. search needs) returns)

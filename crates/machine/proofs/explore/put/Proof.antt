@@ -17,15 +17,6 @@ returns c =
     let a = c .before .args in
     (omega arith, omega arith, put-old (a .c) (a .x) (a .b .count) (a .b .codes) (id-length 64 (a .b .codes) (c .before .good .0 .1 .1 .0 .1 .0 .1)) (omega arith) (omega arith) (omega arith))
 
-mul-r : tie.Need-mul-r
-mul-r c = search needs
-
-element-write-r : tie.Need-element-write-r
-element-write-r c = search needs
-
-add-r : tie.Need-add-r
-add-r c = search needs
-
 returns-2 : tie.Need-returns-2
 returns-2 c =
     let a = c .before .before .args in
@@ -40,4 +31,4 @@ returns-2 c =
     )
 
 pub put-spec : {M : Type 1} → statement M
-put-spec = tie.close (tie.spec returns mul-r element-write-r add-r returns-2)
+put-spec = tie.close (tie.spec returns (λ c. search needs) (λ c. search needs) (λ c. search needs) returns-2)

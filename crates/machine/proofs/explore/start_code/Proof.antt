@@ -25,15 +25,6 @@ other And e h = refl
 other Exists e h = absurd (miss (0 ∷ 1 ∷ 2 ∷ 3 ∷ 4 ∷ 5 ∷ 6 ∷ 7 ∷ 9 ∷ []) 8 tt h)
 other Close e h = refl
 
-enum-told : tie.Need-enum-told
-enum-told c = search needs
-
-exists-start-requires : tie.Need-exists-start-requires
-exists-start-requires c κs = search needs
-
-same-length : tie.Need-same-length
-same-length c = search needs
-
 returns : tie.Need-returns
 unfolding startOf existsStart
 returns c = let e = c .before .before .exists-start .ensures in (rw (c .before .before .before .before .enum-told .given .1) (e .0), e .1)
@@ -44,4 +35,4 @@ returns-2 c = (other (c .before .before .args .p .kind) _ (c .match .keys2), rec
 
 pub start-code-spec : {M : Type 1} → statement M
 start-code-spec =
-    tie.close (tie.spec enum-told exists-start-requires same-length returns returns-2)
+    tie.close (tie.spec (λ c. search needs) (λ c κs. search needs) (λ c. search needs) returns returns-2)

@@ -29,21 +29,6 @@ loop-holds : tie.Need-loop-holds Inv-loop μ-loop
 unfolding any
 loop-holds c = (omega arith, omega arith, omega arith, λ q. mem-zero q)
 
-mul-with-member : tie.Need-mul-with-member Inv-loop μ-loop
-mul-with-member c = search needs
-
-array-read-with-member : tie.Need-array-read-with-member Inv-loop μ-loop
-array-read-with-member c = search needs
-
-with-member-requires : tie.Need-with-member-requires Inv-loop μ-loop
-with-member-requires c κs = search needs
-
-add-i : tie.Need-add-i Inv-loop μ-loop
-add-i c = search needs
-
-loop-less : tie.Need-loop-less Inv-loop μ-loop
-loop-less c = search needs
-
 loop-again : tie.Need-loop-again Inv-loop μ-loop
 unfolding any
 loop-again c =
@@ -79,10 +64,10 @@ word-found-spec =
     μ-loop
     returns
     loop-holds
-    mul-with-member
-    array-read-with-member
-    with-member-requires
-    add-i
-    loop-less
+    (λ c. search needs)
+    (λ c. search needs)
+    (λ c κs. search needs)
+    (λ c. search needs)
+    (λ c. search needs)
     loop-again
     returns-2)

@@ -18,17 +18,8 @@ abbrev μ-loop : tie.MeasureT-loop
 div-bits : tie.Need-div-bits Inv-loop μ-loop
 div-bits c = c .pre .0 .0
 
-mul-bits : tie.Need-mul-bits Inv-loop μ-loop
-mul-bits c = omega arith
-
 div-bits-2 : tie.Need-div-bits-2 Inv-loop μ-loop
 div-bits-2 c = c .pre .0 .1
-
-mul-bits-2 : tie.Need-mul-bits-2 Inv-loop μ-loop
-mul-bits-2 c = omega arith
-
-add-bits : tie.Need-add-bits Inv-loop μ-loop
-add-bits c = omega arith
 
 mul-new : tie.Need-mul-new Inv-loop μ-loop
 mul-new c = omega (arith, c .pre .0 .2)
@@ -48,35 +39,11 @@ mul-old c = omega (arith, c .loop-test .taken, c .before .before .before .pre .0
 element-copy-out-old : tie.Need-element-copy-out-old Inv-loop μ-loop
 element-copy-out-old c = omega (arith, c .loop-test .taken, c .before .before .before .pre .0 .2)
 
-mul-rule-at : tie.Need-mul-rule-at Inv-loop μ-loop
-mul-rule-at c = omega arith
-
-add-rule-at : tie.Need-add-rule-at Inv-loop μ-loop
-add-rule-at c = omega arith
-
-add-rule-at-2 : tie.Need-add-rule-at-2 Inv-loop μ-loop
-add-rule-at-2 c = omega arith
-
-rule-at-requires : tie.Need-rule-at-requires Inv-loop μ-loop
-rule-at-requires c κs = omega arith
-
 mul-right : tie.Need-mul-right Inv-loop μ-loop
 mul-right c = omega (arith, c .before .before .loop-test .taken, c .before .before .before .before .before .pre .0 .2)
 
 element-write-right : tie.Need-element-write-right Inv-loop μ-loop
 element-write-right c = omega (arith, c .before .before .loop-test .taken, c .before .before .before .before .before .pre .0 .2)
-
-mul-rule-at-2 : tie.Need-mul-rule-at-2 Inv-loop μ-loop
-mul-rule-at-2 c = omega arith
-
-add-rule-at-3 : tie.Need-add-rule-at-3 Inv-loop μ-loop
-add-rule-at-3 c = omega arith
-
-add-rule-at-4 : tie.Need-add-rule-at-4 Inv-loop μ-loop
-add-rule-at-4 c = omega arith
-
-rule-at-requires-2 : tie.Need-rule-at-requires-2 Inv-loop μ-loop
-rule-at-requires-2 c κs = omega arith
 
 mul-left : tie.Need-mul-left Inv-loop μ-loop
 mul-left c = omega (arith, c .before .before .before .loop-test .taken, c .before .before .before .before .before .before .pre .0 .2)
@@ -114,25 +81,25 @@ atom-rows-spec =
     Inv-loop
     μ-loop
     div-bits
-    mul-bits
+    (λ c. omega arith)
     div-bits-2
-    mul-bits-2
-    add-bits
+    (λ c. omega arith)
+    (λ c. omega arith)
     mul-new
     element-copy-out-new
     loop-holds
     mul-old
     element-copy-out-old
-    mul-rule-at
-    add-rule-at
-    add-rule-at-2
-    rule-at-requires
+    (λ c. omega arith)
+    (λ c. omega arith)
+    (λ c. omega arith)
+    (λ c κs. omega arith)
     mul-right
     element-write-right
-    mul-rule-at-2
-    add-rule-at-3
-    add-rule-at-4
-    rule-at-requires-2
+    (λ c. omega arith)
+    (λ c. omega arith)
+    (λ c. omega arith)
+    (λ c κs. omega arith)
     mul-left
     element-write-left
     add-i

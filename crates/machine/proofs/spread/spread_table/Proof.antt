@@ -23,12 +23,6 @@ spread-label-requires c κs =
     let h = c .before .before .loop in
     omega (arith, h .inv .1, c .before .loop-test .taken, label-room (a .base) (a .n) (h .l) (a .labels) (length (a .ws .now)) (c .before .loop-test .taken) (omega arith))
 
-add-l : tie.Need-add-l Inv-loop μ-loop
-add-l c = omega arith
-
-loop-less : tie.Need-loop-less Inv-loop μ-loop
-loop-less c = omega arith
-
 loop-again : tie.Need-loop-again Inv-loop μ-loop
 loop-again c =
     let a = c .before .before .before .before .before .before .before .args in
@@ -53,8 +47,8 @@ spread-table-spec =
     μ-loop
     loop-holds
     spread-label-requires
-    add-l
-    loop-less
+    (λ c. omega arith)
+    (λ c. omega arith)
     loop-again
     same-length
     returns)

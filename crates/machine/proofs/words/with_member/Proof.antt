@@ -6,11 +6,8 @@ use borrow.Author.Needs.{needs}
 use Rattle.machine.proofs.words.with_member.Statement.{statement}
 use Rattle.machine.proofs.words.with_member.Tie as tie
 
-shl-result : tie.Need-shl-result
-shl-result c = search needs
-
 returns : tie.Need-returns
 returns c = with-law (c .args .x) (c .args .e % 64) (omega arith)
 
 pub with-member-spec : {M : Type 1} → statement M
-with-member-spec = tie.close (tie.spec shl-result returns)
+with-member-spec = tie.close (tie.spec (λ c. search needs) returns)

@@ -4,17 +4,8 @@ use borrow.Author.Needs.{needs}
 use Rattle.report.proofs.line.put_counted.Statement.{statement}
 use Rattle.report.proofs.line.put_counted.Tie as tie
 
-put-bytes-requires : tie.Need-put-bytes-requires
-put-bytes-requires c κs = search needs
-
-put-decimal-requires : tie.Need-put-decimal-requires
-put-decimal-requires c κs = search needs
-
-same-length : tie.Need-same-length
-same-length c = search needs
-
 returns : tie.Need-returns
 returns c = (then (c .before .before .before .before .before .before .put-bytes .ensures) (c .before .before .put-decimal .ensures .0), search needs)
 
 pub put-counted-spec : {M : Type 1} → statement M
-put-counted-spec = tie.close (tie.spec put-bytes-requires put-decimal-requires same-length returns)
+put-counted-spec = tie.close (tie.spec (λ c κs. search needs) (λ c κs. search needs) (λ c. search needs) returns)

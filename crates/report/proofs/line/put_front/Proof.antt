@@ -14,18 +14,6 @@ put-shown-requires c κs =
     let e = length-take-le (c .before .before .before .before .before .args .size) (c .before .before .before .before .before .args .out .now) (search needs) in
     omega (arith, e)
 
-same-length : tie.Need-same-length
-same-length c = search needs
-
-returns : tie.Need-returns
-returns c = search needs
-
-put-shown-requires-2 : tie.Need-put-shown-requires-2
-put-shown-requires-2 c κs = search needs
-
-same-length-2 : tie.Need-same-length-2
-same-length-2 c = search needs
-
 returns-2 : tie.Need-returns-2
 returns-2 c = rw (take-all (c .before .before .before .before .before .before .before .args .size) (c .before .before .before .before .before .before .before .args .out .now) (c .before .before .before .before .if1 .left)) (c .before .before .put-shown2 .ensures)
 
@@ -35,8 +23,8 @@ put-front-spec =
     (tie.spec
     slice-aggregate-put-shown
     put-shown-requires
-    same-length
-    returns
-    put-shown-requires-2
-    same-length-2
+    (λ c. search needs)
+    (λ c. search needs)
+    (λ c κs. search needs)
+    (λ c. search needs)
     returns-2)

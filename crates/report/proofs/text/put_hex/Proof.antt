@@ -16,38 +16,11 @@ Inv-loop line₀ at s next₀ i₀ line next i = (i ≤ length s) × (next ≡ a
 abbrev μ-loop : tie.MeasureT-loop
 μ-loop line₀ at s next₀ i₀ line next i = length s - i
 
-loop-holds : tie.Need-loop-holds Inv-loop μ-loop
-loop-holds c = search needs
-
-shared-slice-read-wide : tie.Need-shared-slice-read-wide Inv-loop μ-loop
-shared-slice-read-wide c = search needs
-
-wide-requires : tie.Need-wide-requires Inv-loop μ-loop
-wide-requires c κs = search needs
-
 glyph-requires : tie.Need-glyph-requires Inv-loop μ-loop
 glyph-requires c κs = omega (arith, c .wide .ensures, c .before .shared-slice-known2 .given (c .before .before .before .loop .i))
 
-slice-write-line : tie.Need-slice-write-line Inv-loop μ-loop
-slice-write-line c = search needs
-
-glyph-requires-2 : tie.Need-glyph-requires-2 Inv-loop μ-loop
-glyph-requires-2 c κs = omega arith
-
-add-line : tie.Need-add-line Inv-loop μ-loop
-add-line c = search needs
-
 slice-write-line-2 : tie.Need-slice-write-line-2 Inv-loop μ-loop
 slice-write-line-2 c = simp length-set (omega arith)
-
-add-next : tie.Need-add-next Inv-loop μ-loop
-add-next c = search needs
-
-add-i : tie.Need-add-i Inv-loop μ-loop
-add-i c = search needs
-
-loop-less : tie.Need-loop-less Inv-loop μ-loop
-loop-less c = search needs
 
 loop-again : tie.Need-loop-again Inv-loop μ-loop
 loop-again c =
@@ -58,9 +31,6 @@ loop-again c =
       simp length-set (h .inv .2),
       hex-turn (h .line) (h .next) (h .i) _ _ _ (a .s .now) (search needs) (c .before .before .wide .ensures) (c .before .glyph .ensures) (c .glyph2 .ensures) ∙ h .inv .3,
     )
-
-same-length : tie.Need-same-length Inv-loop μ-loop
-same-length c = search needs
 
 returns : tie.Need-returns Inv-loop μ-loop
 returns c =
@@ -74,17 +44,17 @@ put-hex-spec =
     (tie.spec
     Inv-loop
     μ-loop
-    loop-holds
-    shared-slice-read-wide
-    wide-requires
+    (λ c. search needs)
+    (λ c. search needs)
+    (λ c κs. search needs)
     glyph-requires
-    slice-write-line
-    glyph-requires-2
-    add-line
+    (λ c. search needs)
+    (λ c κs. omega arith)
+    (λ c. search needs)
     slice-write-line-2
-    add-next
-    add-i
-    loop-less
+    (λ c. search needs)
+    (λ c. search needs)
+    (λ c. search needs)
     loop-again
-    same-length
+    (λ c. search needs)
     returns)

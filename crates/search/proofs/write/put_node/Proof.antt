@@ -16,12 +16,6 @@ use Rattle.search.proofs.write.put_node.Lts as lts
 use Rattle.strip.proofs.bits.put_field.Reads as put-field-reads
 use Rattle.strip.proofs.bits.set_bit.Reads as set-bit-reads
 
-set-bit-requires : tie.Need-set-bit-requires
-set-bit-requires c κs = search needs
-
-add-put-field : tie.Need-add-put-field
-add-put-field c = search needs
-
 rest : (l l′ : List ℕ) (at : ℕ) → l′ ≡ set l at 1 → Clear l at → (k : ℕ) → getD l′ (at + 1 + k) 0 ≡ 0
 rest l l′ at e z k = rw e (getD-set-other l at (at + 1 + k) 1 0 (λ q. omega arith) ∙ z (at + 1 + k) (omega arith))
 
@@ -30,9 +24,6 @@ put-field-requires c κs =
     let a = c .before .before .before .before .before .before in
     let b = c .before .before .before .set-bit in
     (omega arith, (omega arith, (omega arith, λ k l. rest (bits (a .args .d .now)) _ _ (b .ensures) (a .pre .1) k)))
-
-same-length : tie.Need-same-length
-same-length c = search needs
 
 both : (l₀ l₁ l₂ : List ℕ) (at n v : ℕ) → l₁ ≡ set l₀ at 1 → l₂ ≡ sets l₁ (at + 1) (digits n v) → l₂ ≡ sets (set l₀ at 1) (suc at) (digits n v)
 both l₀ l₁ l₂ at n v p q = rw (← p, ← (add-one at)) q
@@ -44,4 +35,4 @@ returns c =
 
 pub put-node-spec : {M : Type 1} → statement M
 put-node-spec =
-    tie.close (tie.spec set-bit-requires add-put-field put-field-requires same-length returns)
+    tie.close (tie.spec (λ c κs. search needs) (λ c. search needs) put-field-requires (λ c. search needs) returns)

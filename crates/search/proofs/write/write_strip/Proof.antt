@@ -3,7 +3,6 @@ use mathlib.Core.Path.{refl}
 use Prim.Native.Nat.{_+_}
 use native.Mathlib.Omega.{arith}
 use lib.ListN.{length}
-use Rattle.strip.specs.Bits.{bits}
 use Rattle.search.specs.Ranks.{treeOfRank}
 use Rattle.search.proofs.StripLaws.{cleared, after-version, after-head, strip-size, strip-written}
 use borrow.Author.Needs.{needs}
@@ -14,9 +13,6 @@ use Rattle.search.proofs.write.write_strip.Lts as lts
 use Rattle.search.proofs.write.write_tree.Reads as write-tree-reads
 use Rattle.strip.proofs.bits.clear.Reads as clear-reads
 use Rattle.strip.proofs.bits.put_field.Reads as put-field-reads
-
-clear-requires : tie.Need-clear-requires
-clear-requires c κs = search needs
 
 put-field-requires : tie.Need-put-field-requires
 put-field-requires c κs =
@@ -60,9 +56,6 @@ write-tree-requires c κs =
     let z = after-head (a .out .now) (w .last .0) (length (a .out .now)) (w .ensures) refl (v .last .0) (v .ensures) (a .n) (u .last .0) (u .ensures) in
     ((omega arith, omega arith, omega arith, omega arith), (h .1 .0, (omega arith, z)))
 
-same-length : tie.Need-same-length
-same-length c = search needs
-
 returns : tie.Need-returns
 returns c =
     let st = c .before .before .before .before .before .before .before .before .before .before .before .before .before .before .before .before .before in
@@ -79,9 +72,9 @@ pub write-strip-spec : {M : Type 1} → statement M
 write-strip-spec =
     tie.close
     (tie.spec
-    clear-requires
+    (λ c κs. search needs)
     put-field-requires
     put-field-requires-2
     write-tree-requires
-    same-length
+    (λ c. search needs)
     returns)

@@ -11,18 +11,6 @@ use Rattle.strip.proofs.Fields.{bits-at}
 use Rattle.strip.proofs.bits.bit_at.Statement.{statement}
 use Rattle.strip.proofs.bits.bit_at.Tie as tie
 
-shared-slice-read-result : tie.Need-shared-slice-read-result
-shared-slice-read-result c = search needs
-
-sub-result : tie.Need-sub-result
-sub-result c = search needs
-
-cast-result : tie.Need-cast-result
-cast-result c = search needs
-
-shr-result : tie.Need-shr-result
-shr-result c = search needs
-
 read : (s : List ℕ) (at : ℕ) → at < 8 * length s → bit (7 - at % 8) (getD s (at / 8) 0) ≡ getD (bits s) at 0
 read s at h =
     let e : 8 * (at / 8) + at % 8 ≡ at = omega arith in
@@ -33,4 +21,4 @@ returns c = (read _ _ (c .before .pre), search needs)
 
 pub bit-at-spec : {M : Type 1} → statement M
 bit-at-spec =
-    tie.close (tie.spec shared-slice-read-result sub-result cast-result shr-result returns)
+    tie.close (tie.spec (λ c. search needs) (λ c. search needs) (λ c. search needs) (λ c. search needs) returns)

@@ -17,24 +17,6 @@ use Rattle.strip.proofs.bits.field_at.Reads as reads
 use Rattle.strip.proofs.bits.field_at.Lts as lts
 use Rattle.strip.proofs.bits.wide.Reads as wide-reads
 
-shared-slice-read-wide : tie.Need-shared-slice-read-wide
-shared-slice-read-wide c = search needs
-
-wide-requires : tie.Need-wide-requires
-wide-requires c κs = search needs
-
-add-if1 : tie.Need-add-if1
-add-if1 c = search needs
-
-add-wide : tie.Need-add-wide
-add-wide c = search needs
-
-shared-slice-read-wide-2 : tie.Need-shared-slice-read-wide-2
-shared-slice-read-wide-2 c = search needs
-
-wide-requires-2 : tie.Need-wide-requires-2
-wide-requires-2 c κs = search needs
-
 -- both bytes; past the end stands 0
 hi-is : (c : tie.Joined1) → c .before .wide .result ≡ getD (c .before .before .before .before .args .s .now) (c .before .before .before .before .args .at / 8) 0
 hi-is c = c .before .wide .ensures
@@ -57,18 +39,6 @@ mul-result c = omega (arith, hi-is c, byte c (c .before .before .before .before 
 add-result : tie.Need-add-result
 add-result c = let a = c .before .before .before .before .before .args in omega (arith, hi-is (c .before), byte (c .before) (a .at / 8), lo-is (c .before), byte (c .before) (a .at / 8 + 1))
 
-sub-result : tie.Need-sub-result
-sub-result c = search needs
-
-sub-result-2 : tie.Need-sub-result-2
-sub-result-2 c = search needs
-
-shr-result : tie.Need-shr-result
-shr-result c = search needs
-
-shl-result : tie.Need-shl-result
-shl-result c = search needs
-
 rem-result : tie.Need-rem-result
 rem-result c = let b = c .before .before .before .before .before .args .b in rw (pow-is b (omega arith)) (pow-pos b)
 
@@ -87,17 +57,17 @@ pub field-at-spec : {M : Type 1} → statement M
 field-at-spec =
     tie.close
     (tie.spec
-    shared-slice-read-wide
-    wide-requires
-    add-if1
-    add-wide
-    shared-slice-read-wide-2
-    wide-requires-2
+    (λ c. search needs)
+    (λ c κs. search needs)
+    (λ c. search needs)
+    (λ c. search needs)
+    (λ c. search needs)
+    (λ c κs. search needs)
     mul-result
     add-result
-    sub-result
-    sub-result-2
-    shr-result
-    shl-result
+    (λ c. search needs)
+    (λ c. search needs)
+    (λ c. search needs)
+    (λ c. search needs)
     rem-result
     returns)

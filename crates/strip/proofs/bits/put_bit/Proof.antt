@@ -5,19 +5,12 @@ use Prim.Native.Nat.{ℕ, _<_}
 use native.Mathlib.Omega.{arith}
 use lib.ListN.{getD, set}
 use lib.Seq.{set-getD}
-use Rattle.strip.specs.Bits.{bits}
 use borrow.Author.Needs.{needs}
 use Rattle.strip.proofs.bits.put_bit.Statement.{statement}
 use Rattle.strip.proofs.bits.put_bit.Tie as tie
 use Rattle.strip.proofs.bits.put_bit.Reads as reads
 use Rattle.strip.proofs.bits.put_bit.Lts as lts
 use Rattle.strip.proofs.bits.set_bit.Reads as set-bit-reads
-
-set-bit-requires : tie.Need-set-bit-requires
-set-bit-requires c κs = search needs
-
-same-length : tie.Need-same-length
-same-length c = search needs
 
 returns : tie.Need-returns
 returns c = rw (c .before .before .before .before .if1 .taken) (c .before .before .set-bit .ensures)
@@ -30,4 +23,4 @@ returns-2 : tie.Need-returns-2
 returns-2 c = kept _ _ _ (c .before .before .pre .1 .0) (c .before .before .pre .1 .1) (c .if1 .left)
 
 pub put-bit-spec : {M : Type 1} → statement M
-put-bit-spec = tie.close (tie.spec set-bit-requires same-length returns returns-2)
+put-bit-spec = tie.close (tie.spec (λ c κs. search needs) (λ c. search needs) returns returns-2)

@@ -22,18 +22,6 @@ abbrev μ-loop : tie.MeasureT-loop
 loop-holds : tie.Need-loop-holds Inv-loop μ-loop
 loop-holds c = (omega arith, refl, refl)
 
-add-put-bit : tie.Need-add-put-bit Inv-loop μ-loop
-add-put-bit c = omega arith
-
-sub-put-bit : tie.Need-sub-put-bit Inv-loop μ-loop
-sub-put-bit c = omega arith
-
-sub-put-bit-2 : tie.Need-sub-put-bit-2 Inv-loop μ-loop
-sub-put-bit-2 c = omega arith
-
-shr-put-bit : tie.Need-shr-put-bit Inv-loop μ-loop
-shr-put-bit c = omega arith
-
 put-bit-requires : tie.Need-put-bit-requires Inv-loop μ-loop
 put-bit-requires c κs = (
   omega arith,
@@ -43,12 +31,6 @@ put-bit-requires c κs = (
     omega arith,
   ),
 )
-
-add-k : tie.Need-add-k Inv-loop μ-loop
-add-k c = omega arith
-
-loop-less : tie.Need-loop-less Inv-loop μ-loop
-loop-less c = omega arith
 
 turn : (l₀ l l′ : List ℕ) (at b v k : ℕ) → k < b → l ≡ sets l₀ at (take k (digits b v)) → l′ ≡ set l (at + k) (v / 2 ^ (b - 1 - k) % 2)
     → l′ ≡ sets l₀ at (take (k + 1) (digits b v))
@@ -61,9 +43,6 @@ loop-again c =
       omega (arith, c .before .before .put-bit .kept .0),
       turn _ _ _ _ _ _ _ (c .before .before .before .before .loop-test .taken) (a .loop .inv .2) (c .before .before .put-bit .ensures),
     )
-
-same-length : tie.Need-same-length Inv-loop μ-loop
-same-length c = omega arith
 
 returns : tie.Need-returns Inv-loop μ-loop
 returns c =
@@ -78,13 +57,13 @@ put-field-spec =
     Inv-loop
     μ-loop
     loop-holds
-    add-put-bit
-    sub-put-bit
-    sub-put-bit-2
-    shr-put-bit
+    (λ c. omega arith)
+    (λ c. omega arith)
+    (λ c. omega arith)
+    (λ c. omega arith)
     put-bit-requires
-    add-k
-    loop-less
+    (λ c. omega arith)
+    (λ c. omega arith)
     loop-again
-    same-length
+    (λ c. omega arith)
     returns)

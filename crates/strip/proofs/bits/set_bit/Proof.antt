@@ -14,24 +14,6 @@ use Rattle.strip.proofs.Fields.{bits-set}
 use Rattle.strip.proofs.bits.set_bit.Statement.{statement}
 use Rattle.strip.proofs.bits.set_bit.Tie as tie
 
-slice-read-d : tie.Need-slice-read-d
-slice-read-d c = search needs
-
-sub-d : tie.Need-sub-d
-sub-d c = search needs
-
-cast-d : tie.Need-cast-d
-cast-d c = search needs
-
-shl-d : tie.Need-shl-d
-shl-d c = search needs
-
-slice-write-d : tie.Need-slice-write-d
-slice-write-d c = search needs
-
-same-length : tie.Need-same-length
-same-length c = search needs
-
 stored : (d : List ℕ) (at : ℕ) → at < 8 * length d
     → bits (set d (at / 8) (bitOr (getD d (at / 8) 0) ((1 * 2 ^ (7 - at % 8)) % 256))) ≡ set (bits d) at 1
 stored d at h =
@@ -44,4 +26,4 @@ returns c = stored _ _ (c .before .pre)
 
 pub set-bit-spec : {M : Type 1} → statement M
 set-bit-spec =
-    tie.close (tie.spec slice-read-d sub-d cast-d shl-d slice-write-d same-length returns)
+    tie.close (tie.spec (λ c. search needs) (λ c. search needs) (λ c. search needs) (λ c. search needs) (λ c. search needs) (λ c. search needs) returns)

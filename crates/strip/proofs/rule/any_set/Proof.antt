@@ -20,20 +20,11 @@ abbrev μ-loop : tie.MeasureT-loop
 loop-holds : tie.Need-loop-holds Inv-loop μ-loop
 loop-holds c = (search needs, refl)
 
-bit-at-requires : tie.Need-bit-at-requires Inv-loop μ-loop
-bit-at-requires c κs = omega arith
-
 returns : tie.Need-returns Inv-loop μ-loop
 returns c =
     let b = c .before .before .before in
     let s = b .before .before .args .s .now in
     sym (b .loop .inv .1 ∙ set-here (bits s) (b .loop .at) (omega (arith, length-bits s)) (λ e. c .if1 .taken (c .before .bit-at .ensures .0 ∙ e)))
-
-add-at : tie.Need-add-at Inv-loop μ-loop
-add-at c = omega arith
-
-loop-less : tie.Need-loop-less Inv-loop μ-loop
-loop-less c = omega arith
 
 loop-again : tie.Need-loop-again Inv-loop μ-loop
 loop-again c =
@@ -49,4 +40,4 @@ returns-2 c =
 
 pub any-set-spec : {M : Type 1} → statement M
 any-set-spec =
-    tie.close (tie.spec Inv-loop μ-loop (λ c. search needs) loop-holds bit-at-requires returns add-at loop-less loop-again returns-2)
+    tie.close (tie.spec Inv-loop μ-loop (λ c. search needs) loop-holds (λ c κs. omega arith) returns (λ c. omega arith) (λ c. omega arith) loop-again returns-2)

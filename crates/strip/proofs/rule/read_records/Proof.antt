@@ -15,36 +15,15 @@ abbrev μ-loop : tie.MeasureT-loop
 loop-holds : tie.Need-loop-holds Inv-loop μ-loop
 loop-holds c = reach-first _ _ _ (c .before .pre .1 .0)
 
-add-loop : tie.Need-add-loop Inv-loop μ-loop
-add-loop c = omega arith
-
-read-record-requires : tie.Need-read-record-requires Inv-loop μ-loop
-read-record-requires c κs = omega arith
-
-enum-known-r : tie.Need-enum-known-r Inv-loop μ-loop
-enum-known-r c = search needs
-
-enum-told : tie.Need-enum-told Inv-loop μ-loop
-enum-told c = search needs
-
 returns : tie.Need-returns Inv-loop μ-loop
 returns c =
     let b = c .before .before .before .before in
     reach-refused _ _ _ _ _ (b .loop .inv) _ (c .before .before .read-record .ensures) _ (c .enum-told .given .1)
 
-add-i : tie.Need-add-i Inv-loop μ-loop
-add-i c = omega arith
-
-loop-less : tie.Need-loop-less Inv-loop μ-loop
-loop-less c = omega arith
-
 loop-again : tie.Need-loop-again Inv-loop μ-loop
 loop-again c =
     let b = c .before .before .before .before in
     reach-next _ _ _ _ _ (b .before .loop .inv) _ (c .before .before .before .read-record .ensures) _ _ _ _ (c .before .r .given .1) (b .loop-test .taken)
-
-read-record-requires-2 : tie.Need-read-record-requires-2 Inv-loop μ-loop
-read-record-requires-2 c κs = omega arith
 
 returns-2 : tie.Need-returns-2 Inv-loop μ-loop
 returns-2 c = reach-last _ _ _ _ _ (c .before .before .loop .inv) _ (c .read-record2 .ensures) (c .before .loop-test .left)
@@ -56,13 +35,13 @@ read-records-spec =
     Inv-loop
     μ-loop
     loop-holds
-    add-loop
-    read-record-requires
-    enum-known-r
-    enum-told
+    (λ c. omega arith)
+    (λ c κs. omega arith)
+    (λ c. search needs)
+    (λ c. search needs)
     returns
-    add-i
-    loop-less
+    (λ c. omega arith)
+    (λ c. omega arith)
     loop-again
-    read-record-requires-2
+    (λ c κs. omega arith)
     returns-2)

@@ -4,15 +4,6 @@ use Rattle.strip.proofs.TreeEnd.{end-refused, end-room, end-over, end-c
 use Rattle.strip.proofs.tree.check_bits.Statement.{statement}
 use Rattle.strip.proofs.tree.check_bits.Tie as tie
 
-read-tree-requires : tie.Need-read-tree-requires
-read-tree-requires c κs = search needs
-
-enum-known-k : tie.Need-enum-known-k
-enum-known-k c = search needs
-
-enum-known-met : tie.Need-enum-known-met
-enum-known-met c = search needs
-
 left-over-requires : tie.Need-left-over-requires
 left-over-requires c κs =
     let b = c .before .before .before .before .before in
@@ -43,9 +34,9 @@ pub check-bits-spec : {M : Type 1} → statement M
 check-bits-spec =
     tie.close
     (tie.spec
-    read-tree-requires
-    enum-known-k
-    enum-known-met
+    (λ c κs. search needs)
+    (λ c. search needs)
+    (λ c. search needs)
     left-over-requires
     returns
     returns-2

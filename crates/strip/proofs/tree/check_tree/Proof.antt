@@ -43,14 +43,8 @@ module _ (s : List ℕ) where
 returns : tie.Need-returns
 returns c = no-bytes (c .before .before .args .s .now) (c .if1 .taken)
 
-field-at-requires : tie.Need-field-at-requires
-field-at-requires c κs = search needs
-
 returns-2 : tie.Need-returns-2
 returns-2 c = let f = c .before .field-at in bad-version (c .before .before .before .before .args .s .now) (c .before .before .if1 .left) (f .result) (f .ensures) (c .if2 .taken)
-
-field-at-requires-2 : tie.Need-field-at-requires-2
-field-at-requires-2 c κs = search needs
 
 returns-3 : tie.Need-returns-3
 returns-3 c =
@@ -67,9 +61,6 @@ returns-4 c =
     many-variables (b .before .before .before .before .args .s .now) (b .before .before .if1 .left) (f .result) (f .ensures) (b .if2 .left) (g .result) (g .ensures)
     (c .before .if3 .left) (c .if4 .taken)
 
-check-bits-requires : tie.Need-check-bits-requires
-check-bits-requires c κs = search needs
-
 returns-5 : tie.Need-returns-5
 returns-5 c =
     let b = c .before .before .before .before in
@@ -83,10 +74,10 @@ check-tree-spec =
     tie.close
     (tie.spec
     returns
-    field-at-requires
+    (λ c κs. search needs)
     returns-2
-    field-at-requires-2
+    (λ c κs. search needs)
     returns-3
     returns-4
-    check-bits-requires
+    (λ c κs. search needs)
     returns-5)

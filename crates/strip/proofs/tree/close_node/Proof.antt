@@ -20,15 +20,6 @@ module _ (label met all next : ℕ) (r : TreeRead) (e : r ≡ Tree all next) whe
   labelled : (label ≡ 0 → ⊥) → Tree all next ≡ closed label met r
   labelled p = rw (e, ne-eqb label 0 p) refl
 
-enum-known-second : tie.Need-enum-known-second
-enum-known-second c = search needs
-
-enum-told : tie.Need-enum-told
-enum-told c = search needs
-
-returns : tie.Need-returns
-returns c = search needs
-
 returns-2 : tie.Need-returns-2
 returns-2 c = bare _ _ _ _ _ (c .before .before .before .second .given .1) (c .before .if1 .taken) (c .if2 .taken)
 
@@ -40,4 +31,4 @@ returns-4 c = labelled _ _ _ _ _ (c .before .before .second .given .1) (c .if1 .
 
 pub close-node-spec : {M : Type 1} → statement M
 close-node-spec =
-    tie.close (tie.spec enum-known-second enum-told returns returns-2 returns-3 returns-4)
+    tie.close (tie.spec (λ c. search needs) (λ c. search needs) (λ c. search needs) returns-2 returns-3 returns-4)

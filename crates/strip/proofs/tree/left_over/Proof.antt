@@ -4,20 +4,11 @@ use Rattle.strip.proofs.TreeEnd.{byte-left, none-left, bits-left}
 use Rattle.strip.proofs.tree.left_over.Statement.{statement}
 use Rattle.strip.proofs.tree.left_over.Tie as tie
 
-add-if1 : tie.Need-add-if1
-add-if1 c = search needs
-
 returns : tie.Need-returns
 returns c = let a = c .before .before .args in byte-left (a .s .now) (a .at) (c .if1 .taken)
 
 returns-2 : tie.Need-returns-2
 returns-2 c = let a = c .before .before .before .args in none-left (a .s .now) (a .at) (c .before .if1 .left) (c .if2 .taken)
-
-sub-field-at : tie.Need-sub-field-at
-sub-field-at c = search needs
-
-field-at-requires : tie.Need-field-at-requires
-field-at-requires c κs = search needs
 
 returns-3 : tie.Need-returns-3
 returns-3 c =
@@ -26,4 +17,4 @@ returns-3 c =
 
 pub left-over-spec : {M : Type 1} → statement M
 left-over-spec =
-    tie.close (tie.spec add-if1 returns returns-2 sub-field-at field-at-requires returns-3)
+    tie.close (tie.spec (λ c. search needs) returns returns-2 (λ c. search needs) (λ c κs. search needs) returns-3)

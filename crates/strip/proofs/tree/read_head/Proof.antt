@@ -40,36 +40,15 @@ module _ (s : List ℕ) (n met at : ℕ) where
 returns : tie.Need-returns
 returns c = bits-end _ _ _ _ (c .if1 .taken)
 
-bit-at-requires : tie.Need-bit-at-requires
-bit-at-requires c κs = search needs
-
-add-t9 : tie.Need-add-t9
-add-t9 c = search needs
-
 returns-2 : tie.Need-returns-2
 returns-2 c = no-node _ _ _ _ _ (c .before .before .if1 .left) (c .before .bit-at .ensures .0) (c .if2 .taken)
 
 returns-3 : tie.Need-returns-3
 returns-3 c = many _ _ _ _ _ (c .before .before .before .if1 .left) (c .before .before .bit-at .ensures .0) (c .before .if2 .left) (c .if3 .taken)
 
-add-if4 : tie.Need-add-if4
-add-if4 c = search needs
-
 returns-4 : tie.Need-returns-4
 returns-4 c =
     label-end _ _ _ _ _ (c .before .before .before .before .if1 .left) (c .before .before .before .bit-at .ensures .0) (c .before .before .if2 .left) (c .before .if3 .left) (c .if4 .taken)
-
-add-field-at : tie.Need-add-field-at
-add-field-at c = search needs
-
-field-at-requires : tie.Need-field-at-requires
-field-at-requires c κs = search needs
-
-add-t10 : tie.Need-add-t10
-add-t10 c = search needs
-
-add-t12 : tie.Need-add-t12
-add-t12 c = search needs
 
 returns-5 : tie.Need-returns-5
 returns-5 c =
@@ -81,14 +60,14 @@ read-head-spec =
     tie.close
     (tie.spec
     returns
-    bit-at-requires
-    add-t9
+    (λ c κs. search needs)
+    (λ c. search needs)
     returns-2
     returns-3
-    add-if4
+    (λ c. search needs)
     returns-4
-    add-field-at
-    field-at-requires
-    add-t10
-    add-t12
+    (λ c. search needs)
+    (λ c κs. search needs)
+    (λ c. search needs)
+    (λ c. search needs)
     returns-5)

@@ -4,71 +4,29 @@ use borrow.Author.Needs.{needs}
 use Rattle.vectors.proofs.requests.check_tree.Statement.{statement}
 use Rattle.vectors.proofs.requests.check_tree.Tie as tie
 
-slice-aggregate-bytes-at : tie.Need-slice-aggregate-bytes-at
-slice-aggregate-bytes-at c = search needs
-
-bytes-at-requires : tie.Need-bytes-at-requires
-bytes-at-requires c κs = search needs
-
-enum-known-f : tie.Need-enum-known-f
-enum-known-f c = search needs
-
-enum-told : tie.Need-enum-told
-enum-told c = search needs
-
-put-bad-requires : tie.Need-put-bad-requires
-put-bad-requires c κs = search needs
-
-same-length : tie.Need-same-length
-same-length c = search needs
-
-returns : tie.Need-returns
-returns c = search needs
-
-put-bad-requires-2 : tie.Need-put-bad-requires-2
-put-bad-requires-2 c κs = search needs
-
-same-length-2 : tie.Need-same-length-2
-same-length-2 c = search needs
-
-returns-2 : tie.Need-returns-2
-returns-2 c = search needs
-
 array-share-prefix-tree : tie.Need-array-share-prefix-tree
 array-share-prefix-tree c = taken _ _ _ _ (c .before .before .f .given .1) (c .before .before .before .before .before .bytes-at .ensures) .0
 
 slice-aggregate-check-tree : tie.Need-slice-aggregate-check-tree
 slice-aggregate-check-tree c = taken _ _ _ _ (c .before .before .before .f .given .1) (c .before .before .before .before .before .before .bytes-at .ensures) .1
 
-check-tree-requires : tie.Need-check-tree-requires
-check-tree-requires c κs = search needs
-
-tell-tree-requires : tie.Need-tell-tree-requires
-tell-tree-requires c κs = search needs
-
-same-length-3 : tie.Need-same-length-3
-same-length-3 c = search needs
-
-returns-3 : tie.Need-returns-3
-returns-3 c = search needs
-
 pub check-tree-spec : {M : Type 1} → statement M
 check-tree-spec =
     tie.close
     (tie.spec
-    slice-aggregate-bytes-at
-    bytes-at-requires
-    enum-known-f
-    enum-told
-    put-bad-requires
-    same-length
-    returns
-    put-bad-requires-2
-    same-length-2
-    returns-2
+    (λ c. search needs)
+    (λ c κs. search needs)
+    (λ c. search needs)
+    (λ c. search needs)
+    (λ c κs. search needs)
+    (λ c. search needs)
+    (λ c. search needs)
+    (λ c κs. search needs)
+    (λ c. search needs)
+    (λ c. search needs)
     array-share-prefix-tree
     slice-aggregate-check-tree
-    check-tree-requires
-    tell-tree-requires
-    same-length-3
-    returns-3)
+    (λ c κs. search needs)
+    (λ c κs. search needs)
+    (λ c. search needs)
+    (λ c. search needs))

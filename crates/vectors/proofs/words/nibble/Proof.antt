@@ -15,9 +15,6 @@ returns-2 c = (rw (le-ltb _ _ (c .before .if1 .left), le-leb _ _ (c .if2 .taken)
 returns-3 : tie.Need-returns-3
 returns-3 c = (rw (le-ltb _ _ (c .before .before .if1 .left), lt-leb _ _ (c .before .if2 .left), lt-ltb _ _ (c .if3 .taken)) refl, omega arith)
 
-sub-result : tie.Need-sub-result
-sub-result c = search needs
-
 returns-4 : tie.Need-returns-4
 returns-4 c = (rw (le-ltb _ _ (c .before .before .before .if1 .left), lt-leb _ _ (c .before .before .if2 .left), le-ltb _ _ (c .before .if3 .left), le-leb _ _ (c .if4 .taken)) refl, omega arith)
 
@@ -25,4 +22,4 @@ returns-5 : tie.Need-returns-5
 returns-5 c = (rw (le-ltb _ _ (c .before .before .before .if1 .left), lt-leb _ _ (c .before .before .if2 .left), le-ltb _ _ (c .before .if3 .left), lt-leb _ _ (c .if4 .left)) refl, omega arith)
 
 pub nibble-spec : {M : Type 1} → statement M
-nibble-spec = tie.close (tie.spec returns returns-2 returns-3 sub-result returns-4 returns-5)
+nibble-spec = tie.close (tie.spec returns returns-2 returns-3 (λ c. search needs) returns-4 returns-5)

@@ -38,9 +38,6 @@ slice-aggregate-write-strip c =
     let k = shown-room (st .args .n) (st .args .v) (st .args .out .now) (search needs) (search needs) (search needs) (st .pre .1) (st .pre .2) in
     sym (length-take-le (c .before .strip-bytes .result) (st .args .out .now) (rw (c .before .strip-bytes .ensures, k .0) (k .2)))
 
-sub-write-strip : tie.Need-sub-write-strip
-sub-write-strip c = search needs
-
 write-strip-requires : tie.Need-write-strip-requires
 write-strip-requires c κs =
     let st = c .before .before .before .before .before .before .before .before .before .before .before .before .before in
@@ -54,9 +51,6 @@ write-strip-requires c κs =
         ),
       ),
     )
-
-same-length : tie.Need-same-length
-same-length c = search needs
 
 returns-4 : tie.Need-returns-4
 returns-4 c =
@@ -73,7 +67,7 @@ conclude-spec =
     strip-bytes-requires
     slice-relend-prefix-write-strip
     slice-aggregate-write-strip
-    sub-write-strip
+    (λ c. search needs)
     write-strip-requires
-    same-length
+    (λ c. search needs)
     returns-4)

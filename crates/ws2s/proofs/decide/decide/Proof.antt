@@ -10,15 +10,6 @@ use Rattle.ws2s.proofs.decide.decide.Lts as lts
 use Rattle.strip.proofs.rule.check_rule.Reads as check-rule-reads
 use Rattle.ws2s.proofs.decide.decide_accepted.Reads as decide-accepted-reads
 
-check-rule-requires : tie.Need-check-rule-requires
-check-rule-requires c κs = search needs
-
-enum-known-k : tie.Need-enum-known-k
-enum-known-k c = search needs
-
-enum-known-variables : tie.Need-enum-known-variables
-enum-known-variables c = search needs
-
 decide-accepted-requires : tie.Need-decide-accepted-requires
 decide-accepted-requires c κs =
     let a = c .before .before .before .before .before .before .before .before .before .args in
@@ -31,12 +22,6 @@ returns c =
     let e = ends-refused (a .rule .now) (a .c) (a .p) (a .ws .now) (a .out .now) _ (w .0) (w .1) in
     (e .0, (e .1, (e .2, claim (a .rule .now) (a .c) (a .p) (a .ws .now) (a .out .now) _ (e .0) _ (e .2))))
 
-same-length : tie.Need-same-length
-same-length c = search needs
-
-same-length-2 : tie.Need-same-length-2
-same-length-2 c = search needs
-
 returns-2 : tie.Need-returns-2
 returns-2 c =
     let a = c .before .before .before .before .before .before .before .before .before .before .before .before .before .before .args in
@@ -47,11 +32,11 @@ pub decide-spec : {M : Type 1} → statement M
 decide-spec =
     tie.close
     (tie.spec
-    check-rule-requires
-    enum-known-k
-    enum-known-variables
+    (λ c κs. search needs)
+    (λ c. search needs)
+    (λ c. search needs)
     decide-accepted-requires
     returns
-    same-length
-    same-length-2
+    (λ c. search needs)
+    (λ c. search needs)
     returns-2)

@@ -45,12 +45,6 @@ conclude-requires c κs =
     let v = c .before .before .before .solve-rule in
     (omega (arith, f .few-variables, h .1), v .ensures .0 .1, spacious (a .rule .now) (a .c) (a .p) (a .ws .now) (a .out .now) (a .n) (a .m) (h .0) (h .1) (h .2) (r .result) (r .ensures) (search needs) (v .result) (v .ensures .0 .0))
 
-same-length : tie.Need-same-length
-same-length c = search needs
-
-same-length-2 : tie.Need-same-length-2
-same-length-2 c = search needs
-
 returns-2 : tie.Need-returns-2
 returns-2 c =
     let st = c .before .before .before .before .before .before .before .before .before .before .before .before .before in
@@ -70,6 +64,6 @@ decide-accepted-spec =
     returns
     solve-rule-requires
     conclude-requires
-    same-length
-    same-length-2
+    (λ c. search needs)
+    (λ c. search needs)
     returns-2)

@@ -12,14 +12,8 @@ use Rattle.ws2s.proofs.room.work_refusal.Reads as work-refusal-reads
 returns : tie.Need-returns
 returns c = room-places _ _ _ _ _ _ (c .if1 .taken)
 
-work-refusal-requires : tie.Need-work-refusal-requires
-work-refusal-requires c κs = search needs
-
 returns-2 : tie.Need-returns-2
 returns-2 c = room-work _ _ _ _ _ _ (search needs) _ (c .before .work-refusal .ensures) (c .if2 .taken)
-
-strip-bytes-requires : tie.Need-strip-bytes-requires
-strip-bytes-requires c κs = search needs
 
 returns-3 : tie.Need-returns-3
 returns-3 c = room-short _ _ _ _ _ _ (search needs) _ (c .before .before .before .work-refusal .ensures) (search needs) (omega (arith, c .before .strip-bytes .ensures, c .if3 .taken))
@@ -30,4 +24,4 @@ returns-4 c = room-fits _ _ _ _ _ _ (search needs) _ (c .before .before .before 
 pub room-refusal-spec : {M : Type 1} → statement M
 room-refusal-spec =
     tie.close
-    (tie.spec returns work-refusal-requires returns-2 strip-bytes-requires returns-3 returns-4)
+    (tie.spec returns (λ c κs. search needs) returns-2 (λ c κs. search needs) returns-3 returns-4)

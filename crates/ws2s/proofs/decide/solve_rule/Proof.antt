@@ -13,9 +13,6 @@ use Rattle.ws2s.proofs.decode.decode.Reads as decode-reads
 use Rattle.ws2s.proofs.room.labels.Reads as labels-reads
 use Rattle.ws2s.proofs.room.needed.Reads as needed-reads
 
-decode-requires : tie.Need-decode-requires
-decode-requires c κs = search needs
-
 labels-requires : tie.Need-labels-requires
 labels-requires c κs =
     let st = c .before .before .before .before in
@@ -43,12 +40,6 @@ needed-requires c κs =
     let f = rule-accepted (a .rule .now) (h .0 .0) in
     (omega (arith, f .few-variables, h .0 .1), omega (arith, f .few-records, h .0 .2), h .1 .1)
 
-clear-requires : tie.Need-clear-requires
-clear-requires c κs = search needs
-
-same-length : tie.Need-same-length
-same-length c = search needs
-
 returns : tie.Need-returns
 returns c =
     let st = c .before .before .before .before .before .before .before .before .before .before .before .before .before in
@@ -65,10 +56,10 @@ pub solve-rule-spec : {M : Type 1} → statement M
 solve-rule-spec =
     tie.close
     (tie.spec
-    decode-requires
+    (λ c κs. search needs)
     labels-requires
     solve-requires
     needed-requires
-    clear-requires
-    same-length
+    (λ c κs. search needs)
+    (λ c. search needs)
     returns)

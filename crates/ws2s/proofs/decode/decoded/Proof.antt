@@ -15,15 +15,6 @@ use Rattle.ws2s.proofs.decode.decoded.Lts as lts
 use Rattle.ws2s.proofs.decode.kind_of.Reads as kind-of-reads
 use Rattle.ws2s.proofs.decode.weight_of.Reads as weight-of-reads
 
-kind-of-requires : tie.Need-kind-of-requires
-kind-of-requires c κs = search needs
-
-weight-of-requires : tie.Need-weight-of-requires
-weight-of-requires c κs = search needs
-
-weight-of-requires-2 : tie.Need-weight-of-requires-2
-weight-of-requires-2 c κs = search needs
-
 cast-wx : tie.Need-cast-wx
 cast-wx c = let a = c .before .before .args in rw (c .weight-of .ensures) (omega (arith, weight-byte (a .n) (a .first) (omega arith)))
 
@@ -47,4 +38,4 @@ returns-2 c = straight _ _ _ _ _ _ _ (c .before .before .before .kind-of .ensure
 
 pub decoded-spec : {M : Type 1} → statement M
 decoded-spec =
-    tie.close (tie.spec kind-of-requires weight-of-requires cast-wx weight-of-requires-2 cast-wy (λ c. search needs) (λ c. search needs) returns returns-2)
+    tie.close (tie.spec (λ c κs. search needs) (λ c κs. search needs) cast-wx (λ c κs. search needs) cast-wy (λ c. search needs) (λ c. search needs) returns returns-2)

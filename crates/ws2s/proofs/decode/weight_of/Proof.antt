@@ -10,15 +10,6 @@ use Rattle.refinement.specs.Decode.{weight}
 use Rattle.ws2s.proofs.decode.weight_of.Statement.{statement}
 use Rattle.ws2s.proofs.decode.weight_of.Tie as tie
 
-sub-result : tie.Need-sub-result
-sub-result c = search needs
-
-sub-result-2 : tie.Need-sub-result-2
-sub-result-2 c = search needs
-
-shl-result : tie.Need-shl-result
-shl-result c = search needs
-
 shifted : (n x : ℕ) → n ≤ 8 → x < n → (1 * 2 ^ (n - 1 - x)) % 18446744073709551616 ≡ weight n x
 shifted n x h k =
     let e : n - 1 - x ≡ n - suc x = omega arith in
@@ -34,4 +25,4 @@ returns-2 : tie.Need-returns-2
 returns-2 c = outside _ _ (c .if1 .left)
 
 pub weight-of-spec : {M : Type 1} → statement M
-weight-of-spec = tie.close (tie.spec sub-result sub-result-2 shl-result returns returns-2)
+weight-of-spec = tie.close (tie.spec (λ c. search needs) (λ c. search needs) (λ c. search needs) returns returns-2)

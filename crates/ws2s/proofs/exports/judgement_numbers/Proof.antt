@@ -6,18 +6,6 @@ use Rattle.ws2s.proofs.exports.judgement_numbers.Tie as tie
 use Rattle.ws2s.proofs.exports.judgement_numbers.Reads as reads
 use Rattle.ws2s.proofs.exports.judgement_numbers.Lts as lts
 
-enum-told : tie.Need-enum-told
-enum-told c = search needs
-
-enum-told-2 : tie.Need-enum-told-2
-enum-told-2 c = search needs
-
-enum-known-j : tie.Need-enum-known-j
-enum-known-j c = search needs
-
-enum-known-j-2 : tie.Need-enum-known-j-2
-enum-known-j-2 c = search needs
-
 returns : tie.Need-returns
 returns c = rw (c .enum-told .given .1) refl
 
@@ -34,10 +22,10 @@ pub judgement-numbers-spec : {M : Type 1} → statement M
 judgement-numbers-spec =
     tie.close
     (tie.spec
-    enum-told
-    enum-told-2
-    enum-known-j
-    enum-known-j-2
+    (λ c. search needs)
+    (λ c. search needs)
+    (λ c. search needs)
+    (λ c. search needs)
     returns
     returns-2
     returns-3

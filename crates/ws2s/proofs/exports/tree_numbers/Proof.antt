@@ -6,12 +6,6 @@ use Rattle.ws2s.proofs.exports.tree_numbers.Tie as tie
 use Rattle.ws2s.proofs.exports.tree_numbers.Reads as reads
 use Rattle.ws2s.proofs.exports.tree_numbers.Lts as lts
 
-enum-known-r : tie.Need-enum-known-r
-enum-known-r c = search needs
-
-enum-known-r-2 : tie.Need-enum-known-r-2
-enum-known-r-2 c = search needs
-
 returns : tie.Need-returns
 returns c = rw (c .before .r .given .1) refl
 
@@ -19,4 +13,4 @@ returns-2 : tie.Need-returns-2
 returns-2 c = rw (c .before .r2 .given .1) refl
 
 pub tree-numbers-spec : {M : Type 1} → statement M
-tree-numbers-spec = tie.close (tie.spec enum-known-r enum-known-r-2 returns returns-2)
+tree-numbers-spec = tie.close (tie.spec (λ c. search needs) (λ c. search needs) returns returns-2)

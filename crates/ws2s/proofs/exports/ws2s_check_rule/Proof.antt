@@ -9,14 +9,8 @@ use Rattle.ws2s.proofs.exports.ws2s_check_rule.Lts as lts
 use Rattle.strip.proofs.rule.check_rule.Reads as check-rule-reads
 use Rattle.ws2s.proofs.exports.rule_numbers.Reads as rule-numbers-reads
 
-check-rule-requires : tie.Need-check-rule-requires
-check-rule-requires c κs = search needs
-
-rule-numbers-requires : tie.Need-rule-numbers-requires
-rule-numbers-requires c κs = search needs
-
 returns : tie.Need-returns
 returns c = c .rule-numbers .ensures ∙ ap ruleNumbers (c .before .check-rule .ensures)
 
 pub ws2s-check-rule-spec : {M : Type 1} → statement M
-ws2s-check-rule-spec = tie.close (tie.spec check-rule-requires rule-numbers-requires returns)
+ws2s-check-rule-spec = tie.close (tie.spec (λ c κs. search needs) (λ c κs. search needs) returns)

@@ -9,14 +9,8 @@ use Rattle.ws2s.proofs.exports.ws2s_check_tree.Lts as lts
 use Rattle.strip.proofs.tree.check_tree.Reads as check-tree-reads
 use Rattle.ws2s.proofs.exports.tree_numbers.Reads as tree-numbers-reads
 
-check-tree-requires : tie.Need-check-tree-requires
-check-tree-requires c κs = search needs
-
-tree-numbers-requires : tie.Need-tree-numbers-requires
-tree-numbers-requires c κs = search needs
-
 returns : tie.Need-returns
 returns c = c .tree-numbers .ensures ∙ ap treeNumbers (c .before .check-tree .ensures)
 
 pub ws2s-check-tree-spec : {M : Type 1} → statement M
-ws2s-check-tree-spec = tie.close (tie.spec check-tree-requires tree-numbers-requires returns)
+ws2s-check-tree-spec = tie.close (tie.spec (λ c κs. search needs) (λ c κs. search needs) returns)

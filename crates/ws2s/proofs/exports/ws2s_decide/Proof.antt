@@ -9,18 +9,6 @@ use Rattle.ws2s.proofs.exports.ws2s_decide.Lts as lts
 use Rattle.ws2s.proofs.decide.decide.Reads as decide-reads
 use Rattle.ws2s.proofs.exports.verdict_numbers.Reads as verdict-numbers-reads
 
-decide-requires : tie.Need-decide-requires
-decide-requires c κs = search needs
-
-verdict-numbers-requires : tie.Need-verdict-numbers-requires
-verdict-numbers-requires c κs = search needs
-
-same-length : tie.Need-same-length
-same-length c = search needs
-
-same-length-2 : tie.Need-same-length-2
-same-length-2 c = search needs
-
 returns : tie.Need-returns
 returns c =
     let d = c .before .before .before .before .before .decide in
@@ -30,4 +18,4 @@ returns c =
 
 pub ws2s-decide-spec : {M : Type 1} → statement M
 ws2s-decide-spec =
-    tie.close (tie.spec decide-requires verdict-numbers-requires same-length same-length-2 returns)
+    tie.close (tie.spec (λ c κs. search needs) (λ c κs. search needs) (λ c. search needs) (λ c. search needs) returns)

@@ -9,15 +9,6 @@ use Rattle.ws2s.proofs.exports.ws2s_judge.Lts as lts
 use Rattle.ws2s.proofs.exports.judgement_numbers.Reads as judgement-numbers-reads
 use Rattle.ws2s.proofs.judge.judge.Reads as judge-reads
 
-judge-requires : tie.Need-judge-requires
-judge-requires c κs = search needs
-
-judgement-numbers-requires : tie.Need-judgement-numbers-requires
-judgement-numbers-requires c κs = search needs
-
-same-length : tie.Need-same-length
-same-length c = search needs
-
 returns : tie.Need-returns
 returns c =
     let j = c .before .before .before .judge in
@@ -27,4 +18,4 @@ returns c =
 
 pub ws2s-judge-spec : {M : Type 1} → statement M
 ws2s-judge-spec =
-    tie.close (tie.spec judge-requires judgement-numbers-requires same-length returns)
+    tie.close (tie.spec (λ c κs. search needs) (λ c κs. search needs) (λ c. search needs) returns)

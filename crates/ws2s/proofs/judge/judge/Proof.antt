@@ -10,15 +10,6 @@ use Rattle.ws2s.proofs.judge.judge.Lts as lts
 use Rattle.strip.proofs.rule.check_rule.Reads as check-rule-reads
 use Rattle.ws2s.proofs.judge.judge_accepted.Reads as judge-accepted-reads
 
-check-rule-requires : tie.Need-check-rule-requires
-check-rule-requires c κs = search needs
-
-enum-known-k : tie.Need-enum-known-k
-enum-known-k c = search needs
-
-enum-known-variables : tie.Need-enum-known-variables
-enum-known-variables c = search needs
-
 judge-accepted-requires : tie.Need-judge-accepted-requires
 judge-accepted-requires c κs =
     let a = c .before .before .before .before .before .before .before .before .args in
@@ -31,9 +22,6 @@ returns c =
     let e = ends-refused (a .rule .now) (a .c) (a .ws .now) (a .tree .now) _ (w .0) (w .1) in
     (e .0, (e .1, claim (a .rule .now) (a .c) (a .ws .now) (a .tree .now) _ (e .0)))
 
-same-length : tie.Need-same-length
-same-length c = search needs
-
 returns-2 : tie.Need-returns-2
 returns-2 c =
     let a = c .before .before .before .before .before .before .before .before .before .before .before .args in
@@ -44,10 +32,10 @@ pub judge-spec : {M : Type 1} → statement M
 judge-spec =
     tie.close
     (tie.spec
-    check-rule-requires
-    enum-known-k
-    enum-known-variables
+    (λ c κs. search needs)
+    (λ c. search needs)
+    (λ c. search needs)
     judge-accepted-requires
     returns
-    same-length
+    (λ c. search needs)
     returns-2)

@@ -31,15 +31,6 @@ returns c =
     let r = c .before .work-refusal in
     ends-room (a .rule .now) (a .c) (a .ws .now) (a .tree .now) (a .n) (a .m) (h .0) (h .1) (h .2) (r .result) (r .ensures) (c .if1 .taken)
 
-check-tree-requires : tie.Need-check-tree-requires
-check-tree-requires c κs = search needs
-
-enum-known-k : tie.Need-enum-known-k
-enum-known-k c = search needs
-
-enum-known-variables : tie.Need-enum-known-variables
-enum-known-variables c = search needs
-
 returns-2 : tie.Need-returns-2
 returns-2 c =
     let st = c .before .before .before .before .before .before .before .before .before .before in
@@ -60,9 +51,6 @@ judge-rule-requires c κs =
     let w = check-readable (a .tree .now) _ _ (sym (c .before .before .before .before .before .check-tree .ensures) ∙ g .1) in
     (h, (room-known (a .rule .now) (a .c) (a .ws .now) (a .tree .now) (a .n) (a .m) (h .0) (h .1) (h .2) (r .result) (r .ensures) (omega (arith, c .before .before .before .before .before .before .if1 .left)), subst (λ (i : ℕ). Readable (a .tree .now) i) (c .before .if2 .left) w))
 
-ruled-requires : tie.Need-ruled-requires
-ruled-requires c κs = search needs
-
 returns-3 : tie.Need-returns-3
 returns-3 c =
     let st = c .before .before .before .before .before .before .before .before .before in
@@ -71,9 +59,6 @@ returns-3 c =
     let r = c .before .before .before .before .before .work-refusal in
     let w = check-refused (a .tree .now) _ (sym (c .before .before .before .check-tree .ensures) ∙ c .before .k .given .1) in
     ends-tree (a .rule .now) (a .c) (a .ws .now) (a .tree .now) (a .n) (a .m) (h .0) (h .1) (h .2) (r .result) (r .ensures) (omega (arith, c .before .before .before .before .if1 .left)) _ (w .0) (w .1)
-
-same-length : tie.Need-same-length
-same-length c = search needs
 
 returns-4 : tie.Need-returns-4
 returns-4 c =
@@ -92,12 +77,12 @@ judge-accepted-spec =
     (tie.spec
     work-refusal-requires
     returns
-    check-tree-requires
-    enum-known-k
-    enum-known-variables
+    (λ c κs. search needs)
+    (λ c. search needs)
+    (λ c. search needs)
     returns-2
     judge-rule-requires
-    ruled-requires
+    (λ c κs. search needs)
     returns-3
-    same-length
+    (λ c. search needs)
     returns-4)

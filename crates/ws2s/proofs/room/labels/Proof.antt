@@ -5,11 +5,8 @@ use Rattle.ws2s.proofs.Rooms.{labels-is, labels-few}
 use Rattle.ws2s.proofs.room.labels.Statement.{statement}
 use Rattle.ws2s.proofs.room.labels.Tie as tie
 
-shl-result : tie.Need-shl-result
-shl-result c = search needs
-
 returns : tie.Need-returns
 returns c = rw (labels-is (c .args .n) (c .pre)) (refl, labels-few (c .args .n) (c .pre))
 
 pub labels-spec : {M : Type 1} → statement M
-labels-spec = tie.close (tie.spec shl-result returns)
+labels-spec = tie.close (tie.spec (λ c. search needs) returns)

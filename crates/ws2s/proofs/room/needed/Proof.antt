@@ -8,9 +8,6 @@ use Rattle.ws2s.proofs.room.needed.Tie as tie
 use Rattle.ws2s.proofs.room.needed.Reads as reads
 use Rattle.ws2s.proofs.room.needed.Lts as lts
 
-labels-requires : tie.Need-labels-requires
-labels-requires c κs = search needs
-
 mul-result : tie.Need-mul-result
 mul-result c =
     let a = c .before in
@@ -32,4 +29,4 @@ returns c =
     rw (c .labels .ensures .0) (refl, room-few (a .args .n) (a .args .c) (a .pre .0) (a .pre .2) (a .args .m) (a .pre .1))
 
 pub needed-spec : {M : Type 1} → statement M
-needed-spec = tie.close (tie.spec labels-requires mul-result mul-result-2 mul-result-3 returns)
+needed-spec = tie.close (tie.spec (λ c κs. search needs) mul-result mul-result-2 mul-result-3 returns)

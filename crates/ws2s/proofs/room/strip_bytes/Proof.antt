@@ -7,9 +7,6 @@ use Rattle.ws2s.proofs.room.strip_bytes.Tie as tie
 use Rattle.ws2s.proofs.room.strip_bytes.Reads as reads
 use Rattle.ws2s.proofs.room.strip_bytes.Lts as lts
 
-add-result : tie.Need-add-result
-add-result c = search needs
-
 mul-result : tie.Need-mul-result
 mul-result c = record { fits = omega (arith, strip-few (c .args .n) (c .args .p) (c .pre .0) (c .pre .1)) }
 
@@ -25,10 +22,7 @@ add-result-4 c = record { fits = omega (arith, strip-few (c .args .n) (c .args .
 add-result-5 : tie.Need-add-result-5
 add-result-5 c = record { fits = omega (arith, strip-few (c .args .n) (c .args .p) (c .pre .0) (c .pre .1)) }
 
-returns : tie.Need-returns
-returns c = search needs
-
 pub strip-bytes-spec : {M : Type 1} → statement M
 strip-bytes-spec =
     tie.close
-    (tie.spec add-result mul-result add-result-2 add-result-3 add-result-4 add-result-5 returns)
+    (tie.spec (λ c. search needs) mul-result add-result-2 add-result-3 add-result-4 add-result-5 (λ c. search needs))

@@ -14,9 +14,6 @@ returns c = work-none _ _ _ _ (c .if1 .taken)
 returns-2 : tie.Need-returns-2
 returns-2 c = work-many _ _ _ _ (search needs) (c .if2 .taken)
 
-needed-requires : tie.Need-needed-requires
-needed-requires c κs = search needs
-
 returns-3 : tie.Need-returns-3
 returns-3 c = work-short _ _ _ _ (search needs) (search needs) (omega (arith, c .before .needed .ensures .0, c .if3 .taken))
 
@@ -24,4 +21,4 @@ returns-4 : tie.Need-returns-4
 returns-4 c = work-fits _ _ _ _ (search needs) (search needs) (omega (arith, c .before .needed .ensures .0, c .if3 .left))
 
 pub work-refusal-spec : {M : Type 1} → statement M
-work-refusal-spec = tie.close (tie.spec returns returns-2 needed-requires returns-3 returns-4)
+work-refusal-spec = tie.close (tie.spec returns returns-2 (λ c κs. search needs) returns-3 returns-4)
