@@ -49,6 +49,10 @@ place-past n x h =
     omega arith)
     (eq-or-lt-of-le (place-le x (upTo n)))
 
+insert-old : (c n x : ℕ) → x < n → insert c x (upTo n) ≡ some (upTo n)
+unfolding insert
+insert-old c n x h = rw (lt-ltb (place x (upTo n)) (length (upTo n)) (omega (arith, place-upto n x h, length-upto n)))
+
 insert-last : (c n : ℕ) → n < c → insert c n (upTo n) ≡ some (upTo (suc n))
 unfolding insert upTo
 insert-last c n h =

@@ -11,7 +11,7 @@ use lib.Dec.{T, ltb, leb, eqb, lt→ltb, ltb→lt, eqb→eq, eqb·suc-zero}
 use lib.ListN.{length, getD, take, drop, List·getD-eq-default}
 use lib.Pow.{pow-pos}
 use lib.Seq.{getD-drop}
-use borrow.Author.Tests.{leb-false, le-ltb}
+use borrow.Author.Tests.{lt-leb, leb-false, le-ltb}
 use Rattle.logic.specs.Rule.{Record, noRecord, good, goodFrom, Accepted}
 use Rattle.strip.specs.Bits.{bits, number, field, anySet}
 use Rattle.strip.specs.RuleStrip.{orElse, variablesOf, countOf, recordAt, recordsFrom, recordsOf, ruleBytes, Use, variable, earlier, unused, firstUse, secondUse, recordRefusal, recordsRefusal, ruleRefusal}
@@ -43,6 +43,9 @@ field-passed n i variable v e = leb-false n v (passed (leb n v) 7 0 e .0)
 field-passed n i earlier v e = leb-false i v (passed (leb i v) 8 0 e .0)
 field-passed n i unused v e = leb-false 1 v (passed (leb 1 v) 9 0 e .0)
 
+field-good : (n i : ℕ) (u : Use) (v : ℕ) → v < limitOf n i (useNumber u) → fault n i u v ≡ 0
+field-good n i u v h = rw (lt-leb _ v h) refl
+
 pub record-facts : (n i : ℕ) (r : Record) → recordRefusal n i r ≡ 0 → RecordFacts n i r
 record-facts n i r e =
     let w = passed (leb 9 (r .op)) 6 _ (sym (record-split n i (r .op) (r .first) (r .second)) ∙ e) in
@@ -52,6 +55,12 @@ record-facts n i r e =
       first-below = field-passed n i (firstUse (r .op)) (r .first) (f .0);
       second-below = field-passed n i (secondUse (r .op)) (r .second) (f .1);
     }
+
+pub record-unrefused : (n i : ℕ) (r : Record) → RecordFacts n i r → recordRefusal n i r ≡ 0
+record-unrefused n i r w =
+    record-split n i (r .op) (r .first) (r .second)
+    ∙ rw (lt-leb 9 (r .op) (w .known), field-good n i (firstUse (r .op)) (r .first) (w .first-below))
+    (field-good n i (secondUse (r .op)) (r .second) (w .second-below))
 
 -- logic's test of a field
 abbrev fits : ℕ → ℕ → Use → ℕ → Bool

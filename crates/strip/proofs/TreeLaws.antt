@@ -1,6 +1,6 @@
 -- Tree strips and trees: an accepted strip holds one trimmed tree, the tree's strip is read back, and no other strip holds it.
 -- Assumes nothing.
-use Prim.Native.Nat.{ℕ, suc, _+_, _*_, _/_, _≤_, _<_}
+use Prim.Native.Nat.{ℕ, zero, suc, _+_, _*_, _/_, _≤_, _<_}
 use mathlib.Core.Path.{_≡_, refl, sym, ap, ap₂, subst, _∙_}
 use mathlib.Core.Bool.{Bool, true, false, not, _&&_, _||_}
 use mathlib.Core.List.{List, [], _∷_, _++_, append-assoc}
@@ -55,6 +55,11 @@ no-bit [] e = refl
 no-bit (b ∷ l) e =
     let w = either (not (eqb b 0)) (anySet l) e in
     ap₂ (λ (x : ℕ) (r : List ℕ). x ∷ r) (eqb-true b 0 (not-false (eqb b 0) (w .0))) (no-bit l (w .1))
+
+no-set : (z : ℕ) → anySet (replicate z 0) ≡ false
+unfolding anySet
+no-set zero = refl
+no-set (suc z) = no-set z
 
 ended-is : (P : Parsed) (t : Tree 2) (m : ℕ) (rest : List ℕ) → ended P ≡ parsed t m rest → (P ≡ parsed t m rest) × (length rest < 8) × (rest ≡ replicate (length rest) 0)
 unfolding ended
