@@ -14,6 +14,7 @@ pub mod Counts
 pub mod Satisfiable
 pub mod Orders
 pub mod Scan
+pub mod Repeats
 pub mod Pigeon
 pub mod Settle
 pub mod Depth
