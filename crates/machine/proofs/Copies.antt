@@ -6,6 +6,7 @@ use mathlib.Core.Logic.{⊎-elim}
 use mathlib.Core.List.{List}
 use mathlib.Core.Option.{some}
 use mathlib.Core.Path.{_≡_, refl, sym, ap, _∙_, subst}
+use native.Mathlib.Decide.{ℕ-discrete}
 use native.Mathlib.Nat.{mul-le-mul-right, suc-mul, eq-or-lt-of-le}
 use native.Mathlib.Numerals.{add-one}
 use native.Mathlib.Omega.{arith}
@@ -13,6 +14,7 @@ use borrow.Author.Tests.{ltb-true}
 use lib.Arith.{digits-lt}
 use lib.Dec.{ltb}
 use lib.ListN.{length, getD, set}
+use lib.Seq.{getD-set-same, getD-set-other, drop-set-lt}
 use Rattle.machine.specs.Explore.{upTo, explore}
 use Rattle.machine.specs.Word.{mem}
 use Rattle.machine.specs.Succ.{Step, entry, notCode, kindCode}
@@ -29,6 +31,24 @@ use Rattle.machine.proofs.WordLaws.{word-ext}
 use Rattle.machine.proofs.Masks.{seen-le, seen-seen}
 use Rattle.machine.proofs.Shares.{made-new, next-share}
 use Rattle.machine.proofs.Start.{drop-later}
+
+below-next : (m l : ℕ) → m < l + 1 → (m ≡ l → ⊥) → m < l
+below-next m l h e = ⊎-elim (λ (q : m ≡ l). absurd (e q)) (λ (q : m < l). q) (eq-or-lt-of-le (omega arith))
+
+-- ---- bytes
+pub copy-first : (ws : List ℕ) (from to : ℕ) → Copied ws ws from to 0
+copy-first ws from to = record { there = λ k h. absurd (omega arith); low = λ k h. refl; high = refl }
+
+pub copy-turn : (ws₀ ws : List ℕ) (from to n i : ℕ) → from + n ≤ to → to + n ≤ length ws → i < n → Copied ws₀ ws from to i
+    → Copied ws₀ (set ws (to + i) (getD ws (from + i) 0)) from to (i + 1)
+copy-turn ws₀ ws from to n i h room hi w = record {
+  there = λ k hk. elim (ℕ-discrete k i) [
+    | yes e ↦ rw (e, getD-set-same ws (to + i) (getD ws (from + i) 0) 0 (omega arith)) (w .low (from + i) (omega arith))
+    | no e ↦ rw (getD-set-other ws (to + i) (to + k) (getD ws (from + i) 0) 0 (λ q. e (omega arith))) (w .there k (below-next k i hk e))
+  ];
+  low = λ k hk. rw (getD-set-other ws (to + i) k (getD ws (from + i) 0) 0 (λ q. omega arith)) (w .low k hk);
+  high = drop-set-lt (to + (i + 1)) ws (to + i) (getD ws (from + i) 0) (omega arith) ∙ drop-later (to + i) (to + (i + 1)) ws ws₀ (omega arith) (w .high);
+}
 
 -- ---- the places of the rows
 pub row-at : (c l i : ℕ) → addr c l i 0 ≡ (l * c + i) * c
@@ -56,9 +76,6 @@ label-last c l = let e : (l + 1) * c ≡ l * c + c = ap (λ (n : ℕ). n * c) (a
 
 pub label-in : (c l labels : ℕ) → l < labels → (l * c + c) * c ≤ labels * c * c
 label-in c l labels h = mul-le-mul-right c (next-share l labels c h)
-
-below-next : (m l : ℕ) → m < l + 1 → (m ≡ l → ⊥) → m < l
-below-next m l h e = ⊎-elim (λ (q : m ≡ l). absurd (e q)) (λ (q : m < l). q) (eq-or-lt-of-le (omega arith))
 
 -- ---- the rows of a label
 pub rows-first : (ws : List ℕ) (from to c l n : ℕ) → RowsCopied ws ws from to c l n 0

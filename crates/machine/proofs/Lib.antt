@@ -21,7 +21,6 @@ pub mod RowLaws
 pub mod Rules
 pub mod Run
 pub mod Shares
-pub mod Spreads
 pub mod Start
 pub mod Steps
 pub mod WordLaws

@@ -86,11 +86,6 @@ seen-left f g l = seen-within f (bitOr f g) l (λ q. ap (λ (b : Bool). mem q f 
 seen-right : (f g l : ℕ) → seen g (seen (bitOr f g) l) ≡ seen g l
 seen-right f g l = seen-within g (bitOr f g) l (λ q. ap (λ (b : Bool). mem q g && b) (mem-or q f g) ∙ right (mem q f) (mem q g))
 
--- every label below 256 is seen as it is by a record that looks at all bits
-pub seen-all : (l : ℕ) → l < 256 → seen 255 l ≡ l
-unfolding seen
-seen-all l h = and-mask l 8 ∙ omega arith
-
 seen-one : (l : ℕ) → seen 1 l % 2 ≡ l % 2
 unfolding seen
 seen-one l = ap (λ (n : ℕ). n % 2) (and-mask l 1) ∙ omega arith

@@ -11,7 +11,7 @@ use Rattle.machine.specs.Complement.{TableCopied}
 use Rattle.machine.specs.Explore.{upTo}
 use Rattle.machine.specs.Machine.{acceptOf}
 use Rattle.machine.specs.Rows.{Led}
-use Rattle.machine.specs.Rule.{planOf, Fits, Sound, Made, Finished, Keeps, Wide, FirstKept, SomeKept, withOver, withNext, AddsNot, Adds, after, upto, noDecoded}
+use Rattle.machine.specs.Rule.{planOf, Fits, Sound, Made, Keeps, Wide, FirstKept, SomeKept, withOver, withNext, AddsNot, Adds, after, upto, noDecoded}
 use Rattle.machine.specs.Succ.{succIn, startOf, looksOf}
 use Rattle.machine.specs.Table.{Explored}
 use Rattle.machine.specs.declared.explore.Kind.{Kind}
@@ -107,8 +107,10 @@ made-rest xs c labels r (suc d) t ws h m =
     rw (add-suc, ← add-one, upto-next xs c labels (r + d))
     (made-over (getD xs (r + d) noDecoded) c labels (r + d) t ws ws h (upto xs c labels (r + d)) (made-rest xs c labels r d t ws h m))
 
-pub finished-over : (xs : List Decoded) (c labels r m : ℕ) (t : Machines) (ws : List ℕ) → r < m → m ≤ 128 → t .over ≡ r → Made (after c labels r (getD xs r noDecoded) (upto xs c labels r)) c labels (r + 1) t ws
-    → Finished (upto xs c labels m) c labels m t ws
-finished-over xs c labels r m t ws h top e made =
+pub made-over-rest : (xs : List Decoded) (c labels r m : ℕ) (t : Machines) (ws : List ℕ) → r < m → m ≤ 128 → t .over ≡ r
+    → Made (after c labels r (getD xs r noDecoded) (upto xs c labels r)) c labels (r + 1) t ws
+    → Made (upto xs c labels m) c labels m t ws
+made-over-rest xs c labels r m t ws h top e made =
     let z : r + 1 + (m - (r + 1)) ≡ m = omega arith in
-    (subst (λ (n : ℕ). Made (upto xs c labels n) c labels n t ws) z (made-rest xs c labels (r + 1) (m - (r + 1)) t ws (omega arith) (rw (upto-next xs c labels r) made)), λ q. absurd (omega arith))
+    subst (λ (n : ℕ). Made (upto xs c labels n) c labels n t ws) z
+    (made-rest xs c labels (r + 1) (m - (r + 1)) t ws (omega arith) (rw (upto-next xs c labels r) made))

@@ -7,7 +7,6 @@ use mathlib.Core.List.{List, [], _∷_, _++_}
 use mathlib.Core.Option.{Option, none, some}
 use lib.ListN.{length, getD, set}
 use Rattle.machine.specs.Explore.{upTo, explore}
-use Rattle.machine.specs.Table.{seen}
 use Rattle.machine.specs.Succ.{Step, notCode, kindCode, looksOf}
 use Rattle.machine.specs.Machine.{codesOf, stepOf, acceptOf, Holds, Bit}
 use Rattle.machine.specs.declared.explore.Kind.{Kind}
@@ -166,14 +165,6 @@ AddsNot x f c labels r k ws ws′ = (s : Machines) (o : Outcome) → Wide s → 
 
 abbrev pub Adds : Decoded → Summary → Summary → ℕ → ℕ → ℕ → Summary → List ℕ → List ℕ → Type 0
 Adds x f g c labels r k ws ws′ = (s : Machines) (o : Outcome) → Wide s → Keeps s (x .first) f → Keeps s (x .second) g → Made o c labels r s ws → Next x c labels r k s o ws′
-
--- where no record has too many states, the table of record a has its entries at every label
-abbrev pub Spread : ℕ → ℕ → Machines → Type 0
-Spread a labels s = 128 ≤ s .over → (l : ℕ) → l < labels → seen (getD (s .looks) a 0) l ≡ l
-
--- all machines are made, and the table of the last record has its entries at every label
-abbrev pub Finished : Outcome → ℕ → ℕ → ℕ → Machines → List ℕ → Type 0
-Finished o c labels m s ws = Made o c labels m s ws × Spread (m - 1) labels s
 
 abbrev pub noDecoded : Decoded
 noDecoded = record { kind = Subset; first = 0; second = 0; wx = 0; wy = 0 }

@@ -92,9 +92,3 @@ pub record Copied (ws ws′ : List ℕ) (from to n : ℕ) : Type 0 where
   pub there : (k : ℕ) → k < n → getD ws′ (to + k) 0 ≡ getD ws (from + k) 0
   pub low : (k : ℕ) → k < to → getD ws′ k 0 ≡ getD ws k 0
   pub high : drop (to + n) ws′ ≡ drop (to + n) ws
-
--- in the table at base, with n entries for a label, each label below l has the entries of the label as it is seen
-pub record Spreading (ws ws′ : List ℕ) (base n bits l : ℕ) : Type 0 where
-  pub done : (m k : ℕ) → m < l → k < n → getD ws′ (base + (m * n + k)) 0 ≡ getD ws (base + (seen bits m * n + k)) 0
-  pub low : (k : ℕ) → k < base → getD ws′ k 0 ≡ getD ws k 0
-  pub rest : drop (base + l * n) ws′ ≡ drop (base + l * n) ws

@@ -5,11 +5,24 @@ ghost use lib.ListN.{length};
 ghost use Rattle.machine.specs.Complement.{RowsCopied, TableCopied};
 ghost use Rattle.machine.specs.Explore.{upTo};
 ghost use Rattle.machine.specs.Machine.{acceptOf};
+ghost use Rattle.machine.specs.Table.{Copied};
 use crate::explore::Kind;
 use crate::explore::cell;
-use crate::spread::copy;
 use crate::words::has;
 use crate::words::with_member;
+
+// n bytes are copied from one place to a later one.
+pub fn copy(ws: &mut [u8], from: usize, to: usize, n: usize)
+    requires { ⌜ (from + n ≤ to) × (to + n ≤ length (now ws)) ⌝ }
+    ensures { λ _. ⌜ Copied (now (ws .entry)) (now (ws .exit)) from to n ⌝ }
+{
+    let mut i = 0;
+    while i < n {
+        let x = ws[from + i];
+        ws[to + i] = x;
+        i += 1;
+    }
+}
 
 // The entries for label l and the states below n are copied, from the table at from to the later one at to.
 pub fn copy_label(ws: &mut [u8], from: usize, to: usize, c: usize, l: usize, n: usize)

@@ -3,7 +3,7 @@ ghost use mathlib.Core.Path.{_≡_};
 ghost use Prim.Native.Nat.{ℕ, _+_, _*_, _≤_, _<_};
 ghost use lib.ListN.{length, getD, take, drop};
 ghost use Rattle.machine.specs.Machine.{acceptBy, acceptOf};
-ghost use Rattle.machine.specs.Rule.{planOf, Fits, Sound, SomeKept, FirstKept, Adds, AddsNot, Finished, upto, noDecoded};
+ghost use Rattle.machine.specs.Rule.{planOf, Fits, Sound, SomeKept, FirstKept, Adds, AddsNot, Made, upto, noDecoded};
 ghost use Rattle.machine.specs.Succ.{looksOf};
 use crate::complement::copy_table;
 use crate::complement::flipped;
@@ -11,8 +11,6 @@ use crate::explore::Kind;
 use crate::explore::Plan;
 use crate::explore::build_plan;
 use crate::explore::cleared;
-use crate::explore::wide;
-use crate::spread::spread_table;
 use crate::words::has;
 use crate::words::meet;
 use crate::words::with_member;
@@ -205,8 +203,7 @@ pub fn build_next(
     }
 }
 
-// The machines of the first m records, the last one's table at every label. The arrays are written in place: a copy for each record
-// takes longer than a small machine.
+// The machines of the first m records. The arrays are written in place: a copy for each record takes longer than a small machine.
 pub fn build_all(
     ws: &mut [u8],
     records: [Decoded; 128],
@@ -216,7 +213,7 @@ pub fn build_all(
 ) -> Machines
     requires { ⌜ (0 < m) × (m ≤ 128) ⌝ }
     requires { ⌜ ((r : ℕ) → r < m → Fits (getD records r noDecoded) r c labels (length (now ws)) × Sound (getD records r noDecoded) r labels) ⌝ }
-    ensures { λ t. ⌜ Finished (upto records c labels m) c labels m t (now (ws .exit)) ⌝ }
+    ensures { λ t. ⌜ Made (upto records c labels m) c labels m t (now (ws .exit)) ⌝ }
     ensures { λ t. ⌜ drop (m * (labels * c * c)) (now (ws .exit)) ≡ drop (m * (labels * c * c)) (now (ws .entry)) ⌝ }
 {
     let mut t = Machines {
@@ -250,9 +247,5 @@ pub fn build_all(
         t.looks[r] = k.looks;
         r += 1;
     }
-    let last = m - 1;
-    let bits = wide(t.looks[last]) as usize;
-    spread_table(ws, last * (labels * c * c), c * c, bits, labels);
-    t.looks[last] = 255;
     t
 }

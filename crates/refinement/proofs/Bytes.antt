@@ -4,6 +4,7 @@ use Prim.Native.Nat.{ℕ, _+_, _-_, _*_, _^_, _≤_, _<_}
 use mathlib.Core.Path.{_≡_, refl, sym, ap, subst, _∙_}
 use mathlib.Core.List.{List}
 use native.Mathlib.Omega.{arith}
+use lib.Bits.{bitAnd}
 use lib.ListN.{length, getD, drop}
 use lib.Seq.{getD-drop}
 use Rattle.logic.specs.Meaning.{Assignment}
@@ -18,9 +19,10 @@ use Rattle.logic.proofs.Builders.{of-agrees, full-agrees, decide-any, judge-any
 use Rattle.machine.specs.Word.{mem}
 use Rattle.machine.specs.Table.{addr, seen}
 use Rattle.machine.specs.Succ.{entry}
-use Rattle.machine.specs.Rule.{Mach, noMach, built, At, Finished, noDecoded, upto}
+use Rattle.machine.specs.Rule.{Mach, noMach, built, At, Made, noDecoded, upto}
 use Rattle.machine.specs.declared.records.Decoded.{Decoded}
 use Rattle.machine.specs.declared.records.Machines.{Machines}
+use Rattle.search.specs.Scan.{stepIn}
 use Rattle.search.specs.Arrays.{acceptsOf, machineIn, tableIn, Whole}
 use Rattle.refinement.proofs.Records.{machOf, Good}
 use Rattle.refinement.specs.Decode.{decodedOf}
@@ -41,13 +43,16 @@ module _ (n c : ℕ) (pos : 0 < c) (top : c ≤ 64) (rs : List Record) (acc : Ac
   abbrev count : ℕ
   count = getD (s .counts) last 0
 
-  module _ (ms : List Mach) (e : upto xs c (2 ^ n) (length rs) ≡ built ms) (made : Finished (built ms) c (2 ^ n) (length rs) s ws) where
+  abbrev looks : ℕ
+  looks = getD (s .looks) last 0
+
+  module _ (ms : List Mach) (e : upto xs c (2 ^ n) (length rs) ≡ built ms) (made : Made (built ms) c (2 ^ n) (length rs) s ws) where
     m : Mach
     m = getD ms last noMach
 
     at-last : At c (2 ^ n) last m s ws
     unfolding m
-    at-last = made .0 .2 last (let h = acc .0 in omega arith)
+    at-last = made .2 last (let h = acc .0 in omega arith)
 
     all-linked : Linked n c pos top rs acc xs decoded (length rs) (built ms)
     all-linked = subst (Linked n c pos top rs acc xs decoded (length rs)) e (linked n c pos top rs acc xs decoded (length rs) (omega arith))
@@ -56,16 +61,16 @@ module _ (n c : ℕ) (pos : 0 < c) (top : c ≤ 64) (rs : List Record) (acc : Ac
     unfolding Linked m
     good-last = all-linked .1 last (let h = acc .0 in omega arith)
 
-    cell-is : (l i j : ℕ) → l < 2 ^ n → i < length (m .codes) → j < length (m .codes) → (m .step l i j ≡ getD table ((l * c + i) * c + j) 0) × (m .step l i j < length (m .codes))
-    unfolding entry addr
+    cell-is : (l i j : ℕ) → l < 2 ^ n → i < length (m .codes) → j < length (m .codes)
+        → (m .step l i j ≡ stepIn looks table c l i j) × (m .step l i j < length (m .codes))
+    unfolding entry addr seen
     cell-is l i j hl hi hj =
         let h = at-last .holds l i j hl hi hj in
-        let e : seen (getD (s .looks) last 0) l ≡ l = made .1 (omega (arith, made .0 .0)) l hl in
-        (sym (h .0) ∙ ap (λ (z : ℕ). getD ws (last * share + ((z * c + i) * c + j)) 0) e ∙ sym (getD-drop (last * share) ws ((l * c + i) * c + j) 0), h .1)
+        (sym (h .0) ∙ sym (getD-drop (last * share) ws ((bitAnd l looks * c + i) * c + j) 0), h .1)
 
     -- the machine in the share, with the states that the word holds for accepting ones
     abbrev pub wordMachine : Machine 2 ℕ
-    wordMachine = binary (λ l a b. getD table ((l * c + a) * c + b) 0) (λ q. mem q (getD (s .accepts) last 0))
+    wordMachine = binary (stepIn looks table c) (λ q. mem q (getD (s .accepts) last 0))
 
     word-agrees : Agrees n (length (m .codes)) (machOf m) wordMachine
     word-agrees = record {
@@ -83,7 +88,7 @@ module _ (n c : ℕ) (pos : 0 < c) (top : c ≤ 64) (rs : List Record) (acc : Ac
 
     -- the same with a byte for each state that accepts, as the search is given it
     module _ (accept : List ℕ) (marks : (q : ℕ) → q < count → acceptsOf accept q ≡ mem q (getD (s .accepts) last 0)) where
-      agrees : Agrees n (length (m .codes)) (machOf m) (machineIn table c accept)
+      agrees : Agrees n (length (m .codes)) (machOf m) (machineIn looks table c accept)
       agrees = record {
         starts = refl;
         steps = λ l h z u. (cell-is l (z one) (z two) h (u one) (u two)) .0;
@@ -91,7 +96,7 @@ module _ (n c : ℕ) (pos : 0 < c) (top : c ≤ 64) (rs : List Record) (acc : Ac
       }
 
       -- the search may be called
-      pub whole-made : (P : ℕ) → P ≤ 255 → 2 ^ n * c * c ≤ length table → Whole (2 ^ n) table c count P
+      pub whole-made : (P : ℕ) → P ≤ 255 → 2 ^ n * c * c ≤ length table → Whole (2 ^ n) looks table c count P
       whole-made P h l =
           let e : count ≡ length (m .codes) = at-last .count in
           record {
@@ -104,13 +109,13 @@ module _ (n c : ℕ) (pos : 0 < c) (top : c ≤ 64) (rs : List Record) (acc : Ac
           }
 
       -- and what it finds is decide's answer
-      pub decide-bytes : (P : ℕ) → report count (search (2 ^ n) (tableIn table c accept count) P) ≡ decideOf 2 n rs c P
+      pub decide-bytes : (P : ℕ) → report count (search (2 ^ n) (tableIn looks table c accept count) P) ≡ decideOf 2 n rs c P
       unfolding Linked
       decide-bytes P =
           let k : ℕ = length (m .codes) in
           let f : count ≡ k = at-last .count in
           let B : Bounded n k (machOf m) = good-last .full .0 in
-          let M : MachineOf n (formulaAt rs last) (machineIn table c accept) = of-agrees n k (machOf m) (machineIn table c accept) B agrees (formulaAt rs last) (good-last .machine) in
-          let F : Full n k (machineIn table c accept) = full-agrees n k (machOf m) (machineIn table c accept) B agrees (good-last .full .1) in
-          subst (λ (z : ℕ). report z (search (2 ^ n) (tableIn table c accept z) P) ≡ decideOf 2 n rs c P) (sym f)
-          (decide-any 2 n rs acc c P (few-states n c pos top rs acc xs decoded (length rs) ms (omega arith) (all-linked .1)) (machineIn table c accept) M k F)
+          let M : MachineOf n (formulaAt rs last) (machineIn looks table c accept) = of-agrees n k (machOf m) (machineIn looks table c accept) B agrees (formulaAt rs last) (good-last .machine) in
+          let F : Full n k (machineIn looks table c accept) = full-agrees n k (machOf m) (machineIn looks table c accept) B agrees (good-last .full .1) in
+          subst (λ (z : ℕ). report z (search (2 ^ n) (tableIn looks table c accept z) P) ≡ decideOf 2 n rs c P) (sym f)
+          (decide-any 2 n rs acc c P (few-states n c pos top rs acc xs decoded (length rs) ms (omega arith) (all-linked .1)) (machineIn looks table c accept) M k F)

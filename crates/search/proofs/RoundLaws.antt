@@ -2,7 +2,7 @@
 use mathlib.Core.Path.{_≡_, refl, sym, ap, ap₂, subst, _∙_, fun-ext}
 use mathlib.Core.Bool.{Bool, true, false, not, _||_, or-false, or-assoc, or-true}
 use mathlib.Core.List.{List, [], _∷_, _++_}
-use Prim.Native.Nat.{ℕ, zero, suc, _+_, _*_, _≤_, _<_, _-_}
+use Prim.Native.Nat.{ℕ, zero, suc, _+_, _≤_, _<_, _-_}
 use native.Mathlib.Omega.{arith}
 use native.Mathlib.Numerals.{add-one}
 use lib.Dec.{ltb, eqb}
@@ -14,7 +14,7 @@ use native.Mathlib.Decide.{ℕ-discrete}
 use lib.Seq.{getD-append-seam, getD-set-same, getD-set-other, set-out}
 use Rattle.logic.specs.Tree.{Tree, empty, positions}
 use Rattle.logic.specs.Machine.{Machine, run}
-use Rattle.search.specs.Scan.{codeView, bestOf, sizeOf, Held, Ready, scanSecond, scanFirst, scanLabel}
+use Rattle.search.specs.Scan.{stepIn, codeView, bestOf, sizeOf, Held, Ready, scanSecond, scanFirst, scanLabel}
 use Rattle.search.specs.Arrays.{treeAt, decode, acceptsOf, machineIn, Whole, settling, answerOf, Backs, Ended}
 use Rattle.search.proofs.ScanLaws.{pick-loops}
 use Rattle.logic.proofs.Orders.{less, same, more, ℕ-tri}
@@ -90,24 +90,24 @@ pub record Stands (M : Machine 2 ℕ) (s : List (Tree 2)) (done state size : Lis
   pub sizes : (i : ℕ) → getD size i 0 ≡ positions (at s i)
   pub marks : (q : ℕ) → not (eqb (getD done q 0) 0) ≡ settled M s q
 
-pub stands-view : (table : List ℕ) (c : ℕ) (accept : List ℕ) (s : List (Tree 2)) (done state size : List ℕ) → Stands (machineIn table c accept) s done state size
-    → codeView table c done state size ≡ view (machineIn table c accept) s
+pub stands-view : (looks : ℕ) (table : List ℕ) (c : ℕ) (accept : List ℕ) (s : List (Tree 2)) (done state size : List ℕ) → Stands (machineIn looks table c accept) s done state size
+    → codeView looks table c done state size ≡ view (machineIn looks table c accept) s
 unfolding codeView view
-stands-view table c accept s done state size h = λ i. record {
-  step = machineIn table c accept .step;
+stands-view looks table c accept s done state size h = λ i. record {
+  step = machineIn looks table c accept .step;
   old = fun-ext (h .marks) i;
   state = fun-ext (h .states) i;
   size = fun-ext (h .sizes) i;
 }
 
 -- The scan of the arrays is the round's pick.
-pub scan-pick : (table : List ℕ) (c labels : ℕ) (accept : List ℕ) (s : List (Tree 2)) (done state size : List ℕ) (n : ℕ) (r : Pick) → Stands (machineIn table c accept) s done state size → length s ≡ n
-    → Held (codeView table c done state size) (scanLabel (codeView table c done state size) n labels nothing) r
-    → Held (view (machineIn table c accept) s) (pick labels (length s) (view (machineIn table c accept) s)) r
-scan-pick table c labels accept s done state size n r h e k =
-    let v : View 2 = view (machineIn table c accept) s in
+pub scan-pick : (looks : ℕ) (table : List ℕ) (c labels : ℕ) (accept : List ℕ) (s : List (Tree 2)) (done state size : List ℕ) (n : ℕ) (r : Pick) → Stands (machineIn looks table c accept) s done state size → length s ≡ n
+    → Held (codeView looks table c done state size) (scanLabel (codeView looks table c done state size) n labels nothing) r
+    → Held (view (machineIn looks table c accept) s) (pick labels (length s) (view (machineIn looks table c accept) s)) r
+scan-pick looks table c labels accept s done state size n r h e k =
+    let v : View 2 = view (machineIn looks table c accept) s in
     subst (λ (m : ℕ). Held v (pick labels m v) r) (sym e) (subst (λ (b : Best). Held v b r) (sym (pick-loops v labels n))
-    (subst (λ (w : View 2). Held w (scanLabel w n labels nothing) r) (stands-view table c accept s done state size h) k))
+    (subst (λ (w : View 2). Held w (scanLabel w n labels nothing) r) (stands-view looks table c accept s done state size h) k))
 
 -- at the start
 zeros : (m i : ℕ) → getD {A = ℕ} (replicate m 0) i 0 ≡ 0
@@ -181,7 +181,7 @@ kept-all xs n x Q p f i = elim (ℕ-tri n (length xs)) [
 ]
 
 -- the loop's invariant
-pub record Round (labels : ℕ) (table : List ℕ) (c count : ℕ) (accept : List ℕ) (P : ℕ) (done state size label first second : List ℕ) (n : ℕ) : Type 0 where
+pub record Round (labels looks : ℕ) (table : List ℕ) (c count : ℕ) (accept : List ℕ) (P : ℕ) (done state size label first second : List ℕ) (n : ℕ) : Type 0 where
   pub low : 0 < n
   pub high : n ≤ count
   pub long-done : length done ≡ 64
@@ -190,11 +190,11 @@ pub record Round (labels : ℕ) (table : List ℕ) (c count : ℕ) (accept : Lis
   pub long-label : length label ≡ 64
   pub long-first : length first ≡ 64
   pub long-second : length second ≡ 64
-  pub stands : Stands (machineIn table c accept) (decode label first second n) done state size
+  pub stands : Stands (machineIn looks table c accept) (decode label first second n) done state size
   pub tame : (i : ℕ) → getD state i 0 < count
   pub light : (i : ℕ) → getD size i 0 ≤ P
   pub back : Backs n first second
-  pub ahead : rounds labels (machineIn table c accept) P (count - n) (decode label first second n) ≡ settling labels (machineIn table c accept) count P
+  pub ahead : rounds labels (machineIn looks table c accept) P (count - n) (decode label first second n) ≡ settling labels (machineIn looks table c accept) count P
 
 -- an answer of kind 0 or 1 shows no tree
 unseen : (n : ℕ) (label first second : List ℕ) (kind : ℕ) → kind < 2 → (t : Tree 2) → answerOf kind n label first second ≡ tree t → ⊥
@@ -203,11 +203,20 @@ unseen n label first second zero h t e = let z : _≡_ {A = ℕ} 0 1 = cc in ome
 unseen n label first second (suc zero) h t e = let z : _≡_ {A = ℕ} 0 1 = cc in omega arith
 unseen n label first second (suc (suc kind)) h t e = absurd (omega arith)
 
-module _ (labels : ℕ) (table : List ℕ) (c count : ℕ) (accept : List ℕ) (P : ℕ) (wh : Whole labels table c count P) where
-  abbrev goal : Sought 2
-  goal = settling labels (machineIn table c accept) count P
+-- the empty tree is shown
+pub shown-first : {labels looks : ℕ} {table : List ℕ} {c count P : ℕ} (wh : Whole labels looks table c count P) (accept : List ℕ) → (getD accept 0 0 ≡ 0 → ⊥)
+    → Ended (settling labels (machineIn looks table c accept) count P) 2 1 0 (replicate 64 0) (replicate 64 0) (replicate 64 0)
+unfolding decode treeAt settling begin answerOf positions
+shown-first wh accept h = record {
+  answer = rw (ne-eqb (getD accept 0 0) 0 h);
+  counted = λ t e. let z : tree empty ≡ tree t = rw (ne-eqb (getD accept 0 0) 0 h) at e in let y : empty ≡ t = cc in ap positions y;
+  back = λ i h k. absurd (omega arith);
+  low = omega arith;
+  high = omega arith;
+}
 
-  pub round-first : getD accept 0 0 ≡ 0 → Round labels table c count accept P (set (replicate 64 0) 0 1) (replicate 64 0) (replicate 64 0) (replicate 64 0) (replicate 64 0) (replicate 64 0) 1
+module _ {labels looks : ℕ} {table : List ℕ} {c count : ℕ} {accept : List ℕ} {P : ℕ} (wh : Whole labels looks table c count P) where
+  pub round-first : getD accept 0 0 ≡ 0 → Round labels looks table c count accept P (set (replicate 64 0) 0 1) (replicate 64 0) (replicate 64 0) (replicate 64 0) (replicate 64 0) (replicate 64 0) 1
   unfolding decode treeAt settling begin
   round-first e = record {
     low = omega arith;
@@ -218,25 +227,24 @@ module _ (labels : ℕ) (table : List ℕ) (c count : ℕ) (accept : List ℕ) (
     long-label = refl;
     long-first = refl;
     long-second = refl;
-    stands = stands-first (machineIn table c accept) refl;
+    stands = stands-first (machineIn looks table c accept) refl;
     tame = λ i. rw (zeros 64 i) (omega (arith, wh .some-state, wh .within));
     light = λ i. rw (zeros 64 i) (omega arith);
     back = λ i h k. absurd (omega arith);
     ahead = rw (eq-eqb (getD accept 0 0) 0 e);
   }
 
-  pub shown-first : (getD accept 0 0 ≡ 0 → ⊥) → Ended goal 2 1 0 (replicate 64 0) (replicate 64 0) (replicate 64 0)
-  unfolding decode treeAt settling begin answerOf positions
-  shown-first h = record { answer = rw (ne-eqb (getD accept 0 0) 0 h); counted = λ t e. let z : tree empty ≡ tree t = rw (ne-eqb (getD accept 0 0) 0 h) at e in let y : empty ≡ t = cc in ap positions y; back = λ i h k. absurd (omega arith); low = omega arith; high = omega arith }
-
-  module _ (done state size label first second : List ℕ) (n : ℕ) (v : Round labels table c count accept P done state size label first second n) where
+  module _ {done state size label first second : List ℕ} {n : ℕ} (v : Round labels looks table c count accept P done state size label first second n) where
     abbrev s : List (Tree 2)
     s = decode label first second n
 
     abbrev M : Machine 2 ℕ
-    M = machineIn table c accept
+    M = machineIn looks table c accept
 
-    pub round-ready : Ready labels table c state size n
+    abbrev goal : Sought 2
+    goal = settling labels M count P
+
+    pub round-ready : Ready labels looks table c state size n
     round-ready = record {
       few = wh .few;
       whole = wh .whole;
@@ -259,9 +267,9 @@ module _ (labels : ℕ) (table : List ℕ) (c count : ℕ) (accept : List ℕ) (
     go : List (Tree 2) → Sought 2
     go = rounds labels M P (count - suc n)
 
-    module _ (h : n < count) (r : Pick) (k : Held (codeView table c done state size) (scanLabel (codeView table c done state size) n labels nothing) r) where
+    module _ (h : n < count) (r : Pick) (k : Held (codeView looks table c done state size) (scanLabel (codeView looks table c done state size) n labels nothing) r) where
       held : Held (view M s) (pick labels (length s) (view M s)) r
-      held = scan-pick table c labels accept s done state size n r (v .stands) (decode-length label first second n) k
+      held = scan-pick looks table c labels accept s done state size n r (v .stands) (decode-length label first second n) k
 
       round-next : next go M P s (bestOf (r .size) (r .label) (r .first) (r .second)) ≡ goal
       unfolding rounds go
@@ -318,7 +326,7 @@ module _ (labels : ℕ) (table : List ℕ) (c count : ℕ) (accept : List ℕ) (
         unfolding verdict
         round-on p a = rw (le-ltb P (positions t) (rw (← size-is) p), eq-eqb (getD accept q 0) 0 a) at verdict-is
 
-        pub round-target : (x y q′ : ℕ) → x ≡ getD state (r .first) 0 → y ≡ getD state (r .second) 0 → q′ ≡ getD table ((r .label * c + x) * c + y) 0 → q′ ≡ q
+        pub round-target : (x y q′ : ℕ) → x ≡ getD state (r .first) 0 → y ≡ getD state (r .second) 0 → q′ ≡ stepIn looks table c (r .label) x y → q′ ≡ q
         unfolding run
         round-target x y q′ ex ey e = e ∙ rw (ex, ey, v .stands .states (r .first), v .stands .states (r .second))
 
@@ -327,7 +335,7 @@ module _ (labels : ℕ) (table : List ℕ) (c count : ℕ) (accept : List ℕ) (
         round-below = wh .steps (r .label) (run M (at s (r .first))) (run M (at s (r .second))) (round-range .0)
             (subst (λ (x : ℕ). x < count) (v .stands .states (r .first)) (v .tame (r .first))) (subst (λ (x : ℕ). x < count) (v .stands .states (r .second)) (v .tame (r .second)))
 
-        pub round-small : (x y q′ : ℕ) → x ≡ getD state (r .first) 0 → y ≡ getD state (r .second) 0 → q′ ≡ getD table ((r .label * c + x) * c + y) 0 → q′ < 64
+        pub round-small : (x y q′ : ℕ) → x ≡ getD state (r .first) 0 → y ≡ getD state (r .second) 0 → q′ ≡ stepIn looks table c (r .label) x y → q′ < 64
         round-small x y q′ ex ey e = omega (arith, round-target x y q′ ex ey e, round-below, wh .within, wh .few)
 
         grown : decode (set label n (r .label)) (set first n (r .first)) (set second n (r .second)) (suc n) ≡ s ++ (t ∷ [])
@@ -357,7 +365,7 @@ module _ (labels : ℕ) (table : List ℕ) (c count : ℕ) (accept : List ℕ) (
         }
 
         pub round-more : (q′ x : ℕ) → q′ ≡ q → x ≡ q′ → r .size ≤ P → getD accept q′ 0 ≡ 0
-            → Round labels table c count accept P (set done q′ 1) (set state n x) (set size n (r .size)) (set label n (r .label)) (set first n (r .first)) (set second n (r .second)) (n + 1)
+            → Round labels looks table c count accept P (set done q′ 1) (set state n x) (set size n (r .size)) (set label n (r .label)) (set first n (r .first)) (set second n (r .second)) (n + 1)
         unfolding go run
         round-more q′ x e ex p a = rw (ex, add-one n) (record {
           low = omega arith;

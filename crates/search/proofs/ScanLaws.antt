@@ -1,18 +1,36 @@
 -- One turn of each loop of a scan, its start and its end. Assumes nothing.
-use mathlib.Core.Path.{_≡_, refl, sym, ap, subst}
+use mathlib.Core.Path.{_≡_, refl, sym, ap, subst, _∙_}
 use mathlib.Core.Bool.{Bool, true, false, not, true≢false}
 use mathlib.Core.List.{List, [], _∷_}
-use Prim.Native.Nat.{ℕ, zero, suc, _+_, _*_, _≤_, _<_}
+use Prim.Native.Nat.{ℕ, zero, suc, _+_, _*_, _/_, _%_, _≤_, _<_, min}
 use native.Mathlib.Omega.{arith}
 use native.Mathlib.Nat.{mul-le-mul-right}
 use native.Mathlib.Numerals.{add-one}
+use lib.Bits.{bitAnd, and-step, and-zero-l, and-le-l}
 use lib.Dec.{eqb}
 use borrow.Author.Tests.{eq-eqb, ne-eqb, lt-ltb, le-ltb, ltb-true, ltb-false, eqb-true, eqb-false}
 use lib.ListN.{getD}
 use Rattle.search.specs.declared.Pick.{Pick}
 use Rattle.logic.specs.Search.{Best, nothing, found, View, weight, lighter, choose, consider, loop, tuples, pick, at}
 use Rattle.logic.specs.Tree.{downFrom, sumOf}
-use Rattle.search.specs.Scan.{kept, codeView, bestOf, sizeOf, Held, Ready, scanSecond, scanFirst, scanLabel}
+use Rattle.logic.specs.Meaning.{Branch}
+use Rattle.logic.specs.Two.{one, two}
+use Rattle.logic.proofs.Repeats.{label-repeats}
+use Rattle.search.specs.Scan.{kept, stepIn, codeView, bestOf, sizeOf, Held, Ready, scanSecond, scanFirst, scanLabel}
+
+-- the bits that are left stay
+and-twice : (m a b : ℕ) → a ≤ m → bitAnd (bitAnd a b) b ≡ bitAnd a b
+and-twice zero a b h = let e : a ≡ 0 = omega arith in rw (e, and-zero-l b) (and-zero-l b)
+and-twice (suc m) a b h =
+    let x = bitAnd (a / 2) (b / 2) in
+    let y = min (a % 2) (b % 2) in
+    let small : y < 2 = omega arith in
+    let e : bitAnd a b ≡ x * 2 + y = and-step a b in
+    let half : bitAnd a b / 2 ≡ x = omega arith in
+    let odd : bitAnd a b % 2 ≡ y = omega arith in
+    let ih : bitAnd x (b / 2) ≡ x = and-twice m (a / 2) (b / 2) (omega arith) in
+    let low : min y (b % 2) ≡ y = omega arith in
+    and-step (bitAnd a b) b ∙ rw (half, odd, ih, low) (sym e)
 
 -- the definition's loops are these
 pub pick-loops : (v : View 2) (labels n : ℕ) → pick labels n v ≡ scanLabel v n labels nothing
@@ -59,35 +77,41 @@ module _ (v : View 2) (o l i j : ℕ) where
       subst (Held v (found l′ is′)) (kept-more p o (suc (v .size i + v .size j)) l i j (eqb-true o 0 e) (λ z. omega (arith, h .fair)) (omega (arith, h .fair, weight-two v i j, ltb-false (weight v (i ∷ j ∷ [])) (weight v is′) f))) h
 
 -- one turn of the inner loop
-pub held-consider : (table : List ℕ) (c : ℕ) (done state size : List ℕ) (l i j : ℕ) (b : Best) (p : Pick) → Held (codeView table c done state size) b p
-    → Held (codeView table c done state size) (consider (codeView table c done state size) l (i ∷ j ∷ []) b)
-    (kept p (getD done (getD table ((l * c + getD state i 0) * c + getD state j 0) 0) 0) (suc (getD size i 0 + getD size j 0)) l i j)
+pub held-consider : (looks : ℕ) (table : List ℕ) (c : ℕ) (done state size : List ℕ) (l i j : ℕ) (b : Best) (p : Pick) → Held (codeView looks table c done state size) b p
+    → Held (codeView looks table c done state size) (consider (codeView looks table c done state size) l (i ∷ j ∷ []) b)
+    (kept p (getD done (stepIn looks table c l (getD state i 0) (getD state j 0)) 0) (suc (getD size i 0 + getD size j 0)) l i j)
 unfolding consider codeView
-held-consider table c done state size l i j b p h =
-    let v : View 2 = codeView table c done state size in
-    let o : ℕ = getD done (getD table ((l * c + getD state i 0) * c + getD state j 0) 0) 0 in
+held-consider looks table c done state size l i j b p h =
+    let v : View 2 = codeView looks table c done state size in
+    let o : ℕ = getD done (stepIn looks table c l (getD state i 0) (getD state j 0)) 0 in
     held-choose v o l i j b p h (eqb o 0) refl (lighter v (i ∷ j ∷ []) b) refl
 
 -- the place of a step in the table
 pair-lt : (x n y c : ℕ) → x < n → y < c → x * c + y < n * c
 pair-lt x n y c h k = omega (arith, mul-le-mul-right c h)
 
-pub cell-lt : (labels c l a b : ℕ) → l < labels → a < c → b < c → (l * c + a) * c + b < labels * c * c
+cell-lt : (labels c l a b : ℕ) → l < labels → a < c → b < c → (l * c + a) * c + b < labels * c * c
 cell-lt labels c l a b h k m = pair-lt (l * c + a) (labels * c) b c (pair-lt l labels a c h k) m
 
-pub line-le : (x c b : ℕ) → b < c → x ≤ x * c + b
+line-le : (x c b : ℕ) → b < c → x ≤ x * c + b
 line-le x zero b h = omega arith
 line-le x (suc c) b h = omega arith
 
+-- the label without the bits that are not looked at is no larger, so its entries lie in the table too
+pub in-table : (labels looks c l a b : ℕ) → l < labels → a < c → b < c
+    → (bitAnd l looks * c + a ≤ (bitAnd l looks * c + a) * c + b) × ((bitAnd l looks * c + a) * c + b < labels * c * c)
+in-table labels looks c l a b h k m =
+    (line-le (bitAnd l looks * c + a) c b m, cell-lt labels c (bitAnd l looks) a b (omega (arith, and-le-l l looks)) k m)
+
 -- One turn of the inner loop, as the code takes it.
-pub row-next : (table : List ℕ) (c : ℕ) (done state size : List ℕ) (l i j : ℕ) (b : Best) (p r : Pick) (x y q : ℕ)
-    → Held (codeView table c done state size) (scanSecond (codeView table c done state size) l i j b) p
-    → x ≡ getD state i 0 → y ≡ getD state j 0 → q ≡ getD table ((l * c + x) * c + y) 0
+pub row-next : (looks : ℕ) (table : List ℕ) (c : ℕ) (done state size : List ℕ) (l i j : ℕ) (b : Best) (p r : Pick) (x y q : ℕ)
+    → Held (codeView looks table c done state size) (scanSecond (codeView looks table c done state size) l i j b) p
+    → x ≡ getD state i 0 → y ≡ getD state j 0 → q ≡ stepIn looks table c l x y
     → r ≡ kept p (getD done q 0) (getD size i 0 + getD size j 0 + 1) l i j
-    → Held (codeView table c done state size) (scanSecond (codeView table c done state size) l i (j + 1) b) r
+    → Held (codeView looks table c done state size) (scanSecond (codeView looks table c done state size) l i (j + 1) b) r
 unfolding scanSecond loop
-row-next table c done state size l i j b p r x y q h ex ey eq er =
-    rw (er, eq, ex, ey, add-one j, add-one (getD size i 0 + getD size j 0)) (held-consider table c done state size l i j (scanSecond (codeView table c done state size) l i j b) p h)
+row-next looks table c done state size l i j b p r x y q h ex ey eq er =
+    rw (er, eq, ex, ey, add-one j, add-one (getD size i 0 + getD size j 0)) (held-consider looks table c done state size l i j (scanSecond (codeView looks table c done state size) l i j b) p h)
 
 pub row-done : (v : View 2) (l i j n : ℕ) (b : Best) (r : Pick) → j ≤ n → n ≤ j → Held v (scanSecond v l i j b) r → Held v (scanSecond v l i n b) r
 row-done v l i j n b r p q h = subst (λ (k : ℕ). Held v (scanSecond v l i k b) r) (omega arith) h
@@ -113,9 +137,20 @@ pub pick-next : (v : View 2) (n l : ℕ) (b : Best) (p r : Pick) → Held v (sca
 unfolding scanLabel loop
 pick-next v n l b p r h k = rw (add-one l) (rw (h .best) at k)
 
+-- a label with a bit that is not looked at is passed over: it has the steps of the label without that bit, which is an earlier one
+pub pick-passed : (looks : ℕ) (table : List ℕ) (c : ℕ) (done state size : List ℕ) (n l : ℕ) (b : Best) (p : Pick) → bitAnd l looks < l
+    → Held (codeView looks table c done state size) (scanLabel (codeView looks table c done state size) n l b) p
+    → Held (codeView looks table c done state size) (scanLabel (codeView looks table c done state size) n (l + 1) b) p
+unfolding scanLabel scanFirst scanSecond tuples loop codeView
+pick-passed looks table c done state size n l b p h w =
+    let v : View 2 = codeView looks table c done state size in
+    let alike : (s : Branch 2 → ℕ) → v .step (bitAnd l looks) s ≡ v .step l s =
+    λ s. ap (λ (m : ℕ). getD table ((m * c + s one) * c + s two) 0) (and-twice l l looks (omega arith)) in
+    rw (add-one l) (subst (λ (x : Best). Held v x p) (sym (label-repeats v n (bitAnd l looks) l h alike b)) w)
+
 pub pick-done : (v : View 2) (n l labels : ℕ) (b : Best) (r : Pick) → l ≤ labels → labels ≤ l → Held v (scanLabel v n l b) r → Held v (scanLabel v n labels b) r
 pick-done v n l labels b r p q h = subst (λ (k : ℕ). Held v (scanLabel v n k b) r) (omega arith) h
 
-pub ready-steps : {labels : ℕ} {table : List ℕ} {c : ℕ} {state size : List ℕ} {n : ℕ} (v : Ready labels table c state size n) (l a b : ℕ) → l < labels → a < v .bound → b < v .bound
-    → getD table ((l * c + a) * c + b) 0 < 64
+pub ready-steps : {labels looks : ℕ} {table : List ℕ} {c : ℕ} {state size : List ℕ} {n : ℕ} (v : Ready labels looks table c state size n) (l a b : ℕ)
+    → l < labels → a < v .bound → b < v .bound → stepIn looks table c l a b < 64
 ready-steps v l a b hl ha hb = omega (arith, v .steps l a b hl ha hb, v .within, v .few)

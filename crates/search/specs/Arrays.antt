@@ -10,6 +10,7 @@ use Rattle.logic.specs.Tree.{Tree, empty, positions}
 use Rattle.logic.specs.Machine.{Machine}
 use Rattle.logic.specs.Table.{Table}
 use Rattle.logic.specs.Two.{binary}
+use Rattle.search.specs.Scan.{stepIn}
 
 -- the settled trees, from their labels and the ranks of their branches: rank 0 is the empty tree
 unfoldable pub treeAt : List ℕ → List ℕ → List ℕ → List (Tree 2) → ℕ → Tree 2
@@ -24,17 +25,17 @@ abbrev pub acceptsOf : List ℕ → ℕ → Bool
 acceptsOf accept q = not (eqb (getD accept q 0) 0)
 
 -- the machine that the table and the accepting states stand for
-abbrev pub machineIn : List ℕ → ℕ → List ℕ → Machine 2 ℕ
-machineIn table c accept = binary (λ l a b. getD table ((l * c + a) * c + b) 0) (acceptsOf accept)
+abbrev pub machineIn : ℕ → List ℕ → ℕ → List ℕ → Machine 2 ℕ
+machineIn looks table c accept = binary (stepIn looks table c) (acceptsOf accept)
 
-abbrev pub tableIn : List ℕ → ℕ → List ℕ → ℕ → Table 2
-tableIn table c accept count = record { count = count; machine = machineIn table c accept }
+abbrev pub tableIn : ℕ → List ℕ → ℕ → List ℕ → ℕ → Table 2
+tableIn looks table c accept count = record { count = count; machine = machineIn looks table c accept }
 
 -- What the round loop is given: a table whose entries for states are states.
-pub record Whole (labels : ℕ) (table : List ℕ) (c count P : ℕ) : Type 0 where
+pub record Whole (labels looks : ℕ) (table : List ℕ) (c count P : ℕ) : Type 0 where
   pub few : c ≤ 64
   pub whole : labels * c * c ≤ length table
-  pub steps : (l a b : ℕ) → l < labels → a < count → b < count → getD table ((l * c + a) * c + b) 0 < count
+  pub steps : (l a b : ℕ) → l < labels → a < count → b < count → stepIn looks table c l a b < count
   pub some-state : 0 < count
   pub within : count ≤ c
   pub small : P ≤ 255

@@ -3,6 +3,7 @@ use mathlib.Core.Path.{_≡_}
 use mathlib.Core.Bool.{not, _||_, cond}
 use mathlib.Core.List.{List, [], _∷_}
 use Prim.Native.Nat.{ℕ, zero, suc, _+_, _*_, _≤_, _<_}
+use lib.Bits.{bitAnd}
 use lib.Dec.{ltb, eqb}
 use lib.ListN.{length, getD}
 use Rattle.search.specs.declared.Pick.{Pick}
@@ -21,10 +22,14 @@ scanLabel v n m b = loop (λ l. scanFirst v n l n) m b
 unfoldable pub kept : Pick → ℕ → ℕ → ℕ → ℕ → ℕ → Pick
 kept p old w l i j = cond (eqb old 0) (cond (eqb (p .size) 0 || ltb w (p .size)) (record { size = w; label = l; first = i; second = j }) p) p
 
--- the arrays, as a round reads them: c states to a row of the table
-unfoldable pub codeView : List ℕ → ℕ → List ℕ → List ℕ → List ℕ → View 2
-codeView table c done state size = record {
-  step = λ l s. getD table ((l * c + s one) * c + s two) 0;
+-- the step that a table stands for, c states to a row: its entry at the label with no bit but those that its record looks at
+abbrev pub stepIn : ℕ → List ℕ → ℕ → ℕ → ℕ → ℕ → ℕ
+stepIn looks table c l a b = getD table ((bitAnd l looks * c + a) * c + b) 0
+
+-- the arrays, as a round reads them
+unfoldable pub codeView : ℕ → List ℕ → ℕ → List ℕ → List ℕ → List ℕ → View 2
+codeView looks table c done state size = record {
+  step = λ l s. stepIn looks table c l (s one) (s two);
   old = λ q. not (eqb (getD done q 0) 0);
   state = λ i. getD state i 0;
   size = λ i. getD size i 0;
@@ -44,12 +49,12 @@ pub record Held (v : View 2) (b : Best) (p : Pick) : Type 0 where
   pub fair : p .size ≡ sizeOf v b
 
 -- the arrays are as they should be: n settled trees, of states below a bound under which the steps stay, each of at most 255 positions
-pub record Ready (labels : ℕ) (table : List ℕ) (c : ℕ) (state size : List ℕ) (n : ℕ) : Type 0 where
+pub record Ready (labels looks : ℕ) (table : List ℕ) (c : ℕ) (state size : List ℕ) (n : ℕ) : Type 0 where
   pub few : c ≤ 64
   pub whole : labels * c * c ≤ length table
   pub bound : ℕ
   pub within : bound ≤ c
-  pub steps : (l a b : ℕ) → l < labels → a < bound → b < bound → getD table ((l * c + a) * c + b) 0 < bound
+  pub steps : (l a b : ℕ) → l < labels → a < bound → b < bound → stepIn looks table c l a b < bound
   pub settled-few : n ≤ 64
   pub states : (i : ℕ) → i < n → getD state i 0 < bound
   pub sizes : (i : ℕ) → i < n → getD size i 0 ≤ 255

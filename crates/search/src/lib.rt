@@ -5,8 +5,7 @@ ghost use Rattle.search.specs.Arrays.{Whole, acceptsOf, machineIn, settl
 // The scan of one round, over byte arrays.
 ghost use mathlib.Core.Path.{_≡_};
 ghost use Prim.Native.Nat.{_+_, _*_, _<_, _≤_};
-ghost use lib.ListN.{getD};
-ghost use Rattle.search.specs.Scan.{kept, Ready, Held, codeView, bestOf, scanSecond, scanFirst, scanLabel};
+ghost use Rattle.search.specs.Scan.{kept, stepIn, Ready, Held, codeView, bestOf, scanSecond, scanFirst, scanLabel};
 ghost use Rattle.logic.specs.Search.{nothing, anyBelow, search};
 
 // The best candidate so far: its positions, or 0 for none; its label and the ranks of its branches.
@@ -50,18 +49,27 @@ fn wide(x: u8) -> usize
     x as usize
 }
 
-// The step: of c × c states to a label.
-pub fn cell(labels: usize, table: &[u8], c: usize, l: usize, a: usize, b: usize) -> usize
+// The step: the entry of c × c to a label, at the label with no bit but those that the record looks at.
+pub fn cell(
+    labels: usize,
+    looks: usize,
+    table: &[u8],
+    c: usize,
+    l: usize,
+    a: usize,
+    b: usize,
+) -> usize
     requires { do ⌜ labels * c * c ≤ (← ⟦table.len()⟧) ⌝ }
     requires { ⌜ (l < labels) × (a < c) × (b < c) ⌝ }
-    ensures { λ r. ⌜ r ≡ getD (now (table .entry)) ((l * c + a) * c + b) 0 ⌝ }
+    ensures { λ r. ⌜ r ≡ stepIn looks (now (table .entry)) c l a b ⌝ }
 {
-    wide(table[(l * c + a) * c + b])
+    wide(table[((l & looks) * c + a) * c + b])
 }
 
 // The inner loop: the label l, the first branch of rank i, second branches of all ranks.
 pub fn row(
     labels: usize,
+    looks: usize,
     table: &[u8],
     c: usize,
     done: &[u8; 64],
@@ -72,16 +80,16 @@ pub fn row(
     i: usize,
     best: Pick,
 ) -> Pick
-    requires { ⌜ Ready labels (now table) c (now state) (now size) n ⌝ }
+    requires { ⌜ Ready labels looks (now table) c (now state) (now size) n ⌝ }
     requires { ⌜ (l < labels) × (i < n) ⌝ }
-    requires { ⌜ Held (codeView (now table) c (now done) (now state) (now size)) (bestOf (best .size) (best .label) (best .first) (best .second)) best ⌝ }
-    ensures { λ r. ⌜ Held (codeView (now (table .entry)) c (now (done .entry)) (now (state .entry)) (now (size .entry)))
-        (scanSecond (codeView (now (table .entry)) c (now (done .entry)) (now (state .entry)) (now (size .entry))) l i n (bestOf (best .size) (best .label) (best .first) (best .second))) r ⌝ }
+    requires { ⌜ Held (codeView looks (now table) c (now done) (now state) (now size)) (bestOf (best .size) (best .label) (best .first) (best .second)) best ⌝ }
+    ensures { λ r. ⌜ Held (codeView looks (now (table .entry)) c (now (done .entry)) (now (state .entry)) (now (size .entry)))
+        (scanSecond (codeView looks (now (table .entry)) c (now (done .entry)) (now (state .entry)) (now (size .entry))) l i n (bestOf (best .size) (best .label) (best .first) (best .second))) r ⌝ }
 {
     let mut b = best;
     let mut j: usize = 0;
     while j < n {
-        let q = cell(labels, table, c, l, wide(state[i]), wide(state[j]));
+        let q = cell(labels, looks, table, c, l, wide(state[i]), wide(state[j]));
         b = consider(b, done[q], size[i] + size[j] + 1, l, i, j);
         j += 1;
     }
@@ -91,6 +99,7 @@ pub fn row(
 // The middle loop: the label l, first branches of all ranks.
 pub fn rows(
     labels: usize,
+    looks: usize,
     table: &[u8],
     c: usize,
     done: &[u8; 64],
@@ -100,24 +109,25 @@ pub fn rows(
     l: usize,
     best: Pick,
 ) -> Pick
-    requires { ⌜ Ready labels (now table) c (now state) (now size) n ⌝ }
+    requires { ⌜ Ready labels looks (now table) c (now state) (now size) n ⌝ }
     requires { ⌜ l < labels ⌝ }
-    requires { ⌜ Held (codeView (now table) c (now done) (now state) (now size)) (bestOf (best .size) (best .label) (best .first) (best .second)) best ⌝ }
-    ensures { λ r. ⌜ Held (codeView (now (table .entry)) c (now (done .entry)) (now (state .entry)) (now (size .entry)))
-        (scanFirst (codeView (now (table .entry)) c (now (done .entry)) (now (state .entry)) (now (size .entry))) n l n (bestOf (best .size) (best .label) (best .first) (best .second))) r ⌝ }
+    requires { ⌜ Held (codeView looks (now table) c (now done) (now state) (now size)) (bestOf (best .size) (best .label) (best .first) (best .second)) best ⌝ }
+    ensures { λ r. ⌜ Held (codeView looks (now (table .entry)) c (now (done .entry)) (now (state .entry)) (now (size .entry)))
+        (scanFirst (codeView looks (now (table .entry)) c (now (done .entry)) (now (state .entry)) (now (size .entry))) n l n (bestOf (best .size) (best .label) (best .first) (best .second))) r ⌝ }
 {
     let mut b = best;
     let mut i: usize = 0;
     while i < n {
-        b = row(labels, table, c, done, state, size, n, l, i, b);
+        b = row(labels, looks, table, c, done, state, size, n, l, i, b);
         i += 1;
     }
     b
 }
 
-// The outer loop: all labels.
+// The outer loop: the labels with no bit but those that the record looks at. Any other has the steps of an earlier one.
 pub fn scan(
     labels: usize,
+    looks: usize,
     table: &[u8],
     c: usize,
     done: &[u8; 64],
@@ -125,9 +135,9 @@ pub fn scan(
     size: &[u64; 64],
     n: usize,
 ) -> Pick
-    requires { ⌜ Ready labels (now table) c (now state) (now size) n ⌝ }
-    ensures { λ r. ⌜ Held (codeView (now (table .entry)) c (now (done .entry)) (now (state .entry)) (now (size .entry)))
-        (scanLabel (codeView (now (table .entry)) c (now (done .entry)) (now (state .entry)) (now (size .entry))) n labels nothing) r ⌝ }
+    requires { ⌜ Ready labels looks (now table) c (now state) (now size) n ⌝ }
+    ensures { λ r. ⌜ Held (codeView looks (now (table .entry)) c (now (done .entry)) (now (state .entry)) (now (size .entry)))
+        (scanLabel (codeView looks (now (table .entry)) c (now (done .entry)) (now (state .entry)) (now (size .entry))) n labels nothing) r ⌝ }
 {
     let mut b = Pick {
         size: 0,
@@ -137,7 +147,9 @@ pub fn scan(
     };
     let mut l: usize = 0;
     while l < labels {
-        b = rows(labels, table, c, done, state, size, n, l, b);
+        if l <= l & looks {
+            b = rows(labels, looks, table, c, done, state, size, n, l, b);
+        }
         l += 1;
     }
     b
@@ -184,14 +196,15 @@ fn ended(
 // The rounds, for a machine that accepts something.
 pub fn settle(
     labels: usize,
+    looks: usize,
     table: &[u8],
     c: usize,
     count: usize,
     accept: &[u8; 64],
     p: u64,
 ) -> Found
-    requires { ⌜ Whole labels (now table) c count p ⌝ }
-    ensures { λ r. ⌜ Ended (settling labels (machineIn (now (table .entry)) c (now (accept .entry))) count p) (r .kind) (r .n) (r .positions) (r .label) (r .first) (r .second) ⌝ }
+    requires { ⌜ Whole labels looks (now table) c count p ⌝ }
+    ensures { λ r. ⌜ Ended (settling labels (machineIn looks (now (table .entry)) c (now (accept .entry))) count p) (r .kind) (r .n) (r .positions) (r .label) (r .first) (r .second) ⌝ }
 {
     let mut done = [0u8; 64];
     let mut state = [0u8; 64];
@@ -205,7 +218,7 @@ pub fn settle(
         return ended(2, n, 0, label, first, second);
     }
     while n < count {
-        let b = scan(labels, table, c, &done, &state, &size, n);
+        let b = scan(labels, looks, table, c, &done, &state, &size, n);
         let w = b.size;
         if w == 0 {
             return ended(0, n, 0, label, first, second);
@@ -216,7 +229,7 @@ pub fn settle(
         let l = b.label;
         let i = b.first;
         let j = b.second;
-        let q = cell(labels, table, c, l, wide(state[i]), wide(state[j]));
+        let q = cell(labels, looks, table, c, l, wide(state[i]), wide(state[j]));
         label[n] = l;
         first[n] = i;
         second[n] = j;
@@ -248,12 +261,20 @@ fn any(accept: &[u8; 64], count: usize) -> bool
 }
 
 // The whole search: the contract is an equation with the definition.
-pub fn find(labels: usize, table: &[u8], c: usize, count: usize, accept: &[u8; 64], p: u64) -> Found
-    requires { ⌜ Whole labels (now table) c count p ⌝ }
-    ensures { λ r. ⌜ Ended (search labels (tableIn (now (table .entry)) c (now (accept .entry)) count) p) (r .kind) (r .n) (r .positions) (r .label) (r .first) (r .second) ⌝ }
+pub fn find(
+    labels: usize,
+    looks: usize,
+    table: &[u8],
+    c: usize,
+    count: usize,
+    accept: &[u8; 64],
+    p: u64,
+) -> Found
+    requires { ⌜ Whole labels looks (now table) c count p ⌝ }
+    ensures { λ r. ⌜ Ended (search labels (tableIn looks (now (table .entry)) c (now (accept .entry)) count) p) (r .kind) (r .n) (r .positions) (r .label) (r .first) (r .second) ⌝ }
 {
     if any(accept, count) {
-        return settle(labels, table, c, count, accept, p);
+        return settle(labels, looks, table, c, count, accept, p);
     }
     let zero = [0usize; 64];
     Found {

@@ -2,6 +2,7 @@
 use Prim.Native.Nat.{ℕ, zero, suc, _+_, _-_, _*_, _^_, _≤_, _<_}
 use mathlib.Core.Path.{_≡_, refl, sym, ap, subst, _∙_}
 use mathlib.Core.List.{List}
+use lib.Bits.{bitAnd}
 use lib.ListN.{length, getD, set, take, drop, replicate, length-set, length-drop}
 use lib.Seq.{getD-set-same, getD-set-other, getD-drop, take-all}
 use native.Mathlib.Omega.{arith}
@@ -25,9 +26,10 @@ use Rattle.logic.specs.Decide.{report, decideOf, say, judgeOf}
 use Rattle.machine.specs.Word.{mem}
 use Rattle.machine.specs.Succ.{entry}
 use Rattle.machine.specs.Table.{addr, seen}
-use Rattle.machine.specs.Rule.{Mach, noMach, Outcome as Made-outcome, built, over, At, Made, Finished, noDecoded, upto}
+use Rattle.machine.specs.Rule.{Mach, noMach, Outcome as Made-outcome, built, over, At, Made, noDecoded, upto}
 use Rattle.machine.specs.declared.records.Machines.{Machines}
 use Rattle.machine.specs.declared.records.Decoded.{Decoded}
+use Rattle.search.specs.Scan.{stepIn}
 use Rattle.search.specs.Arrays.{tableIn, answerOf, Whole, Ended}
 use Rattle.logic.specs.Search.{Sought, tree, large, absent, search}
 use Rattle.refinement.specs.Decode.{decodedOf}
@@ -82,19 +84,19 @@ is-over : (o : Made-outcome) (c labels m : ℕ) (s : Machines) (ws : List ℕ) �
 is-over (over k) c labels m s ws h l = ap over (sym (h .0))
 is-over (built ms) c labels m s ws h l = absurd (let a = h .0 in omega arith)
 
-module _ (o : Made-outcome) (c labels m : ℕ) (s : Machines) (ws : List ℕ) (h : Finished o c labels m s ws) (no : 128 ≤ s .over) (some : 0 < m) (top : c ≤ 64) where
+module _ (o : Made-outcome) (c labels m : ℕ) (s : Machines) (ws : List ℕ) (h : Made o c labels m s ws) (no : 128 ≤ s .over) (some : 0 < m) (top : c ≤ 64) where
   -- the last record has no more than c states
   pub last-few : getD (s .counts) (m - 1) 0 ≤ c
   last-few =
-      let w = no-over o c labels m s ws (h .0) no in
+      let w = no-over o c labels m s ws h no in
       let a : At c labels (m - 1) (getD (w .0) (m - 1) noMach) s ws = w .2 .2 (m - 1) (omega arith) in
       omega (arith, a .count, a .few)
 
   -- the search may be called on the last record's share
-  pub solve-whole : (P : ℕ) → P ≤ 255 → (table : List ℕ) → table ≡ drop ((m - 1) * (labels * c * c)) ws → labels * c * c ≤ length table → Whole labels table c (getD (s .counts) (m - 1) 0) P
-  unfolding entry addr
+  pub solve-whole : (P : ℕ) → P ≤ 255 → (table : List ℕ) → table ≡ drop ((m - 1) * (labels * c * c)) ws → labels * c * c ≤ length table → Whole labels (getD (s .looks) (m - 1) 0) table c (getD (s .counts) (m - 1) 0) P
+  unfolding entry addr seen
   solve-whole P hp table et hl =
-      let w = no-over o c labels m s ws (h .0) no in
+      let w = no-over o c labels m s ws h no in
       let a : At c labels (m - 1) (getD (w .0) (m - 1) noMach) s ws = w .2 .2 (m - 1) (omega arith) in
       let k = a .count in
       record {
@@ -102,11 +104,10 @@ module _ (o : Made-outcome) (c labels m : ℕ) (s : Machines) (ws : List ℕ) (h
         whole = hl;
         steps = λ l i j p q r.
             let b = a .holds l i j p (omega arith) (omega arith) in
-            let e : seen (getD (s .looks) (m - 1) 0) l ≡ l = h .1 no l p in
-            let f = ap (λ (z : ℕ). getD ws ((m - 1) * (labels * c * c) + ((z * c + i) * c + j)) 0) e in
-            let d : getD table ((l * c + i) * c + j) 0 ≡ getD ws ((m - 1) * (labels * c * c) + ((l * c + i) * c + j)) 0 =
-            ap (λ (t : List ℕ). getD t ((l * c + i) * c + j) 0) et ∙ getD-drop ((m - 1) * (labels * c * c)) ws ((l * c + i) * c + j) 0 in
-            let b0 = b .0 in let b1 = b .1 in omega arith;
+            let place = (bitAnd l (getD (s .looks) (m - 1) 0) * c + i) * c + j in
+            let d : getD table place 0 ≡ getD ws ((m - 1) * (labels * c * c) + place) 0 =
+            ap (λ (t : List ℕ). getD t place 0) et ∙ getD-drop ((m - 1) * (labels * c * c)) ws place 0 in
+            omega (arith, b .0, b .1);
         some-state = let b = a .some-state in omega arith;
         within = let b = a .few in omega arith;
         small = hp;
@@ -121,12 +122,12 @@ solve-share (suc m) share h = let e : suc m - 1 ≡ m = omega arith in rw e (sym
 
 module _ (records : List Decoded) (c P : ℕ) (s : Machines) (ws : List ℕ) (pos : 0 < c) (top : c ≤ 64) where
   -- too many states
-  pub solve-refused : (m labels : ℕ) → Finished (upto records c labels m) c labels m s ws → s .over < 128 → (v : Solution) → v .over ≡ s .over → v .found .n ≡ 1
+  pub solve-refused : (m labels : ℕ) → Made (upto records c labels m) c labels m s ws → s .over < 128 → (v : Solution) → v .over ≡ s .over → v .found .n ≡ 1
       → Solved records m c labels P v
   unfolding outcomeIf
   solve-refused m labels h l v e one = record {
     answer = λ n rs acc lm lab dec.
-        let o = is-over (upto records c labels m) c labels m s ws (h .0) l in
+        let o = is-over (upto records c labels m) c labels m s ws h l in
         let o′ : upto records c (2 ^ n) (length rs) ≡ over (s .over) = rw (lm, ← lab) o in
         rw (e, lt-ltb (s .over) 128 l) (sym (decide-over n c pos top rs acc records dec P (s .over) o′));
     ranks = record {
@@ -139,16 +140,16 @@ module _ (records : List Decoded) (c P : ℕ) (s : Machines) (ws : List ℕ) (po
 
   module _ (no : 128 ≤ s .over) (accept table : List ℕ) (kind k size : ℕ) (label first second : List ℕ) where
     abbrev All : ℕ → List Record → ℕ → ℕ → Type 0
-    All n rs m labels = Finished (upto records c labels m) c labels m s ws → table ≡ drop ((m - 1) * (labels * c * c)) ws → Marked accept (getD (s .accepts) (m - 1) 0) (getD (s .counts) (m - 1) 0)
-        → Ended (search labels (tableIn table c accept (getD (s .counts) (m - 1) 0)) P) kind k size label first second
+    All n rs m labels = Made (upto records c labels m) c labels m s ws → table ≡ drop ((m - 1) * (labels * c * c)) ws → Marked accept (getD (s .accepts) (m - 1) 0) (getD (s .counts) (m - 1) 0)
+        → Ended (search labels (tableIn (getD (s .looks) (m - 1) 0) table c accept (getD (s .counts) (m - 1) 0)) P) kind k size label first second
         → report (getD (s .counts) (m - 1) 0) (answerOf kind k label first second) ≡ decideOf 2 n rs c P
 
     solve-at : (n : ℕ) (rs : List Record) → Accepted 2 n rs → ((r : ℕ) → r < length rs → getD records r noDecoded ≡ decodedOf n (getD rs r noRecord)) → All n rs (length rs) (2 ^ n)
     solve-at n rs acc dec h et marks e =
-        let w = no-over (upto records c (2 ^ n) (length rs)) c (2 ^ n) (length rs) s ws (h .0) no in
+        let w = no-over (upto records c (2 ^ n) (length rs)) c (2 ^ n) (length rs) s ws h no in
         let a : At c (2 ^ n) (lastOf rs) (getD (w .0) (lastOf rs) noMach) s ws = w .2 .2 (lastOf rs) (let z = acc .0 in omega arith) in
-        let d = decide-bytes n c pos top rs acc records dec s ws (w .0) (w .1) (w .2, h .1) accept (λ q l. marks q (let x = a .count in let y = a .few in omega arith)) P in
-        ap (report (getD (s .counts) (lastOf rs) 0)) (e .answer ∙ ap (λ (t : List ℕ). search (2 ^ n) (tableIn t c accept (getD (s .counts) (lastOf rs) 0)) P) et) ∙ d
+        let d = decide-bytes n c pos top rs acc records dec s ws (w .0) (w .1) (w .2) accept (λ q l. marks q (let x = a .count in let y = a .few in omega arith)) P in
+        ap (report (getD (s .counts) (lastOf rs) 0)) (e .answer ∙ ap (λ (t : List ℕ). search (2 ^ n) (tableIn (getD (s .looks) (lastOf rs) 0) t c accept (getD (s .counts) (lastOf rs) 0)) P) et) ∙ d
 
     -- the tree that is reported is the one that was found
     reported : (q : ℕ) (x : Sought 2) (places states : ℕ) (t : Tree 2) → report q x ≡ shown places states t → x ≡ tree t
@@ -158,8 +159,8 @@ module _ (records : List Decoded) (c P : ℕ) (s : Machines) (ws : List ℕ) (po
     reported q absent places states t e = absurd (let z : _≡_ {A = ℕ} 0 1 = cc in omega arith)
 
     -- an answer
-    pub solve-decided : (m labels : ℕ) → Finished (upto records c labels m) c labels m s ws → table ≡ drop ((m - 1) * (labels * c * c)) ws → Marked accept (getD (s .accepts) (m - 1) 0) (getD (s .counts) (m - 1) 0)
-        → Ended (search labels (tableIn table c accept (getD (s .counts) (m - 1) 0)) P) kind k size label first second
+    pub solve-decided : (m labels : ℕ) → Made (upto records c labels m) c labels m s ws → table ≡ drop ((m - 1) * (labels * c * c)) ws → Marked accept (getD (s .accepts) (m - 1) 0) (getD (s .counts) (m - 1) 0)
+        → Ended (search labels (tableIn (getD (s .looks) (m - 1) 0) table c accept (getD (s .counts) (m - 1) 0)) P) kind k size label first second
         → Solved records m c labels P (record { over = 128; states = getD (s .counts) (m - 1) 0; found = record { kind = kind; n = k; positions = size; label = label; first = first; second = second } })
     unfolding outcomeIf
     solve-decided m labels h et marks e = record {
@@ -174,31 +175,31 @@ module _ (records : List Decoded) (c P : ℕ) (s : Machines) (ws : List ℕ) (po
 
 -- judging a tree
 module _ (records : List Decoded) (c : ℕ) (s : Machines) (ws : List ℕ) (pos : 0 < c) (top : c ≤ 64) (n m : ℕ) (strip : List ℕ) where
-  pub judge-refused : Finished (upto records c (2 ^ n) m) c (2 ^ n) m s ws → s .over < 128 → (v : Ruling) → v .over ≡ s .over → Judged records m c n strip v
+  pub judge-refused : Made (upto records c (2 ^ n) m) c (2 ^ n) m s ws → s .over < 128 → (v : Ruling) → v .over ≡ s .over → Judged records m c n strip v
   unfolding judgementIf
   judge-refused h l v e rs acc lm dec t met rest et en =
-      let o = is-over (upto records c (2 ^ n) m) c (2 ^ n) m s ws (h .0) l in
+      let o = is-over (upto records c (2 ^ n) m) c (2 ^ n) m s ws h l in
       let o′ : upto records c (2 ^ n) (length rs) ≡ over (s .over) = rw lm o in
       rw (e, lt-ltb (s .over) 128 l) (sym (judge-over n c pos top rs acc records dec t (s .over) o′))
 
   module _ (no : 128 ≤ s .over) (table : List ℕ) (r : Ran) (yes : Bool) where
     abbrev Rules : ℕ → List Record → Tree 2 → Type 0
-    Rules k rs t = Finished (upto records c (2 ^ n) k) c (2 ^ n) k s ws → table ≡ drop ((k - 1) * (2 ^ n * c * c)) ws
-        → r ≡ walk strip n table c 256 8 → yes ≡ mem (r .state) (getD (s .accepts) (k - 1) 0) → say yes ≡ judgeOf n rs c t
+    Rules k rs t = Made (upto records c (2 ^ n) k) c (2 ^ n) k s ws → table ≡ drop ((k - 1) * (2 ^ n * c * c)) ws
+        → r ≡ walk strip n (getD (s .looks) (k - 1) 0) table c 256 8 → yes ≡ mem (r .state) (getD (s .accepts) (k - 1) 0) → say yes ≡ judgeOf n rs c t
 
     judge-at : (rs : List Record) → Accepted 2 n rs → ((r : ℕ) → r < length rs → getD records r noDecoded ≡ decodedOf n (getD rs r noRecord))
         → (t : Tree 2) → TreeFacts strip n t → Rules (length rs) rs t
     judge-at rs acc dec t f h et w y =
-        let o = no-over (upto records c (2 ^ n) (length rs)) c (2 ^ n) (length rs) s ws (h .0) no in
+        let o = no-over (upto records c (2 ^ n) (length rs)) c (2 ^ n) (length rs) s ws h no in
         let A = (trimmed-iff n t (f .proper)) .0 (f .trimmed) in
-        let M : Machine 2 ℕ = wordMachine n c pos top rs acc records dec s ws (o .0) (o .1) (o .2, h .1) in
-        let j = judge-bytes n c pos top rs acc records dec s ws (o .0) (o .1) (o .2, h .1) t (A .0) (A .1) in
-        let z = walk-tree strip n table c (M .accepting) t 256 8 (let k = f .few in omega arith) (f .proper) (facts-stand strip n t f) in
-        let q : r .state ≡ run (binary (λ l a b. getD table ((l * c + a) * c + b) 0) (M .accepting)) t = ap (λ (x : Ran). x .state) (w ∙ z) in
-        ap say (y ∙ ap (λ (k : ℕ). mem k (getD (s .accepts) (lastOf rs) 0)) (q ∙ ap (λ (l : List ℕ). run (binary (λ x a b. getD l ((x * c + a) * c + b) 0) (M .accepting)) t) et)) ∙ j
+        let M : Machine 2 ℕ = wordMachine n c pos top rs acc records dec s ws (o .0) (o .1) (o .2) in
+        let j = judge-bytes n c pos top rs acc records dec s ws (o .0) (o .1) (o .2) t (A .0) (A .1) in
+        let z = walk-tree strip n (getD (s .looks) (lastOf rs) 0) table c (M .accepting) t 256 8 (let k = f .few in omega arith) (f .proper) (facts-stand strip n t f) in
+        let q : r .state ≡ run (binary (stepIn (getD (s .looks) (lastOf rs) 0) table c) (M .accepting)) t = ap (λ (x : Ran). x .state) (w ∙ z) in
+        ap say (y ∙ ap (λ (k : ℕ). mem k (getD (s .accepts) (lastOf rs) 0)) (q ∙ ap (λ (l : List ℕ). run (binary (stepIn (getD (s .looks) (lastOf rs) 0) l c) (M .accepting)) t) et)) ∙ j
 
-    pub judge-ruled : Finished (upto records c (2 ^ n) m) c (2 ^ n) m s ws → table ≡ drop ((m - 1) * (2 ^ n * c * c)) ws
-        → r ≡ walk strip n table c 256 8 → yes ≡ mem (r .state) (getD (s .accepts) (m - 1) 0)
+    pub judge-ruled : Made (upto records c (2 ^ n) m) c (2 ^ n) m s ws → table ≡ drop ((m - 1) * (2 ^ n * c * c)) ws
+        → r ≡ walk strip n (getD (s .looks) (m - 1) 0) table c 256 8 → yes ≡ mem (r .state) (getD (s .accepts) (m - 1) 0)
         → Judged records m c n strip (record { over = 128; yes = yes })
     unfolding judgementIf
     judge-ruled h et w y rs acc lm dec t met rest er en =

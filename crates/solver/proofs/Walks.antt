@@ -8,6 +8,7 @@ use lib.ListN.{length, getD, length-append}
 use Rattle.logic.specs.Tree.{Tree, empty, node, positions, Proper}
 use Rattle.logic.specs.Machine.{run}
 use Rattle.logic.specs.Two.{one, two, binary}
+use Rattle.search.specs.Scan.{stepIn}
 use Rattle.strip.specs.Bits.{digits}
 use Rattle.strip.specs.TreeStrip.{treeBits}
 use Rattle.strip.specs.TreeAnswers.{headAt}
@@ -19,28 +20,28 @@ use Rattle.strip.proofs.TreeWalk.{Stands, stands-empty, stands-node, stands-fir
 use Rattle.solver.specs.declared.run.Ran.{Ran}
 use Rattle.solver.specs.Run.{onward, walk}
 
-module _ (s : List ℕ) (n : ℕ) (table : List ℕ) (c : ℕ) where
-  pub walk-none : (d at : ℕ) → d ≡ 0 → _≡_ {A = Ran} (record { state = 0; next = at }) (walk s n table c d at)
+module _ (s : List ℕ) (n looks : ℕ) (table : List ℕ) (c : ℕ) where
+  pub walk-none : (d at : ℕ) → d ≡ 0 → _≡_ {A = Ran} (record { state = 0; next = at }) (walk s n looks table c d at)
   unfolding walk
   walk-none d at e = rw e refl
 
-  walk-some : (d at : ℕ) → (d ≡ 0 → ⊥) → walk s n table c d at ≡ onward table c at (walk s n table c (d - 1)) (headAt s n 0 at)
+  walk-some : (d at : ℕ) → (d ≡ 0 → ⊥) → walk s n looks table c d at ≡ onward looks table c at (walk s n looks table c (d - 1)) (headAt s n 0 at)
   unfolding walk
   walk-some zero at z = absurd (z refl)
   walk-some (suc d) at z = let e : suc d - 1 ≡ d = omega arith in rw e refl
 
   module _ (d at : ℕ) (z : d ≡ 0 → ⊥) (h h′ : Head) (q : h ≡ headAt s n 0 at) (e : h ≡ h′) where
-    pub walk-step : walk s n table c d at ≡ onward table c at (walk s n table c (d - 1)) h′
-    walk-step = walk-some d at z ∙ ap (onward table c at (walk s n table c (d - 1))) (sym q ∙ e)
+    pub walk-step : walk s n looks table c d at ≡ onward looks table c at (walk s n looks table c (d - 1)) h′
+    walk-step = walk-some d at z ∙ ap (onward looks table c at (walk s n looks table c (d - 1))) (sym q ∙ e)
 
-  pub walk-node : (d at l m x : ℕ) (a b : Ran) → a ≡ walk s n table c (d - 1) m → b ≡ walk s n table c (d - 1) (a .next) → x ≡ getD table ((l * c + a .state) * c + b .state) 0
-      → _≡_ {A = Ran} (record { state = x; next = b .next }) (onward table c at (walk s n table c (d - 1)) (Node l m))
+  pub walk-node : (d at l m x : ℕ) (a b : Ran) → a ≡ walk s n looks table c (d - 1) m → b ≡ walk s n looks table c (d - 1) (a .next) → x ≡ stepIn looks table c l (a .state) (b .state)
+      → _≡_ {A = Ran} (record { state = x; next = b .next }) (onward looks table c at (walk s n looks table c (d - 1)) (Node l m))
   walk-node d at l m x a b p q r = rw (r, q, p) refl
 
   -- the run over a tree that stands in the strip
   module _ (acc : ℕ → Bool) where
     pub walk-tree : (t : Tree 2) (d at : ℕ) → positions t < d → Proper n t → Stands s n at t
-        → walk s n table c d at ≡ record { state = run (binary (λ l a b. getD table ((l * c + a) * c + b) 0) acc) t; next = at + length (treeBits n t) }
+        → walk s n looks table c d at ≡ record { state = run (binary (stepIn looks table c) acc) t; next = at + length (treeBits n t) }
     unfolding walk run Proper treeBits
     walk-tree empty zero at h o p = absurd (omega arith)
     walk-tree empty (suc d) at h o p = rw (stands-empty s n at 0 p) refl

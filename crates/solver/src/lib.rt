@@ -74,9 +74,10 @@ pub fn solve(
             found: none,
         };
     }
+    let looks = t.looks[last] as usize;
     let a = marks(t.accepts[last], count);
     let base = last_share(m, c, labels);
-    let f = search::find(labels, &ws[base..], c, count, &a, p);
+    let f = search::find(labels, looks, &ws[base..], c, count, &a, p);
     Solution {
         over: 128,
         states: count,
@@ -115,7 +116,8 @@ pub fn judge(
         return Ruling { over, yes: false };
     }
     let base = last_share(m, c, labels);
-    let r = run::run(tree, n, labels, &ws[base..], c, count, 256, 8);
+    let looks = t.looks[last] as usize;
+    let r = run::run(tree, n, labels, looks, &ws[base..], c, count, 256, 8);
     let state = r.state;
     Ruling {
         over: 128,

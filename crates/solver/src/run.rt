@@ -17,6 +17,7 @@ pub fn run(
     s: &[u8],
     n: usize,
     labels: usize,
+    looks: usize,
     table: &[u8],
     c: usize,
     count: usize,
@@ -24,8 +25,8 @@ pub fn run(
     at: usize,
 ) -> Ran
     requires { ⌜ (1 ≤ n) × (n ≤ 8) × (labels ≡ 2 ^ n) × (length (now s) ≤ 4096) × (at ≤ 8 * length (now s)) ⌝ }
-    requires { ⌜ Whole labels (now table) c count 0 ⌝ }
-    ensures { λ r. ⌜ r ≡ walk (now (s .entry)) n (now (table .entry)) c d at ⌝ }
+    requires { ⌜ Whole labels looks (now table) c count 0 ⌝ }
+    ensures { λ r. ⌜ r ≡ walk (now (s .entry)) n looks (now (table .entry)) c d at ⌝ }
     ensures { λ r. ⌜ (r .state < count) × (r .next ≤ 8 * length (now (s .entry))) ⌝ }
 {
     if d == 0 {
@@ -35,12 +36,12 @@ pub fn run(
         Head::Refused(_) => Ran { state: 0, next: at },
         Head::Empty(next) => Ran { state: 0, next },
         Head::Node { label, next } => {
-            let a = run(s, n, labels, table, c, count, d - 1, next);
+            let a = run(s, n, labels, looks, table, c, count, d - 1, next);
             let middle = a.next;
-            let b = run(s, n, labels, table, c, count, d - 1, middle);
+            let b = run(s, n, labels, looks, table, c, count, d - 1, middle);
             let first = a.state;
             let second = b.state;
-            let state = search::cell(labels, table, c, label, first, second);
+            let state = search::cell(labels, looks, table, c, label, first, second);
             let end = b.next;
             Ran { state, next: end }
         }

@@ -14,11 +14,11 @@ use Rattle.search.proofs.consider.Reads as consider-reads
 use Rattle.search.proofs.wide.Reads as wide-reads
 
 abbrev Inv-loop : tie.InvT-loop
-Inv-loop labels table c done state size n l i b₀ j₀ b j =
-    (j ≤ n) × Held (codeView table c done state size) (scanSecond (codeView table c done state size) l i j (bestOf (b₀ .size) (b₀ .label) (b₀ .first) (b₀ .second))) b
+Inv-loop labels looks table c done state size n l i b₀ j₀ b j =
+    (j ≤ n) × Held (codeView looks table c done state size) (scanSecond (codeView looks table c done state size) l i j (bestOf (b₀ .size) (b₀ .label) (b₀ .first) (b₀ .second))) b
 
 abbrev μ-loop : tie.MeasureT-loop
-μ-loop labels table c done state size n l i b₀ j₀ b j = n - j
+μ-loop labels looks table c done state size n l i b₀ j₀ b j = n - j
 
 loop-holds : tie.Need-loop-holds Inv-loop μ-loop
 unfolding scanSecond loop
@@ -54,7 +54,7 @@ loop-again : tie.Need-loop-again Inv-loop μ-loop
 loop-again c =
     let loop = c .before .before .before .before .before .before .before .before .before .before .loop in (
       search needs,
-      row-next _ _ _ _ _ _ _ (loop .j) _ (loop .b) (c .consider .result) _ _ _ (loop .inv .1)
+      row-next _ _ _ _ _ _ _ _ (loop .j) _ (loop .b) (c .consider .result) _ _ _ (loop .inv .1)
           (c .before .before .before .before .before .before .before .wide .ensures) (c .before .before .before .before .before .wide2 .ensures)
           (c .before .before .before .before .cell .ensures) (c .consider .ensures),
     )

@@ -22,22 +22,22 @@ returns c =
 
 sub-run : tie.Need-sub-run
 sub-run c =
-    let a = c .before .before .before .before .before .before .before .before .before .before in
+    let a = c .before .before .before .before .before .before .before .before .before .before .before in
     let e = solve-share (a .args .m) (a .args .labels * a .args .c * a .args .c) (a .pre .0 .0) in
     let l = a .pre .0 .5 in
     search needs
 
 part-run-start : tie.Need-part-run-start
 part-run-start c =
-    let a = c .before .before .before .before .before .before .before .before .before .before .before in
+    let a = c .before .before .before .before .before .before .before .before .before .before .before .before in
     let e = solve-share (a .args .m) (a .args .labels * a .args .c * a .args .c) (a .pre .0 .0) in
     let l = a .pre .0 .5 in
     search needs
 
 run-requires : tie.Need-run-requires
 run-requires c κs =
-    let a = c .before .before .before .before .before .before .before .before .before .before .before .before in
-    let b = c .before .before .before .before .before .before .before .before .build-all in
+    let a = c .before .before .before .before .before .before .before .before .before .before .before .before .before in
+    let b = c .before .before .before .before .before .before .before .before .before .build-all in
     let ws = b .last .0 in
     let share = a .args .labels * a .args .c * a .args .c in
     let e = solve-share (a .args .m) share (a .pre .0 .0) in
@@ -46,31 +46,31 @@ run-requires c κs =
     let k = a .pre .1 .1 in (
       (k .0, k .1, k .2, k .4, omega (arith, k .3)),
       solve-whole (upto (a .args .records) (a .args .c) (a .args .labels) (a .args .m)) (a .args .c) (a .args .labels) (a .args .m) (b .result) ws (b .ensures .0) (search needs) (a .pre .0 .0) (a .pre .0 .3) 0 (omega arith) _
-          (part-at ((a .args .m - 1) * share) (c .before .before .last-share .result) ws (c .before .before .last-share .ensures)) (part-long (c .before .before .last-share .result) share ws (omega (arith, q, c .before .before .last-share .ensures))),
+          (part-at ((a .args .m - 1) * share) (c .before .before .before .last-share .result) ws (c .before .before .before .last-share .ensures)) (part-long (c .before .before .before .last-share .result) share ws (omega (arith, q, c .before .before .before .last-share .ensures))),
     )
 
 has-requires : tie.Need-has-requires
 has-requires c κs =
-    let a = c .before .before .before .before .before .before .before .before .before .before .before .before .before in
-    let b = c .before .before .before .before .before .before .before .before .before .build-all in
+    let a = c .before .before .before .before .before .before .before .before .before .before .before .before .before .before in
+    let b = c .before .before .before .before .before .before .before .before .before .before .build-all in
     let ws = b .last .0 in
     let share = a .args .labels * a .args .c * a .args .c in
     let e = solve-share (a .args .m) share (a .pre .0 .0) in
     let l = a .pre .0 .5 in
     let q : (a .args .m - 1) * share + share ≤ length ws = omega arith in
     let w = solve-whole (upto (a .args .records) (a .args .c) (a .args .labels) (a .args .m)) (a .args .c) (a .args .labels) (a .args .m) (b .result) ws (b .ensures .0) (search needs) (a .pre .0 .0) (a .pre .0 .3) 0 (omega arith) _
-    (part-at ((a .args .m - 1) * share) (c .before .before .before .last-share .result) ws (c .before .before .before .last-share .ensures)) (part-long (c .before .before .before .last-share .result) share ws (omega (arith, q, c .before .before .before .last-share .ensures))) in
+    (part-at ((a .args .m - 1) * share) (c .before .before .before .before .last-share .result) ws (c .before .before .before .before .last-share .ensures)) (part-long (c .before .before .before .before .last-share .result) share ws (omega (arith, q, c .before .before .before .before .last-share .ensures))) in
     omega (arith, c .run .ensures .1 .0, w .within, w .few)
 
 returns-2 : tie.Need-returns-2
 returns-2 c =
-    let a = c .before .before .before .before .before .before .before .before .before .before .before .before .before .before in
-    let b = c .before .before .before .before .before .before .before .before .before .before .build-all in
+    let a = c .before .before .before .before .before .before .before .before .before .before .before .before .before .before .before in
+    let b = c .before .before .before .before .before .before .before .before .before .before .before .build-all in
     let ws = b .last .0 in
     let share = a .args .labels * a .args .c * a .args .c in
     let k = a .pre .1 .1 in (
       judge-ruled (a .args .records) (a .args .c) (b .result) ws (a .pre .0 .2) (a .pre .0 .3) (a .args .n) (a .args .m) (a .args .tree .now) (search needs) _ (c .before .run .result) _
-          (rw (k .2) at (b .ensures .0)) (rw (← k .2) (part-at ((a .args .m - 1) * share) (c .before .before .before .before .last-share .result) ws (c .before .before .before .before .last-share .ensures))) (c .before .run .ensures .0) (c .has .ensures),
+          (rw (k .2) at (b .ensures .0)) (rw (← k .2) (part-at ((a .args .m - 1) * share) (c .before .before .before .before .before .last-share .result) ws (c .before .before .before .before .before .last-share .ensures))) (c .before .run .ensures .0) (c .has .ensures),
       b .ensures .1,
     )
 
@@ -87,6 +87,8 @@ judge-spec =
     (λ c. search needs)
     returns
     (λ c κs. search needs)
+    (λ c. search needs)
+    (λ c. search needs)
     sub-run
     part-run-start
     (λ c. search needs)

@@ -4,9 +4,9 @@ use mathlib.Core.Path.{_≡_, refl, _∙_}
 use native.Mathlib.Omega.{arith}
 use lib.ListN.{length, getD, length-set}
 use Rattle.machine.specs.Table.{Copied}
-use Rattle.machine.proofs.Spreads.{copy-first, copy-turn}
-use Rattle.machine.proofs.spread.copy.Statement.{statement}
-use Rattle.machine.proofs.spread.copy.Tie as tie
+use Rattle.machine.proofs.Copies.{copy-first, copy-turn}
+use Rattle.machine.proofs.complement.copy.Statement.{statement}
+use Rattle.machine.proofs.complement.copy.Tie as tie
 
 abbrev Inv-loop : tie.InvT-loop
 Inv-loop ws₀ from to n i₀ ws i = (i ≤ n) × (length ws ≡ length ws₀) × Copied ws₀ ws from to i
