@@ -23,13 +23,14 @@ use Rattle.machine.specs.Rule.{Mach, noMach, Outcome, built, over, machF
 use Rattle.machine.specs.declared.explore.Kind.{Kind}
 use Rattle.machine.specs.declared.explore.Kind.the-variants.{Not}
 use Rattle.machine.specs.declared.records.Decoded.{Decoded}
+use Rattle.machine.specs.declared.records.Ending.the-variants.{Ready}
 use Rattle.machine.specs.declared.records.Machines.{Machines}
 use Rattle.machine.specs.Table.{addr, seen, Copied}
 use Rattle.machine.specs.Complement.{RowsCopied, TableCopied}
 use Rattle.machine.proofs.Order.{length-upto, getD-upto, own-step}
 use Rattle.machine.proofs.WordLaws.{word-ext}
 use Rattle.machine.proofs.Masks.{seen-le, seen-seen}
-use Rattle.machine.proofs.Shares.{made-new, next-share}
+use Rattle.machine.proofs.Shares.{not-both, made-new, next-share}
 use Rattle.machine.proofs.Start.{drop-later}
 
 below-next : (m l : ℕ) → m < l + 1 → (m ≡ l → ⊥) → m < l
@@ -165,14 +166,14 @@ pub not-first : (x : Decoded) (r labels : ℕ) → Sound x r labels → x .kind 
 not-first x r labels sound e = subst (λ (k : Kind). Before k (x .first) (x .second) r) e (sound .before)
 
 -- no machine that is kept has more than c states
-pub part-few : (x : Decoded) (r c labels : ℕ) (s : Machines) (ws : List ℕ) → Sound x r labels → x .kind ≡ Not → 128 ≤ s .over → SomeMade c labels r s ws → getD (s .counts) (x .first) 0 ≤ c
+pub part-few : (x : Decoded) (r c labels : ℕ) (s : Machines) (ws : List ℕ) → Sound x r labels → x .kind ≡ Not → s .ending ≡ Ready → SomeMade c labels r s ws → getD (s .counts) (x .first) 0 ≤ c
 part-few x r c labels s ws sound is-not none-over h = go (h .0) (h .1)
   where
     go : (o : Outcome) → Made o c labels r s ws → getD (s .counts) (x .first) 0 ≤ c
-    go (over k) m = absurd (omega (arith, m .0, m .1))
+    go (over k) m = absurd (not-both none-over m)
     go (built ms) m = let a = m .2 (x .first) (not-first x r labels sound is-not) in omega (arith, a .count, a .few)
 
-module _ (x : Decoded) (r c labels : ℕ) (s t : Machines) (ws ws′ : List ℕ) (sound : Sound x r labels) (is-not : x .kind ≡ Not) (none-over : 128 ≤ s .over) where
+module _ (x : Decoded) (r c labels : ℕ) (s t : Machines) (ws ws′ : List ℕ) (sound : Sound x r labels) (is-not : x .kind ≡ Not) (none-over : s .ending ≡ Ready) where
   abbrev share : ℕ
   share = labels * c * c
 
@@ -186,7 +187,7 @@ module _ (x : Decoded) (r c labels : ℕ) (s t : Machines) (ws ws′ : List ℕ)
   module _ (copied : TableCopied ws ws′ (x .first * share) (r * share) c bits n labels) (fits : Fits x r c labels (length ws)) (at-count : t .counts ≡ set (s .counts) r n)
       (at-accept : t .accepts ≡ set (s .accepts) r (acceptOf Not (getD (s .accepts) (x .first) 0) 0 (upTo n)))
       (at-looks : t .looks ≡ set (s .looks) r bits)
-      (wide : length (s .counts) ≡ 128) (wide′ : length (s .accepts) ≡ 128) (wide″ : length (s .looks) ≡ 128) (same-over : t .over ≡ s .over) where
+      (wide : length (s .counts) ≡ 128) (wide′ : length (s .accepts) ≡ 128) (wide″ : length (s .looks) ≡ 128) (same-ending : t .ending ≡ s .ending) where
     kept : (ms : List Mach) → Made (built ms) c labels r s ws → Made (after c labels r x (built ms)) c labels (r + 1) t ws′
     unfolding entry
     kept ms m =
@@ -194,7 +195,7 @@ module _ (x : Decoded) (r c labels : ℕ) (s t : Machines) (ws ws′ : List ℕ)
         (codes-not (x .kind) (f .step) (g .step) (x .wx) (x .wy) c labels n is-not (part .in-order ∙ ap (λ (k : ℕ). some (upTo k)) (sym (part .count))))
         bits t ws′ (copied .low) holds (at-count ∙ ap (set (s .counts) r) (sym (length-upto n)))
         (at-accept ∙ ap (set (s .accepts) r) (accept-not (x .kind) (getD (s .accepts) (x .first) 0) (getD (s .accepts) (x .second) 0) (upTo n) is-not))
-        at-looks wide wide′ wide″ (m .1) (same-over ∙ m .0)
+        at-looks wide wide′ wide″ (m .1) (same-ending ∙ m .0)
       where
         f : Mach
         f = getD ms (x .first) noMach
@@ -216,5 +217,5 @@ module _ (x : Decoded) (r c labels : ℕ) (s t : Machines) (ws ws′ : List ℕ)
             (copied .there (seen bits l) i j near own hi′ hj′ ∙ old .0 ∙ sym step, omega (arith, step, old .1, part .count, length-upto n))
 
     pub after-not : (o : Outcome) → Made o c labels r s ws → Made (after c labels r x o) c labels (r + 1) t ws′
-    after-not (over k) m = absurd (omega (arith, m .0, m .1))
+    after-not (over k) m = absurd (not-both none-over m)
     after-not (built ms) m = kept ms m

@@ -19,6 +19,7 @@ use Rattle.machine.specs.declared.explore.Kind.the-variants.{Subset, Sin
 use Rattle.machine.specs.declared.explore.Plan.{Plan}
 use Rattle.machine.specs.declared.explore.Builder.{Builder}
 use Rattle.machine.specs.declared.records.Decoded.{Decoded}
+use Rattle.machine.specs.declared.records.Ending.the-variants.{Over}
 use Rattle.machine.specs.declared.records.Machines.{Machines}
 use Rattle.machine.specs.declared.records.Summary.{Summary}
 use Rattle.machine.proofs.Copies.{part-few, after-not}
@@ -101,16 +102,16 @@ unfolding upto
 upto-next xs c labels r = ap (upto xs c labels) (add-one r)
 
 -- nothing is made after a record with too many states
-made-rest : (xs : List Decoded) (c labels r d : ℕ) (t : Machines) (ws : List ℕ) → t .over < 128 → Made (upto xs c labels r) c labels r t ws → Made (upto xs c labels (r + d)) c labels (r + d) t ws
-made-rest xs c labels r zero t ws h m = rw add-zero m
-made-rest xs c labels r (suc d) t ws h m =
+made-rest : (xs : List Decoded) (c labels r d k : ℕ) (t : Machines) (ws : List ℕ) → t .ending ≡ Over k → Made (upto xs c labels r) c labels r t ws → Made (upto xs c labels (r + d)) c labels (r + d) t ws
+made-rest xs c labels r zero k t ws h m = rw add-zero m
+made-rest xs c labels r (suc d) k t ws h m =
     rw (add-suc, ← add-one, upto-next xs c labels (r + d))
-    (made-over (getD xs (r + d) noDecoded) c labels (r + d) t ws ws h (upto xs c labels (r + d)) (made-rest xs c labels r d t ws h m))
+    (made-over (getD xs (r + d) noDecoded) c labels (r + d) k t ws ws h (upto xs c labels (r + d)) (made-rest xs c labels r d k t ws h m))
 
-pub made-over-rest : (xs : List Decoded) (c labels r m : ℕ) (t : Machines) (ws : List ℕ) → r < m → m ≤ 128 → t .over ≡ r
+pub made-over-rest : (xs : List Decoded) (c labels r m : ℕ) (t : Machines) (ws : List ℕ) → r < m → t .ending ≡ Over r
     → Made (after c labels r (getD xs r noDecoded) (upto xs c labels r)) c labels (r + 1) t ws
     → Made (upto xs c labels m) c labels m t ws
-made-over-rest xs c labels r m t ws h top e made =
+made-over-rest xs c labels r m t ws h e made =
     let z : r + 1 + (m - (r + 1)) ≡ m = omega arith in
     subst (λ (n : ℕ). Made (upto xs c labels n) c labels n t ws) z
-    (made-rest xs c labels (r + 1) (m - (r + 1)) t ws (omega arith) (rw (upto-next xs c labels r) made))
+    (made-rest xs c labels (r + 1) (m - (r + 1)) r t ws e (rw (upto-next xs c labels r) made))

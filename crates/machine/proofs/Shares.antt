@@ -24,6 +24,8 @@ use Rattle.machine.specs.declared.explore.Kind.the-variants.{Subset, Sin
 use Rattle.machine.specs.declared.explore.Plan.{Plan}
 use Rattle.machine.specs.declared.explore.Builder.{Builder}
 use Rattle.machine.specs.declared.records.Decoded.{Decoded}
+use Rattle.machine.specs.declared.records.Ending.{Ending}
+use Rattle.machine.specs.declared.records.Ending.the-variants.{Over, Ready}
 use Rattle.machine.specs.declared.records.Machines.{Machines}
 use Rattle.machine.proofs.Fill.{addr-lt}
 use Rattle.machine.proofs.Masks.{seen-le, kind-blind}
@@ -56,11 +58,15 @@ room-of x r c labels n f₁ f₂ f = record {
       kind-blind (entry low c (x .first * (labels * c * c))) (entry low c (x .second * (labels * c * c))) (x .wx) (x .wy) f₁ f₂ (f .wx-power) (f .wy-power) l y z (x .kind);
 }
 
+-- building does not end in both ways
+pub not-both : {x : Ending} {k : ℕ} → x ≡ Ready → x ≡ Over k → ⊥
+not-both {x} {k} e f = let z : Ready ≡ Over k = sym e ∙ f in let y : _≡_ {A = ℕ} 0 1 = cc in omega arith
+
 -- there were too many states before
-pub made-over : (x : Decoded) (c labels r : ℕ) (s : Machines) (ws ws′ : List ℕ) → s .over < 128 → (o : Outcome) → Made o c labels r s ws → Made (after c labels r x o) c labels (r + 1) s ws′
+pub made-over : (x : Decoded) (c labels r k : ℕ) (s : Machines) (ws ws′ : List ℕ) → s .ending ≡ Over k → (o : Outcome) → Made o c labels r s ws → Made (after c labels r x o) c labels (r + 1) s ws′
 unfolding after
-made-over x c labels r s ws ws′ h (over k) m = m
-made-over x c labels r s ws ws′ h (built ms) m = absurd (omega (arith, m .0))
+made-over x c labels r k s ws ws′ h (over j) m = m
+made-over x c labels r k s ws ws′ h (built ms) m = absurd (not-both (m .0) h)
 
 pub next-share : (r m s : ℕ) → r < m → r * s + s ≤ m * s
 next-share r m s h = subst (λ (n : ℕ). n ≤ m * s) (suc-mul r s) (mul-le-mul-right s h)
@@ -211,7 +217,7 @@ module _ (x : Decoded) (r c labels : ℕ) (s : Machines) (ws : List ℕ) (ms : L
           in-order = m .in-order;
         }
 
-    pub made-new : t .over ≡ 128 → Made (after c labels r x (built ms)) c labels (r + 1) t ws′
+    pub made-new : t .ending ≡ Ready → Made (after c labels r x (built ms)) c labels (r + 1) t ws′
     unfolding after
     made-new ov = rw found (ov, length-append ms (new ∷ []) ∙ omega (arith, size), all)
       where
@@ -256,42 +262,42 @@ module _ (x : Decoded) (r c labels : ℕ) (s : Machines) (ws : List ℕ) (ms : L
           let eq = alike ∙ same .steps cs (sym from-tables ∙ sym (done .list) ∙ is-cs) l i j hl hi hj in
           (cell .3 ∙ eq, subst (λ (n : ℕ). n < length cs) eq (cell .2 .2))
 
-      pub made-more : t .over ≡ 128 → Made (after c labels r x (built ms)) c labels (r + 1) t ws′
+      pub made-more : t .ending ≡ Ready → Made (after c labels r x (built ms)) c labels (r + 1) t ws′
       made-more =
           made-new cs (sym found-codes ∙ is-cs) (plan .looks) t ws′ old-byte new-holds (at-count ∙ ap (set (s .counts) r) (sym count-cs)) at-accept at-looks wide wide′ wide″ size
 
-    pub made-too-many : (t : Machines) → c < b .count → t .over ≡ r → Made (after c labels r x (built ms)) c labels (r + 1) t ws′
+    pub made-too-many : (t : Machines) → c < b .count → t .ending ≡ Over r → Made (after c labels r x (built ms)) c labels (r + 1) t ws′
     unfolding after
     made-too-many t h ov =
         let e : listed c b ≡ none = rw (lt-leb (b .count) c h) in
-        rw (sym found-codes ∙ e) (ov, fits .here-in)
+        rw (sym found-codes ∙ e) ov
 
 -- the same whatever there was before
 module _ (x : Decoded) (r c labels : ℕ) (s t : Machines) (ws ws′ : List ℕ) (p : Plan) (b : Builder) (fits : Fits x r c labels (length ws)) (sound : Sound x r labels) (is-plan : p ≡ planOf x r c labels (getD (s .looks) (x .first) 0) (getD (s .looks) (x .second) 0))
-    (done : Explored (succIn ws p) p (startOf (take (p .base) ws) p) b ws ws′) (none-over : 128 ≤ s .over) where
+    (done : Explored (succIn ws p) p (startOf (take (p .base) ws) p) b ws ws′) (none-over : s .ending ≡ Ready) where
   abbrev q : Plan
   q = planOf x r c labels (getD (s .looks) (x .first) 0) (getD (s .looks) (x .second) 0)
 
   done′ : Explored (succIn ws q) q (startOf (take (q .base) ws) q) b ws ws′
   done′ = subst (λ (p : Plan). Explored (succIn ws p) p (startOf (take (p .base) ws) p) b ws ws′) is-plan done
 
-  pub after-too-many : c < b .count → t .over ≡ r → (o : Outcome) → Made o c labels r s ws → Made (after c labels r x o) c labels (r + 1) t ws′
-  after-too-many h ov (over k) m = absurd (omega (arith, m .0, m .1))
+  pub after-too-many : c < b .count → t .ending ≡ Over r → (o : Outcome) → Made o c labels r s ws → Made (after c labels r x o) c labels (r + 1) t ws′
+  after-too-many h ov (over k) m = absurd (not-both none-over m)
   after-too-many h ov (built ms) m = made-too-many x r c labels s ws ms fits sound (m .2) b ws′ done′ t h ov
 
   pub after-more : length (b .codes) ≡ 64 → b .count ≤ c → t .counts ≡ set (s .counts) r (b .count)
       → t .accepts ≡ set (s .accepts) r (acceptOf (x .kind) (getD (s .accepts) (x .first) 0) (getD (s .accepts) (x .second) 0) (take (b .count) (b .codes)))
       → t .looks ≡ set (s .looks) r (p .looks)
-      → length (s .counts) ≡ 128 → length (s .accepts) ≡ 128 → length (s .looks) ≡ 128 → t .over ≡ s .over → (o : Outcome) → Made o c labels r s ws → Made (after c labels r x o) c labels (r + 1) t ws′
-  after-more full few ec ea el wide wide′ wide″ ov (over k) m = absurd (omega (arith, m .0, m .1))
+      → length (s .counts) ≡ 128 → length (s .accepts) ≡ 128 → length (s .looks) ≡ 128 → t .ending ≡ s .ending → (o : Outcome) → Made o c labels r s ws → Made (after c labels r x o) c labels (r + 1) t ws′
+  after-more full few ec ea el wide wide′ wide″ ov (over k) m = absurd (not-both none-over m)
   after-more full few ec ea el wide wide′ wide″ ov (built ms) m =
       made-more x r c labels s ws ms fits sound (m .2) b ws′ done′ full few t ec ea (el ∙ ap (λ (p : Plan). set (s .looks) r (p .looks)) is-plan) wide wide′ wide″ (m .1) (ov ∙ m .0)
 
 -- what an "exists" needs of its part
-pub led-of : (x : Decoded) (r c labels : ℕ) (s : Machines) (ws : List ℕ) → Fits x r c labels (length ws) → Sound x r labels → 128 ≤ s .over → SomeMade c labels r s ws
+pub led-of : (x : Decoded) (r c labels : ℕ) (s : Machines) (ws : List ℕ) → Fits x r c labels (length ws) → Sound x r labels → s .ending ≡ Ready → SomeMade c labels r s ws
     → Led (take (r * (labels * c * c)) ws) (planOf x r c labels (getD (s .looks) (x .first) 0) (getD (s .looks) (x .second) 0))
 led-of x r c labels s ws fits sound none-over h e = go (h .0) (h .1)
   where
     go : (o : Outcome) → Made o c labels r s ws → (n : ℕ) × Inside (take (r * (labels * c * c)) ws) (planOf x r c labels (getD (s .looks) (x .first) 0) (getD (s .looks) (x .second) 0)) n
-    go (over k) m = absurd (omega (arith, m .0, m .1))
+    go (over k) m = absurd (not-both none-over m)
     go (built ms) m = (length (getD ms (x .first) noMach .codes), inside-of x r c labels s ws ms fits sound (m .2) e)

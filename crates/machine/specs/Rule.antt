@@ -13,6 +13,7 @@ use Rattle.machine.specs.declared.explore.Kind.{Kind}
 use Rattle.machine.specs.declared.explore.Kind.the-variants.{Subset, Single, Child1, Child2, Root, Not, Or, And, Exists, Close}
 use Rattle.machine.specs.declared.explore.Plan.{Plan}
 use Rattle.machine.specs.declared.records.Decoded.{Decoded}
+use Rattle.machine.specs.declared.records.Ending.the-variants.{Over, Ready}
 use Rattle.machine.specs.declared.records.Machines.{Machines}
 use Rattle.machine.specs.declared.records.Summary.{Summary}
 
@@ -115,8 +116,8 @@ pub record At (c labels a : ℕ) (m : Mach) (s : Machines) (ws : List ℕ) : Typ
   pub in-order : explore (notCode (m .step)) c labels 0 ≡ some (upTo (length (m .codes)))
 
 abbrev pub Made : Outcome → ℕ → ℕ → ℕ → Machines → List ℕ → Type 0
-Made (over k) c labels r s ws = (s .over ≡ k) × (k < 128)
-Made (built ms) c labels r s ws = (s .over ≡ 128) × (length ms ≡ r) × ((a : ℕ) → a < r → At c labels a (getD ms a noMach) s ws)
+Made (over k) c labels r s ws = s .ending ≡ Over k
+Made (built ms) c labels r s ws = (s .ending ≡ Ready) × (length ms ≡ r) × ((a : ℕ) → a < r → At c labels a (getD ms a noMach) s ws)
 
 -- the machines of some records are kept
 abbrev pub SomeMade : ℕ → ℕ → ℕ → Machines → List ℕ → Type 0
@@ -127,7 +128,7 @@ pub record Keeps (s : Machines) (a : ℕ) (f : Summary) : Type 0 where
   pub count : f .count ≡ getD (s .counts) a 0
   pub accept : f .accept ≡ getD (s .accepts) a 0
   pub looks : f .looks ≡ getD (s .looks) a 0
-  pub none-over : 128 ≤ s .over
+  pub none-over : s .ending ≡ Ready
 
 -- s has an entry for each possible record
 pub record Wide (s : Machines) : Type 0 where
@@ -149,10 +150,10 @@ pub record SomeKept (x : Decoded) (f g : Summary) (c labels r : ℕ) (ws : List 
 
 -- s with the number of a record with too many states, and with record r's machine
 abbrev pub withOver : Machines → ℕ → Machines
-withOver s r = record { counts = s .counts; accepts = s .accepts; looks = s .looks; over = r }
+withOver s r = record { counts = s .counts; accepts = s .accepts; looks = s .looks; ending = Over r }
 
 abbrev pub withNext : Machines → ℕ → Summary → Machines
-withNext s r k = record { counts = set (s .counts) r (k .count); accepts = set (s .accepts) r (k .accept); looks = set (s .looks) r (k .looks); over = s .over }
+withNext s r k = record { counts = set (s .counts) r (k .count); accepts = set (s .accepts) r (k .accept); looks = set (s .looks) r (k .looks); ending = s .ending }
 
 -- record r's machine is k: with it, or with the record's number where it has too many states, the machines of one more record are kept
 pub record Next (x : Decoded) (c labels r : ℕ) (k : Summary) (s : Machines) (o : Outcome) (ws : List ℕ) : Type 0 where

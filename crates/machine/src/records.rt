@@ -58,13 +58,19 @@ pub struct Decoded {
     pub wy: u8,
 }
 
+// How building ended: at the first record with too many states, by its number, or with every machine ready.
+pub enum Ending {
+    Over(usize),
+    Ready,
+}
+
 // What is kept of the machines: for each record its number of states, the set of its accepting states and the bits of the labels that it
-// looks at; and the number of the record with too many states, 128 where there is none. Bytes are less to set and to copy than words.
+// looks at; and how building ended. Bytes are less to set and to copy than words.
 pub struct Machines {
     pub counts: [u8; 128],
     pub accepts: [u64; 128],
     pub looks: [u8; 128],
-    pub over: usize,
+    pub ending: Ending,
 }
 
 // What is kept of one record's machine.
@@ -220,7 +226,7 @@ pub fn build_all(
         counts: [0; 128],
         accepts: [0; 128],
         looks: [0; 128],
-        over: 128,
+        ending: Ending::Ready,
     };
     let mut r = 0;
     while r < m {
@@ -239,8 +245,12 @@ pub fn build_all(
         };
         let k = build_next(ws, x, f, g, r, c, labels);
         if c < k.count as usize {
-            t.over = r;
-            return t;
+            return Machines {
+                counts: t.counts,
+                accepts: t.accepts,
+                looks: t.looks,
+                ending: Ending::Over(r),
+            };
         }
         t.counts[r] = k.count;
         t.accepts[r] = k.accept;

@@ -9,6 +9,8 @@ use lib.Dec.{ltb, eqb}
 use borrow.Author.Tests.{eq-eqb, ne-eqb, lt-ltb, le-ltb}
 use lib.ListN.{length, getD, set, replicate, length-append, length-set, List·getD-append, List·getD-eq-default}
 use Rattle.search.specs.declared.Pick.{Pick}
+use Rattle.search.specs.declared.Finding.{Finding}
+use Rattle.search.specs.declared.Finding.the-variants.{None, Larger, Shown}
 use Rattle.logic.specs.Search.{Best, nothing, found, View, lighter, choose, consider, loop, pick, at, rank, settled, candidate, view, Sought, tree, absent, verdict, next, rounds, anyBelow, begin, search}
 use native.Mathlib.Decide.{ℕ-discrete}
 use lib.Seq.{getD-append-seam, getD-set-same, getD-set-other, set-out}
@@ -196,16 +198,21 @@ pub record Round (labels looks : ℕ) (table : List ℕ) (c count : ℕ) (accept
   pub back : Backs n first second
   pub ahead : rounds labels (machineIn looks table c accept) P (count - n) (decode label first second n) ≡ settling labels (machineIn looks table c accept) count P
 
--- an answer of kind 0 or 1 shows no tree
-unseen : (n : ℕ) (label first second : List ℕ) (kind : ℕ) → kind < 2 → (t : Tree 2) → answerOf kind n label first second ≡ tree t → ⊥
+-- every finding but one shows no tree
+abbrev Unshown : Finding → Type 0
+Unshown None = Unit {0}
+Unshown Larger = Unit {0}
+Unshown Shown = ⊥
+
+unseen : (n : ℕ) (label first second : List ℕ) (x : Finding) → Unshown x → (t : Tree 2) → answerOf x n label first second ≡ tree t → ⊥
 unfolding answerOf
-unseen n label first second zero h t e = let z : _≡_ {A = ℕ} 0 1 = cc in omega arith
-unseen n label first second (suc zero) h t e = let z : _≡_ {A = ℕ} 0 1 = cc in omega arith
-unseen n label first second (suc (suc kind)) h t e = absurd (omega arith)
+unseen n label first second None h t e = let z : _≡_ {A = ℕ} 0 1 = cc in omega arith
+unseen n label first second Larger h t e = let z : _≡_ {A = ℕ} 0 1 = cc in omega arith
+unseen n label first second Shown h t e = h
 
 -- the empty tree is shown
 pub shown-first : {labels looks : ℕ} {table : List ℕ} {c count P : ℕ} (wh : Whole labels looks table c count P) (accept : List ℕ) → (getD accept 0 0 ≡ 0 → ⊥)
-    → Ended (settling labels (machineIn looks table c accept) count P) 2 1 0 (replicate 64 0) (replicate 64 0) (replicate 64 0)
+    → Ended (settling labels (machineIn looks table c accept) count P) Shown 1 0 (replicate 64 0) (replicate 64 0) (replicate 64 0)
 unfolding decode treeAt settling begin answerOf positions
 shown-first wh accept h = record {
   answer = rw (ne-eqb (getD accept 0 0) 0 h);
@@ -257,12 +264,18 @@ module _ {labels looks : ℕ} {table : List ℕ} {c count : ℕ} {accept : List 
     }
 
     -- an end that adds no rank
-    ended : (kind : ℕ) → kind < 2 → answerOf kind n label first second ≡ goal → Ended goal kind n 0 label first second
-    ended kind h e = record { answer = e; counted = λ t f. absurd (unseen n label first second kind h t (e ∙ f)); back = v .back; low = v .low; high = omega (arith, v .high, wh .within, wh .few) }
+    ended : (x : Finding) → Unshown x → answerOf x n label first second ≡ goal → Ended goal x n 0 label first second
+    ended x h e = record {
+      answer = e;
+      counted = λ t f. absurd (unseen n label first second x h t (e ∙ f));
+      back = v .back;
+      low = v .low;
+      high = omega (arith, v .high, wh .within, wh .few);
+    }
 
-    pub round-end : count ≤ n → Ended goal 0 n 0 label first second
+    pub round-end : count ≤ n → Ended goal None n 0 label first second
     unfolding answerOf rounds
-    round-end h = ended 0 (omega arith) (let e : count - n ≡ 0 = omega arith in subst (λ (m : ℕ). rounds labels M P m s ≡ goal) e (v .ahead))
+    round-end h = ended None tt (let e : count - n ≡ 0 = omega arith in subst (λ (m : ℕ). rounds labels M P m s ≡ goal) e (v .ahead))
 
     go : List (Tree 2) → Sought 2
     go = rounds labels M P (count - suc n)
@@ -277,9 +290,9 @@ module _ {labels looks : ℕ} {table : List ℕ} {c count : ℕ} {accept : List 
           let e : count - n ≡ suc (count - suc n) = omega arith in
           rw (held .best) (subst (λ (m : ℕ). rounds labels M P m s ≡ goal) e (v .ahead))
 
-      pub round-none : r .size ≡ 0 → Ended goal 0 n 0 label first second
+      pub round-none : r .size ≡ 0 → Ended goal None n 0 label first second
       unfolding answerOf bestOf next
-      round-none e = ended 0 (omega arith) (rw e at round-next)
+      round-none e = ended None tt (rw e at round-next)
 
       round-found : (r .size ≡ 0 → ⊥) → bestOf (r .size) (r .label) (r .first) (r .second) ≡ found (r .label) (r .first ∷ r .second ∷ [])
       unfolding bestOf
@@ -311,9 +324,9 @@ module _ {labels looks : ℕ} {table : List ℕ} {c count : ℕ} {accept : List 
         unfolding next
         verdict-is = rw (round-found z) at round-next
 
-        pub round-larger : P < r .size → Ended goal 1 n 0 label first second
+        pub round-larger : P < r .size → Ended goal Larger n 0 label first second
         unfolding verdict answerOf
-        round-larger p = ended 1 (omega arith) (rw (lt-ltb P (positions t) (rw (← size-is) p)) at verdict-is)
+        round-larger p = ended Larger tt (rw (lt-ltb P (positions t) (rw (← size-is) p)) at verdict-is)
 
         abbrev q : ℕ
         q = run M t
@@ -351,7 +364,7 @@ module _ {labels looks : ℕ} {table : List ℕ} {c count : ℕ} {accept : List 
         ]
 
         pub round-shown′ : (q′ : ℕ) → q′ ≡ q → r .size ≤ P → (getD accept q′ 0 ≡ 0 → ⊥)
-            → Ended goal 2 (n + 1) (r .size) (set label n (r .label)) (set first n (r .first)) (set second n (r .second))
+            → Ended goal Shown (n + 1) (r .size) (set label n (r .label)) (set first n (r .first)) (set second n (r .second))
         unfolding answerOf
         round-shown′ q′ e p a = record {
           counted = λ u f. let y : tree t ≡ tree u = round-shown p (λ z. a (rw e z)) ∙ f in let z : t ≡ u = cc in size-is ∙ ap positions z;
@@ -400,14 +413,23 @@ pub some-off : (accept : List ℕ) (q : ℕ) (r : Bool) → r ≡ anyBelow (acce
 unfolding anyBelow
 some-off accept q r e h = rw (add-one q) (rw (eq-eqb (getD accept q 0) 0 h) e)
 
-pub find-some : (labels : ℕ) (M : Machine 2 ℕ) (count P : ℕ) (kind n size : ℕ) (label first second : List ℕ) → true ≡ anyBelow (M .accepting) count
-    → Ended (settling labels M count P) kind n size label first second → Ended (search labels (record { count = count; machine = M }) P) kind n size label first second
-unfolding search settling
-find-some labels M count P kind n size label first second e h = rw (← e) h
+module _ (labels : ℕ) (M : Machine 2 ℕ) (count P : ℕ) where
+  pub find-some : {x : Finding} {n size : ℕ} {label first second : List ℕ} → true ≡ anyBelow (M .accepting) count
+      → Ended (settling labels M count P) x n size label first second
+      → Ended (search labels (record { count = count; machine = M }) P) x n size label first second
+  unfolding search settling
+  find-some e h = rw (← e) h
 
-pub find-none : (labels : ℕ) (M : Machine 2 ℕ) (count P : ℕ) (label first second : List ℕ) → false ≡ anyBelow (M .accepting) count → Ended (search labels (record { count = count; machine = M }) P) 0 1 0 label first second
-unfolding search begin answerOf
-find-none labels M count P label first second e = record { answer = rw (← e); counted = λ t f. absurd (let y : absent ≡ tree t = rw (← e) at f in let z : _≡_ {A = ℕ} 0 1 = cc in omega arith); back = λ i h k. absurd (omega arith); low = omega arith; high = omega arith }
+  pub find-none : {label first second : List ℕ} → false ≡ anyBelow (M .accepting) count
+      → Ended (search labels (record { count = count; machine = M }) P) None 1 0 label first second
+  unfolding search begin answerOf
+  find-none e = record {
+    answer = rw (← e);
+    counted = λ t f. absurd (let y : absent ≡ tree t = rw (← e) at f in let z : _≡_ {A = ℕ} 0 1 = cc in omega arith);
+    back = λ i h k. absurd (omega arith);
+    low = omega arith;
+    high = omega arith;
+  }
 
 pub any-done : (accepts : ℕ → Bool) (q count : ℕ) (r : Bool) → q ≤ count → count ≤ q → r ≡ anyBelow accepts q → r ≡ anyBelow accepts count
 any-done accepts q count r h k e = let z : q ≡ count = omega arith in e ∙ ap (anyBelow accepts) z

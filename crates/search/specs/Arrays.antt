@@ -11,6 +11,8 @@ use Rattle.logic.specs.Machine.{Machine}
 use Rattle.logic.specs.Table.{Table}
 use Rattle.logic.specs.Two.{binary}
 use Rattle.search.specs.Scan.{stepIn}
+use Rattle.search.specs.declared.Finding.{Finding}
+use Rattle.search.specs.declared.Finding.the-variants.{None, Larger, Shown}
 
 -- the settled trees, from their labels and the ranks of their branches: rank 0 is the empty tree
 unfoldable pub treeAt : List ℕ → List ℕ → List ℕ → List (Tree 2) → ℕ → Tree 2
@@ -43,19 +45,19 @@ pub record Whole (labels looks : ℕ) (table : List ℕ) (c count P : ℕ) : Typ
 unfoldable pub settling : ℕ → Machine 2 ℕ → ℕ → ℕ → Sought 2
 settling labels M count P = begin true (M .accepting (M .start)) (rounds labels M P (count - 1) (empty ∷ []))
 
--- the answer that the code's numbers stand for: 0 none, 1 larger, 2 shown, the tree of the last rank
-unfoldable pub answerOf : ℕ → ℕ → List ℕ → List ℕ → List ℕ → Sought 2
-answerOf zero n label first second = absent
-answerOf (suc zero) n label first second = large
-answerOf (suc (suc k)) n label first second = tree (at (decode label first second n) (n - 1))
+-- the answer that a finding stands for; the tree that is shown is that of the last rank
+unfoldable pub answerOf : Finding → ℕ → List ℕ → List ℕ → List ℕ → Sought 2
+answerOf None n label first second = absent
+answerOf Larger n label first second = large
+answerOf Shown n label first second = tree (at (decode label first second n) (n - 1))
 
 -- the branches of a rank have smaller ranks
 abbrev pub Backs : ℕ → List ℕ → List ℕ → Type 0
 Backs n first second = (i : ℕ) → 0 < i → i < n → (getD first i 0 < i) × (getD second i 0 < i)
 
 -- How the rounds end: with the answer x and the positions of the tree shown, and with ranks that a writer can follow down.
-pub record Ended (x : Sought 2) (kind n size : ℕ) (label first second : List ℕ) : Type 0 where
-  pub answer : answerOf kind n label first second ≡ x
+pub record Ended (x : Sought 2) (finding : Finding) (n size : ℕ) (label first second : List ℕ) : Type 0 where
+  pub answer : answerOf finding n label first second ≡ x
   pub counted : (t : Tree 2) → x ≡ tree t → size ≡ positions t
   pub back : Backs n first second
   pub low : 0 < n

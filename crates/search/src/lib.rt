@@ -162,9 +162,16 @@ fn narrow(x: usize) -> u8
     x as u8
 }
 
-// How the rounds ended: kind 0 none, 1 larger, 2 shown, the tree of rank n - 1 with so many positions; each rank's label and branches.
+// What the rounds found: no accepted tree, none within the place ceiling, or one that is shown.
+pub enum Finding {
+    None,
+    Larger,
+    Shown,
+}
+
+// How the rounds ended: the tree that is shown is that of rank n - 1 and has so many positions; each rank's label and branches.
 pub struct Found {
-    pub kind: u8,
+    pub finding: Finding,
     pub n: usize,
     pub positions: u64,
     pub label: [usize; 64],
@@ -174,17 +181,17 @@ pub struct Found {
 
 // An end of the rounds.
 fn ended(
-    kind: u8,
+    finding: Finding,
     n: usize,
     positions: u64,
     label: [usize; 64],
     first: [usize; 64],
     second: [usize; 64],
 ) -> Found
-    ensures { λ r. ⌜ r ≡ record { kind = kind; n = n; positions = positions; label = label; first = first; second = second } ⌝ }
+    ensures { λ r. ⌜ r ≡ record { finding = finding; n = n; positions = positions; label = label; first = first; second = second } ⌝ }
 {
     Found {
-        kind,
+        finding,
         n,
         positions,
         label,
@@ -204,7 +211,7 @@ pub fn settle(
     p: u64,
 ) -> Found
     requires { ⌜ Whole labels looks (now table) c count p ⌝ }
-    ensures { λ r. ⌜ Ended (settling labels (machineIn looks (now (table .entry)) c (now (accept .entry))) count p) (r .kind) (r .n) (r .positions) (r .label) (r .first) (r .second) ⌝ }
+    ensures { λ r. ⌜ Ended (settling labels (machineIn looks (now (table .entry)) c (now (accept .entry))) count p) (r .finding) (r .n) (r .positions) (r .label) (r .first) (r .second) ⌝ }
 {
     let mut done = [0u8; 64];
     let mut state = [0u8; 64];
@@ -215,16 +222,16 @@ pub fn settle(
     done[0] = 1;
     let mut n: usize = 1;
     if accept[0] != 0 {
-        return ended(2, n, 0, label, first, second);
+        return ended(Finding::Shown, n, 0, label, first, second);
     }
     while n < count {
         let b = scan(labels, looks, table, c, &done, &state, &size, n);
         let w = b.size;
         if w == 0 {
-            return ended(0, n, 0, label, first, second);
+            return ended(Finding::None, n, 0, label, first, second);
         }
         if p < w {
-            return ended(1, n, 0, label, first, second);
+            return ended(Finding::Larger, n, 0, label, first, second);
         }
         let l = b.label;
         let i = b.first;
@@ -238,10 +245,10 @@ pub fn settle(
         done[q] = 1;
         n += 1;
         if accept[q] != 0 {
-            return ended(2, n, w, label, first, second);
+            return ended(Finding::Shown, n, w, label, first, second);
         }
     }
-    ended(0, n, 0, label, first, second)
+    ended(Finding::None, n, 0, label, first, second)
 }
 
 // Does a state below count accept?
@@ -271,14 +278,14 @@ pub fn find(
     p: u64,
 ) -> Found
     requires { ⌜ Whole labels looks (now table) c count p ⌝ }
-    ensures { λ r. ⌜ Ended (search labels (tableIn looks (now (table .entry)) c (now (accept .entry)) count) p) (r .kind) (r .n) (r .positions) (r .label) (r .first) (r .second) ⌝ }
+    ensures { λ r. ⌜ Ended (search labels (tableIn looks (now (table .entry)) c (now (accept .entry)) count) p) (r .finding) (r .n) (r .positions) (r .label) (r .first) (r .second) ⌝ }
 {
     if any(accept, count) {
         return settle(labels, looks, table, c, count, accept, p);
     }
     let zero = [0usize; 64];
     Found {
-        kind: 0,
+        finding: Finding::None,
         n: 1,
         positions: 0,
         label: zero,

@@ -7,18 +7,16 @@ use lib.ListN.{length, getD, set, take, drop, replicate, length-set, length-drop
 use lib.Seq.{getD-set-same, getD-set-other, getD-drop, take-all}
 use native.Mathlib.Omega.{arith}
 use native.Mathlib.Decide.{ℕ-discrete}
-use borrow.Author.Tests.{lt-ltb}
 use native.Mathlib.Nat.{mul-le-mul, suc-mul}
 use mathlib.Core.Bool.{Bool, true, false}
 use Rattle.logic.specs.Rule.{noRecord, Record, Accepted, lastOf}
-use Rattle.logic.specs.Claims.{refused14, shown}
+use Rattle.logic.specs.Claims.{shown}
 use Rattle.logic.specs.Tree.{Tree}
 use Rattle.logic.specs.Machine.{Machine, run}
 use Rattle.logic.specs.Two.{binary}
 use Rattle.logic.proofs.Answers.{trimmed-iff}
 use Rattle.strip.proofs.TreeLaws.{TreeFacts, tree-accepted}
 use Rattle.strip.proofs.TreeWalk.{facts-stand}
-use Rattle.solver.specs.declared.Ruling.{Ruling}
 use Rattle.solver.specs.declared.run.Ran.{Ran}
 use Rattle.solver.specs.Run.{walk}
 use Rattle.solver.proofs.Walks.{walk-tree}
@@ -27,16 +25,18 @@ use Rattle.machine.specs.Word.{mem}
 use Rattle.machine.specs.Succ.{entry}
 use Rattle.machine.specs.Table.{addr, seen}
 use Rattle.machine.specs.Rule.{Mach, noMach, Outcome as Made-outcome, built, over, At, Made, noDecoded, upto}
+use Rattle.machine.specs.declared.records.Ending.the-variants.{Over, Ready}
 use Rattle.machine.specs.declared.records.Machines.{Machines}
+use Rattle.machine.proofs.Shares.{not-both}
 use Rattle.machine.specs.declared.records.Decoded.{Decoded}
 use Rattle.search.specs.Scan.{stepIn}
-use Rattle.search.specs.Arrays.{tableIn, answerOf, Whole, Ended}
+use Rattle.search.specs.Arrays.{tableIn, Whole, Ended}
+use Rattle.search.specs.declared.Found.{Found}
 use Rattle.logic.specs.Search.{Sought, tree, large, absent, search}
 use Rattle.refinement.specs.Decode.{decodedOf}
 use Rattle.refinement.proofs.Upto.{decide-over, judge-over}
 use Rattle.refinement.proofs.Bytes.{decide-bytes, wordMachine, judge-bytes}
-use Rattle.solver.specs.declared.Solution.{Solution}
-use Rattle.solver.specs.Solve.{Marked, outcomeIf, Solved, judgementIf, Judged}
+use Rattle.solver.specs.Solve.{Marked, soughtIn, outcomeAfter, Solved, judgementAfter, Judged}
 
 -- the loop's invariant
 pub record Marking (a : List ℕ) (w q : ℕ) : Type 0 where
@@ -76,15 +76,16 @@ pub marking-done : (a : List ℕ) (w q n : ℕ) → n ≤ q → Marking a w q �
 marking-done a w q n h v i l = v .done i (omega arith)
 
 -- what the builder's outcome says where no record has too many states
-no-over : (o : Made-outcome) (c labels m : ℕ) (s : Machines) (ws : List ℕ) → Made o c labels m s ws → 128 ≤ s .over → (ms : List Mach) × (o ≡ built ms) × Made (built ms) c labels m s ws
-no-over (over k) c labels m s ws h l = absurd (let a = h .0 in let b = h .1 in omega arith)
+no-over : (o : Made-outcome) (c labels m : ℕ) (s : Machines) (ws : List ℕ) → Made o c labels m s ws → s .ending ≡ Ready
+    → (ms : List Mach) × (o ≡ built ms) × Made (built ms) c labels m s ws
+no-over (over k) c labels m s ws h l = absurd (not-both l h)
 no-over (built ms) c labels m s ws h l = (ms, refl, h)
 
-is-over : (o : Made-outcome) (c labels m : ℕ) (s : Machines) (ws : List ℕ) → Made o c labels m s ws → s .over < 128 → o ≡ over (s .over)
-is-over (over k) c labels m s ws h l = ap over (sym (h .0))
-is-over (built ms) c labels m s ws h l = absurd (let a = h .0 in omega arith)
+is-over : (o : Made-outcome) (c labels m r : ℕ) (s : Machines) (ws : List ℕ) → Made o c labels m s ws → s .ending ≡ Over r → o ≡ over r
+is-over (over k) c labels m r s ws h l = let e : Over k ≡ Over r = sym h ∙ l in let z : k ≡ r = cc in ap over z
+is-over (built ms) c labels m r s ws h l = absurd (not-both (h .0) l)
 
-module _ (o : Made-outcome) (c labels m : ℕ) (s : Machines) (ws : List ℕ) (h : Made o c labels m s ws) (no : 128 ≤ s .over) (some : 0 < m) (top : c ≤ 64) where
+module _ (o : Made-outcome) (c labels m : ℕ) (s : Machines) (ws : List ℕ) (h : Made o c labels m s ws) (no : s .ending ≡ Ready) (some : 0 < m) (top : c ≤ 64) where
   -- the last record has no more than c states
   pub last-few : getD (s .counts) (m - 1) 0 ≤ c
   last-few =
@@ -122,27 +123,27 @@ solve-share (suc m) share h = let e : suc m - 1 ≡ m = omega arith in rw e (sym
 
 module _ (records : List Decoded) (c P : ℕ) (s : Machines) (ws : List ℕ) (pos : 0 < c) (top : c ≤ 64) where
   -- too many states
-  pub solve-refused : (m labels : ℕ) → Made (upto records c labels m) c labels m s ws → s .over < 128 → (v : Solution) → v .over ≡ s .over → v .found .n ≡ 1
-      → Solved records m c labels P v
-  unfolding outcomeIf
-  solve-refused m labels h l v e one = record {
+  pub solve-refused : (m labels : ℕ) → Made (upto records c labels m) c labels m s ws → (r : ℕ) → s .ending ≡ Over r → (f : Found) → f .n ≡ 1
+      → Solved records m c labels P (record { ending = Over r; states = 0; found = f })
+  unfolding outcomeAfter
+  solve-refused m labels h r l f one = record {
     answer = λ n rs acc lm lab dec.
-        let o = is-over (upto records c labels m) c labels m s ws h l in
-        let o′ : upto records c (2 ^ n) (length rs) ≡ over (s .over) = rw (lm, ← lab) o in
-        rw (e, lt-ltb (s .over) 128 l) (sym (decide-over n c pos top rs acc records dec P (s .over) o′));
+        let o = is-over (upto records c labels m) c labels m r s ws h l in
+        let o′ : upto records c (2 ^ n) (length rs) ≡ over r = rw (lm, ← lab) o in
+        sym (decide-over n c pos top rs acc records dec P r o′);
     ranks = record {
       back = λ i p k. absurd (omega arith);
       low = omega arith;
       high = omega arith;
-      counted = λ places states t f. absurd (let g : refused14 (v .over) ≡ shown places states t = rw (lt-ltb (v .over) 128 (omega arith)) at f in let z : _≡_ {A = ℕ} 0 1 = cc in omega arith);
+      counted = λ places states t e. absurd (let z : _≡_ {A = ℕ} 0 1 = cc in omega arith);
     };
   }
 
-  module _ (no : 128 ≤ s .over) (accept table : List ℕ) (kind k size : ℕ) (label first second : List ℕ) where
+  module _ (no : s .ending ≡ Ready) (accept table : List ℕ) (f : Found) where
     abbrev All : ℕ → List Record → ℕ → ℕ → Type 0
     All n rs m labels = Made (upto records c labels m) c labels m s ws → table ≡ drop ((m - 1) * (labels * c * c)) ws → Marked accept (getD (s .accepts) (m - 1) 0) (getD (s .counts) (m - 1) 0)
-        → Ended (search labels (tableIn (getD (s .looks) (m - 1) 0) table c accept (getD (s .counts) (m - 1) 0)) P) kind k size label first second
-        → report (getD (s .counts) (m - 1) 0) (answerOf kind k label first second) ≡ decideOf 2 n rs c P
+        → Ended (search labels (tableIn (getD (s .looks) (m - 1) 0) table c accept (getD (s .counts) (m - 1) 0)) P) (f .finding) (f .n) (f .positions) (f .label) (f .first) (f .second)
+        → report (getD (s .counts) (m - 1) 0) (soughtIn f) ≡ decideOf 2 n rs c P
 
     solve-at : (n : ℕ) (rs : List Record) → Accepted 2 n rs → ((r : ℕ) → r < length rs → getD records r noDecoded ≡ decodedOf n (getD rs r noRecord)) → All n rs (length rs) (2 ^ n)
     solve-at n rs acc dec h et marks e =
@@ -160,29 +161,30 @@ module _ (records : List Decoded) (c P : ℕ) (s : Machines) (ws : List ℕ) (po
 
     -- an answer
     pub solve-decided : (m labels : ℕ) → Made (upto records c labels m) c labels m s ws → table ≡ drop ((m - 1) * (labels * c * c)) ws → Marked accept (getD (s .accepts) (m - 1) 0) (getD (s .counts) (m - 1) 0)
-        → Ended (search labels (tableIn (getD (s .looks) (m - 1) 0) table c accept (getD (s .counts) (m - 1) 0)) P) kind k size label first second
-        → Solved records m c labels P (record { over = 128; states = getD (s .counts) (m - 1) 0; found = record { kind = kind; n = k; positions = size; label = label; first = first; second = second } })
-    unfolding outcomeIf
+        → Ended (search labels (tableIn (getD (s .looks) (m - 1) 0) table c accept (getD (s .counts) (m - 1) 0)) P) (f .finding) (f .n) (f .positions) (f .label) (f .first) (f .second)
+        → Solved records m c labels P (record { ending = Ready; states = getD (s .counts) (m - 1) 0; found = f })
+    unfolding outcomeAfter
     solve-decided m labels h et marks e = record {
       answer = λ n rs acc lm lab dec. subst (λ (z : ℕ). All n rs z labels) lm (subst (λ (z : ℕ). All n rs (length rs) z) (sym lab) (solve-at n rs acc dec)) h et marks e;
       ranks = record {
         back = e .back;
         low = e .low;
         high = e .high;
-        counted = λ places states t f. e .counted t (sym (e .answer) ∙ reported (getD (s .counts) (m - 1) 0) (answerOf kind k label first second) places states t f);
+        counted = λ places states t g. e .counted t (sym (e .answer) ∙ reported (getD (s .counts) (m - 1) 0) (soughtIn f) places states t g);
       };
     }
 
 -- judging a tree
 module _ (records : List Decoded) (c : ℕ) (s : Machines) (ws : List ℕ) (pos : 0 < c) (top : c ≤ 64) (n m : ℕ) (strip : List ℕ) where
-  pub judge-refused : Made (upto records c (2 ^ n) m) c (2 ^ n) m s ws → s .over < 128 → (v : Ruling) → v .over ≡ s .over → Judged records m c n strip v
-  unfolding judgementIf
-  judge-refused h l v e rs acc lm dec t met rest et en =
-      let o = is-over (upto records c (2 ^ n) m) c (2 ^ n) m s ws h l in
-      let o′ : upto records c (2 ^ n) (length rs) ≡ over (s .over) = rw lm o in
-      rw (e, lt-ltb (s .over) 128 l) (sym (judge-over n c pos top rs acc records dec t (s .over) o′))
+  pub judge-refused : Made (upto records c (2 ^ n) m) c (2 ^ n) m s ws → (r : ℕ) → s .ending ≡ Over r → (b : Bool)
+      → Judged records m c n strip (record { ending = Over r; yes = b })
+  unfolding judgementAfter
+  judge-refused h r l b rs acc lm dec t met rest et en =
+      let o = is-over (upto records c (2 ^ n) m) c (2 ^ n) m r s ws h l in
+      let o′ : upto records c (2 ^ n) (length rs) ≡ over r = rw lm o in
+      sym (judge-over n c pos top rs acc records dec t r o′)
 
-  module _ (no : 128 ≤ s .over) (table : List ℕ) (r : Ran) (yes : Bool) where
+  module _ (no : s .ending ≡ Ready) (table : List ℕ) (r : Ran) (yes : Bool) where
     abbrev Rules : ℕ → List Record → Tree 2 → Type 0
     Rules k rs t = Made (upto records c (2 ^ n) k) c (2 ^ n) k s ws → table ≡ drop ((k - 1) * (2 ^ n * c * c)) ws
         → r ≡ walk strip n (getD (s .looks) (k - 1) 0) table c 256 8 → yes ≡ mem (r .state) (getD (s .accepts) (k - 1) 0) → say yes ≡ judgeOf n rs c t
@@ -200,8 +202,8 @@ module _ (records : List Decoded) (c : ℕ) (s : Machines) (ws : List ℕ) (pos 
 
     pub judge-ruled : Made (upto records c (2 ^ n) m) c (2 ^ n) m s ws → table ≡ drop ((m - 1) * (2 ^ n * c * c)) ws
         → r ≡ walk strip n (getD (s .looks) (m - 1) 0) table c 256 8 → yes ≡ mem (r .state) (getD (s .accepts) (m - 1) 0)
-        → Judged records m c n strip (record { over = 128; yes = yes })
-    unfolding judgementIf
+        → Judged records m c n strip (record { ending = Ready; yes = yes })
+    unfolding judgementAfter
     judge-ruled h et w y rs acc lm dec t met rest er en =
         let f : TreeFacts strip n t = subst (λ (k : ℕ). TreeFacts strip k t) en (tree-accepted strip t met rest er .1) in
         subst (λ (k : ℕ). Rules k rs t) lm (judge-at rs acc dec t f) h et w y

@@ -1,10 +1,10 @@
 -- One step of a run; and the run over an accepted strip is the machine's run on its tree. Assumes nothing.
-use Prim.Native.Nat.{ℕ, zero, suc, _+_, _-_, _*_, _<_}
+use Prim.Native.Nat.{ℕ, zero, suc, _+_, _-_, _<_}
 use mathlib.Core.Path.{_≡_, refl, sym, ap, _∙_}
 use mathlib.Core.Bool.{Bool}
 use mathlib.Core.List.{List, _++_}
 use native.Mathlib.Omega.{arith}
-use lib.ListN.{length, getD, length-append}
+use lib.ListN.{length, length-append}
 use Rattle.logic.specs.Tree.{Tree, empty, node, positions, Proper}
 use Rattle.logic.specs.Machine.{run}
 use Rattle.logic.specs.Two.{one, two, binary}

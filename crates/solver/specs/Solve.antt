@@ -1,18 +1,21 @@
 -- What build and search give together, over decoded records. Assumes nothing.
 use Prim.Native.Nat.{ℕ, _^_, _≤_, _<_}
 use mathlib.Core.Path.{_≡_}
-use mathlib.Core.Bool.{Bool, true, false}
+use mathlib.Core.Bool.{Bool}
 use mathlib.Core.List.{List}
-use lib.Dec.{ltb}
 use lib.ListN.{length, getD}
 use Rattle.logic.specs.Rule.{Record, noRecord, Accepted}
 use Rattle.logic.specs.Tree.{Tree, positions}
 use Rattle.logic.specs.Claims.{Outcome, refused14, shown, Judgement, unbuilt}
 use Rattle.logic.specs.Decide.{report, decideOf, say, judgeOf}
+use Rattle.logic.specs.Search.{Sought}
 use Rattle.machine.specs.Word.{mem}
 use Rattle.machine.specs.Rule.{noDecoded}
 use Rattle.machine.specs.declared.records.Decoded.{Decoded}
+use Rattle.machine.specs.declared.records.Ending.{Ending}
+use Rattle.machine.specs.declared.records.Ending.the-variants.{Over, Ready}
 use Rattle.search.specs.Arrays.{acceptsOf, answerOf, Backs}
+use Rattle.search.specs.declared.Found.{Found}
 use Rattle.refinement.specs.Decode.{decodedOf}
 use Rattle.strip.specs.Bits.{field}
 use Rattle.strip.specs.TreeStrip.{parsed, readTree}
@@ -23,13 +26,17 @@ use Rattle.solver.specs.declared.Ruling.{Ruling}
 abbrev pub Marked : List ℕ → ℕ → ℕ → Type 0
 Marked a w m = (q : ℕ) → q < m → acceptsOf a q ≡ mem q w
 
+-- what a search found
+abbrev pub soughtIn : Found → Sought 2
+soughtIn f = answerOf (f .finding) (f .n) (f .label) (f .first) (f .second)
+
 -- the answer that a solution stands for
-unfoldable pub outcomeIf : Bool → Solution → Outcome 2
-outcomeIf true v = refused14 (v .over)
-outcomeIf false v = report (v .states) (answerOf (v .found .kind) (v .found .n) (v .found .label) (v .found .first) (v .found .second))
+unfoldable pub outcomeAfter : Ending → ℕ → Found → Outcome 2
+outcomeAfter (Over r) states f = refused14 r
+outcomeAfter Ready states f = report states (soughtIn f)
 
 abbrev pub outcomeOf : Solution → Outcome 2
-outcomeOf v = outcomeIf (ltb (v .over) 128) v
+outcomeOf v = outcomeAfter (v .ending) (v .states) (v .found)
 
 -- a writer can follow the solution's ranks down, and has the positions of the tree that is shown
 pub record Ranked (v : Solution) : Type 0 where
@@ -45,12 +52,12 @@ pub record Solved (records : List Decoded) (m c labels P : ℕ) (v : Solution) :
   pub ranks : Ranked v
 
 -- the judgement that a ruling stands for
-unfoldable pub judgementIf : Bool → Ruling → Judgement
-judgementIf true v = unbuilt (v .over)
-judgementIf false v = say (v .yes)
+unfoldable pub judgementAfter : Ending → Bool → Judgement
+judgementAfter (Over r) b = unbuilt r
+judgementAfter Ready b = say b
 
 abbrev pub judgementOf : Ruling → Judgement
-judgementOf v = judgementIf (ltb (v .over) 128) v
+judgementOf v = judgementAfter (v .ending) (v .yes)
 
 -- v is judge's answer to every rule over n variables that the records are decoded from, and the tree in the strip
 abbrev pub Judged : List Decoded → ℕ → ℕ → ℕ → List ℕ → Ruling → Type 0

@@ -7,6 +7,8 @@ ghost use lib.ListN.{length, getD, drop};
 ghost use Rattle.machine.specs.Rule.{Fits, Sound, noDecoded};
 ghost use Rattle.solver.specs.Solve.{Marked, Solved, Judged};
 use machine::records::Decoded;
+use machine::records::Ending;
+use search::Finding;
 use search::Found;
 
 // One byte for each of n states: 1 where it is a member of w.
@@ -33,9 +35,9 @@ fn last_share(m: usize, c: usize, labels: usize) -> usize
     (m - 1) * (labels * c * c)
 }
 
-// over: the record with too many states, 128 where there is none; the states of the last record; and what the search found.
+// How building ended; and where the machines are ready, the states of the last record and what the search found.
 pub struct Solution {
-    pub over: usize,
+    pub ending: Ending,
     pub states: usize,
     pub found: Found,
 }
@@ -55,39 +57,43 @@ pub fn solve(
     ensures { λ r. ⌜ drop (m * (labels * c * c)) (now (ws .exit)) ≡ drop (m * (labels * c * c)) (now (ws .entry)) ⌝ }
 {
     let t = machine::records::build_all(ws, records, m, c, labels);
-    let over = t.over;
     let last = m - 1;
-    let count = t.counts[last] as usize;
-    if over < 128 {
-        let zero = [0usize; 64];
-        let none = Found {
-            kind: 0,
-            n: 1,
-            positions: 0,
-            label: zero,
-            first: zero,
-            second: zero,
-        };
-        return Solution {
-            over,
-            states: 0,
-            found: none,
-        };
-    }
-    let looks = t.looks[last] as usize;
-    let a = marks(t.accepts[last], count);
-    let base = last_share(m, c, labels);
-    let f = search::find(labels, looks, &ws[base..], c, count, &a, p);
-    Solution {
-        over: 128,
-        states: count,
-        found: f,
+    let ending = t.ending;
+    match ending {
+        Ending::Over(r) => {
+            let zero = [0usize; 64];
+            let none = Found {
+                finding: Finding::None,
+                n: 1,
+                positions: 0,
+                label: zero,
+                first: zero,
+                second: zero,
+            };
+            Solution {
+                ending: Ending::Over(r),
+                states: 0,
+                found: none,
+            }
+        }
+        Ending::Ready => {
+            let count = t.counts[last] as usize;
+            let looks = t.looks[last] as usize;
+            let a = marks(t.accepts[last], count);
+            let base = last_share(m, c, labels);
+            let f = search::find(labels, looks, &ws[base..], c, count, &a, p);
+            Solution {
+                ending: Ending::Ready,
+                states: count,
+                found: f,
+            }
+        }
     }
 }
 
-// over: the record with too many states, 128 where there is none; and whether the rule holds of the tree.
+// How building ended; and where the machines are ready, whether the rule holds of the tree.
 pub struct Ruling {
-    pub over: usize,
+    pub ending: Ending,
     pub yes: bool,
 }
 
@@ -108,19 +114,24 @@ pub fn judge(
     ensures { λ r. ⌜ drop (m * (labels * c * c)) (now (ws .exit)) ≡ drop (m * (labels * c * c)) (now (ws .entry)) ⌝ }
 {
     let t = machine::records::build_all(ws, records, m, c, labels);
-    let over = t.over;
     let last = m - 1;
-    let count = t.counts[last] as usize;
-    let accept = t.accepts[last];
-    if over < 128 {
-        return Ruling { over, yes: false };
-    }
-    let base = last_share(m, c, labels);
-    let looks = t.looks[last] as usize;
-    let r = run::run(tree, n, labels, looks, &ws[base..], c, count, 256, 8);
-    let state = r.state;
-    Ruling {
-        over: 128,
-        yes: machine::words::has(accept, state),
+    let ending = t.ending;
+    match ending {
+        Ending::Over(r) => Ruling {
+            ending: Ending::Over(r),
+            yes: false,
+        },
+        Ending::Ready => {
+            let count = t.counts[last] as usize;
+            let looks = t.looks[last] as usize;
+            let accept = t.accepts[last];
+            let base = last_share(m, c, labels);
+            let r = run::run(tree, n, labels, looks, &ws[base..], c, count, 256, 8);
+            let state = r.state;
+            Ruling {
+                ending: Ending::Ready,
+                yes: machine::words::has(accept, state),
+            }
+        }
     }
 }

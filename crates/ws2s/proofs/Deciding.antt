@@ -9,6 +9,8 @@ use Rattle.logic.specs.Rule.{Record, noRecord}
 use Rattle.logic.specs.Tree.{positions}
 use Rattle.machine.specs.Rule.{Fits, Sound, noDecoded}
 use Rattle.machine.specs.declared.records.Decoded.{Decoded}
+use Rattle.machine.specs.declared.records.Ending.the-variants.{Over, Ready}
+use Rattle.search.specs.declared.Finding.the-variants.{None as Nothing, Larger as Beyond, Shown as Found}
 use Rattle.refinement.proofs.Ready.{ready}
 use Rattle.solver.specs.Solve.{outcomeOf, Ranked, Solved}
 use Rattle.solver.proofs.Told.{treeIn, told-over, told-none, told-larger, told-shown}
@@ -53,26 +55,26 @@ module _ (n : ℕ) (v : Solution) (out : List ℕ) where
   abbrev Tells : Verdict → List ℕ → Type 0
   Tells x end = (x ≡ tell n (outcomeOf v)) × (end ≡ outAfter n (outcomeOf v) out)
 
-  pub tells-over : v .over < 128 → Tells (TooManyStates (v .over)) out
+  pub tells-over : (r : ℕ) → v .ending ≡ Over r → Tells (TooManyStates r) out
   unfolding tell outAfter
-  tells-over h = rw (told-over v h) (refl, refl)
+  tells-over r h = rw (told-over v r h) (refl, refl)
 
-  module _ (h : 128 ≤ v .over) where
-    pub tells-none : v .found .kind ≡ 0 → Tells (None (v .states)) out
+  module _ (h : v .ending ≡ Ready) where
+    pub tells-none : v .found .finding ≡ Nothing → Tells (None (v .states)) out
     unfolding tell outAfter
     tells-none e = rw (told-none v h e) (refl, refl)
 
-    pub tells-larger : v .found .kind ≡ 1 → Tells (Larger (v .states)) out
+    pub tells-larger : v .found .finding ≡ Beyond → Tells (Larger (v .states)) out
     unfolding tell outAfter
     tells-larger e = rw (told-larger v h e) (refl, refl)
 
-    module _ (a : v .found .kind ≡ 0 → ⊥) (b : v .found .kind ≡ 1 → ⊥) (r : Ranked v) (w : Spacious n (outcomeOf v) (length out)) where
+    module _ (a : v .found .finding ≡ Found) (r : Ranked v) (w : Spacious n (outcomeOf v) (length out)) where
       same-size : v .found .positions ≡ positions (treeIn v)
-      same-size = r .counted (positions (treeIn v)) (v .states) (treeIn v) (told-shown v h a b)
+      same-size = r .counted (positions (treeIn v)) (v .states) (treeIn v) (told-shown v h a)
 
       -- the front of out holds the strip
       pub shown-room : (v .found .positions ≡ positions (treeIn v)) × (positions (treeIn v) ≤ 255) × (treeBytes n (positions (treeIn v)) ≤ length out)
-      shown-room = let k = w (positions (treeIn v)) (v .states) (treeIn v) (told-shown v h a b) in (same-size, k .0, k .1)
+      shown-room = let k = w (positions (treeIn v)) (v .states) (treeIn v) (told-shown v h a) in (same-size, k .0, k .1)
 
       pub shown-front : (len : ℕ) → len ≡ treeBytes n (v .found .positions) → length (take len out) ≡ treeBytes n (positions (treeIn v))
       shown-front len e =
@@ -84,4 +86,4 @@ module _ (n : ℕ) (v : Solution) (out : List ℕ) where
       unfolding tell outAfter
       tells-shown len e front f =
           let z : len ≡ length (treeStrip n (treeIn v)) = e ∙ ap (treeBytes n) same-size ∙ sym (treeStrip-length n (treeIn v)) in
-          rw (told-shown v h a b, f, z, same-size) (refl, refl)
+          rw (told-shown v h a, f, z, same-size) (refl, refl)

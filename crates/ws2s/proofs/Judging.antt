@@ -4,7 +4,7 @@ use mathlib.Core.Path.{_≡_, refl, sym, ap, _∙_, subst}
 use mathlib.Core.Bool.{Bool, true, false, not, _&&_, _||_}
 use mathlib.Core.List.{List, [], _∷_}
 use native.Mathlib.Omega.{arith}
-use borrow.Author.Tests.{eq-eqb, ne-eqb, eqb-true, lt-ltb, le-ltb}
+use borrow.Author.Tests.{eq-eqb, ne-eqb, eqb-true}
 use lib.Dec.{ltb, leb, eqb, eqb·suc-zero}
 use lib.ListN.{length, take, drop}
 use Rattle.logic.specs.Meaning.{Assignment}
@@ -15,7 +15,8 @@ use Rattle.logic.specs.Claims.{Judgement as Ruled, Judges}
 use Rattle.logic.specs.Decide.{say, judgeOf}
 use Rattle.logic.proofs.Answers.{judge-judges, trimmed-iff}
 use Rattle.machine.specs.declared.records.Decoded.{Decoded}
-use Rattle.solver.specs.Solve.{judgementIf, judgementOf, Judged}
+use Rattle.machine.specs.declared.records.Ending.the-variants.{Over, Ready}
+use Rattle.solver.specs.Solve.{judgementAfter, judgementOf, Judged}
 use Rattle.solver.specs.declared.Ruling.{Ruling}
 use Rattle.strip.specs.Bits.{bits, number, field, anySet}
 use Rattle.strip.specs.RuleStrip.{orElse, between, variablesOf, countOf, recordsOf, ruleRefusal}
@@ -106,17 +107,17 @@ readable-size s n w =
 
 -- ---- the answer of a ruling
 module _ (v : Ruling) where
-  pub ruled-over : v .over < 128 → TooManyStates (v .over) ≡ tell (judgementOf v)
-  unfolding judgementIf
-  ruled-over h = rw (lt-ltb (v .over) 128 h)
+  pub ruled-over : (r : ℕ) → v .ending ≡ Over r → TooManyStates r ≡ tell (judgementOf v)
+  unfolding judgementAfter
+  ruled-over r h = rw h
 
-  pub ruled-yes : 128 ≤ v .over → v .yes ≡ true → Yes ≡ tell (judgementOf v)
-  unfolding judgementIf say
-  ruled-yes h e = rw (le-ltb (v .over) 128 h, e)
+  pub ruled-yes : v .ending ≡ Ready → v .yes ≡ true → Yes ≡ tell (judgementOf v)
+  unfolding judgementAfter say
+  ruled-yes h e = rw (h, e)
 
-  pub ruled-no : 128 ≤ v .over → v .yes ≡ false → No ≡ tell (judgementOf v)
-  unfolding judgementIf say
-  ruled-no h e = rw (le-ltb (v .over) 128 h, e)
+  pub ruled-no : v .ending ≡ Ready → v .yes ≡ false → No ≡ tell (judgementOf v)
+  unfolding judgementAfter say
+  ruled-no h e = rw (h, e)
 
 module _ (rule : List ℕ) (n m c : ℕ) (ok : ruleRefusal rule ≡ 0) (en : n ≡ variablesOf rule) (em : m ≡ countOf rule) where
   pub rule-judged : (xs : List Decoded) → DecodesTo rule m xs → (tree : List ℕ) → Readable tree n → (v : Ruling) → Judged xs m c n tree v → judgementOf v ≡ judgedOf rule c tree

@@ -7,6 +7,8 @@ ghost use Rattle.strip.specs.RuleStrip.{variablesOf, countOf, ruleRefusal};
 ghost use Rattle.ws2s.specs.Room.{roomFor, cleared, roomRefusal};
 ghost use Rattle.ws2s.specs.Decide.{decidedOf, tell, outAfter, Spacious, verdictOf, workspaceOf, outOf, Claim};
 use crate::decode::decode;
+use machine::records::Ending;
+use search::Finding;
 use solver::Solution;
 use strip::rule::RuleCheck;
 
@@ -61,38 +63,40 @@ fn conclude(n: usize, v: Solution, out: &mut [u8]) -> Verdict
     ensures { λ r. ⌜ r ≡ tell n (outcomeOf v) ⌝ }
     ensures { λ _. ⌜ now (out .exit) ≡ outAfter n (outcomeOf v) (now (out .entry)) ⌝ }
 {
-    let over = v.over;
+    let ending = v.ending;
     let states = v.states;
-    if over < 128 {
-        return Verdict::TooManyStates(over as u64);
-    }
-    let f = v.found;
-    let kind = f.kind;
-    if kind == 0 {
-        return Verdict::None(states as u64);
-    }
-    if kind == 1 {
-        return Verdict::Larger(states as u64);
-    }
-    let positions = f.positions;
-    let count = f.n;
-    let label = f.label;
-    let first = f.first;
-    let second = f.second;
-    let len = crate::room::strip_bytes(n, positions as usize);
-    search::write::write_strip(
-        &mut out[..len],
-        n,
-        &label,
-        &first,
-        &second,
-        count,
-        count - 1,
-    );
-    Verdict::Shown {
-        positions,
-        states: states as u64,
-        length: len as u64,
+    match ending {
+        Ending::Over(r) => Verdict::TooManyStates(r as u64),
+        Ending::Ready => {
+            let f = v.found;
+            let finding = f.finding;
+            match finding {
+                Finding::None => Verdict::None(states as u64),
+                Finding::Larger => Verdict::Larger(states as u64),
+                Finding::Shown => {
+                    let positions = f.positions;
+                    let count = f.n;
+                    let label = f.label;
+                    let first = f.first;
+                    let second = f.second;
+                    let len = crate::room::strip_bytes(n, positions as usize);
+                    search::write::write_strip(
+                        &mut out[..len],
+                        n,
+                        &label,
+                        &first,
+                        &second,
+                        count,
+                        count - 1,
+                    );
+                    Verdict::Shown {
+                        positions,
+                        states: states as u64,
+                        length: len as u64,
+                    }
+                }
+            }
+        }
     }
 }
 

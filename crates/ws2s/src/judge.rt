@@ -7,6 +7,7 @@ ghost use Rattle.strip.specs.RuleStrip.{variablesOf, countOf, ruleRefusal};
 ghost use Rattle.ws2s.specs.Room.{roomFor, cleared};
 ghost use Rattle.ws2s.specs.Judge.{Readable, judgedOf, tell, judgementFor, workspaceFor, JudgeClaim};
 use crate::decode::decode;
+use machine::records::Ending;
 use solver::Ruling;
 use strip::rule::RuleCheck;
 use strip::tree::TreeCheck;
@@ -23,15 +24,17 @@ pub enum Judgement {
 fn ruled(v: Ruling) -> Judgement
     ensures { λ r. ⌜ r ≡ tell (judgementOf v) ⌝ }
 {
-    let over = v.over;
-    if over < 128 {
-        return Judgement::TooManyStates(over as u64);
-    }
+    let ending = v.ending;
     let yes = v.yes;
-    if yes {
-        return Judgement::Yes;
+    match ending {
+        Ending::Over(r) => Judgement::TooManyStates(r as u64),
+        Ending::Ready => {
+            if yes {
+                return Judgement::Yes;
+            }
+            Judgement::No
+        }
     }
-    Judgement::No
 }
 
 // Build over the strip's own records, and the last record's machine run on the tree; the workspace is cleared behind them.

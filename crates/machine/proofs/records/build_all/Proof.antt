@@ -6,6 +6,7 @@ use mathlib.Core.Path.{_≡_, refl, sym, _∙_, subst}
 use native.Mathlib.Omega.{arith}
 use lib.ListN.{length, getD, drop}
 use Rattle.machine.specs.Rule.{Fits, Made, Keeps, Wide, upto, noDecoded}
+use Rattle.machine.specs.declared.records.Ending.the-variants.{Over, Ready}
 use Rattle.machine.specs.declared.records.Machines.{Machines}
 use Rattle.machine.specs.declared.records.Summary.{Summary}
 use Rattle.machine.proofs.Nexts.{wide-next, upto-next, made-over-rest}
@@ -16,7 +17,7 @@ use Rattle.machine.proofs.records.build_all.Tie as tie
 
 abbrev Inv-loop : tie.InvT-loop
 Inv-loop ws₀ m c labels records t₀ r₀ ws t r =
-    (r ≤ m) × (length ws ≡ length ws₀) × (t .over ≡ 128) × Wide t × Made (upto records c labels r) c labels r t ws × (drop (m * (labels * c * c)) ws ≡ drop (m * (labels * c * c)) ws₀)
+    (r ≤ m) × (length ws ≡ length ws₀) × (t .ending ≡ Ready) × Wide t × Made (upto records c labels r) c labels r t ws × (drop (m * (labels * c * c)) ws ≡ drop (m * (labels * c * c)) ws₀)
 
 abbrev μ-loop : tie.MeasureT-loop
 μ-loop ws₀ m c labels records t₀ r₀ ws t r = m - r
@@ -25,8 +26,8 @@ abbrev μ-loop : tie.MeasureT-loop
 abbrev entryOf : Machines → ℕ → Summary
 entryOf s a = record { count = getD (s .counts) a 0; accept = getD (s .accepts) a 0; looks = getD (s .looks) a 0 }
 
-keeps : (s : Machines) (a : ℕ) → s .over ≡ 128 → Keeps s a (entryOf s a)
-keeps s a e = record { count = refl; accept = refl; looks = refl; none-over = omega arith }
+keeps : (s : Machines) (a : ℕ) → s .ending ≡ Ready → Keeps s a (entryOf s a)
+keeps s a e = record { count = refl; accept = refl; looks = refl; none-over = e }
 
 loop-holds : tie.Need-loop-holds Inv-loop μ-loop
 unfolding upto
@@ -38,29 +39,29 @@ cast-first c = omega (arith, c .before .before .before .before .before .pre .1 (
 cast-second : tie.Need-cast-second Inv-loop μ-loop
 cast-second c = omega (arith, c .before .before .before .before .before .before .pre .1 (c .before .before .before .before .loop .r) (c .before .before .before .loop-test .taken) .0 .second-in)
 
-element-copy-out-t25 : tie.Need-element-copy-out-t25 Inv-loop μ-loop
-element-copy-out-t25 c = c .before .before .before .before .before .before .pre .1 (c .before .before .before .before .loop .r) (c .before .before .before .loop-test .taken) .0 .first-in
+element-copy-out-t26 : tie.Need-element-copy-out-t26 Inv-loop μ-loop
+element-copy-out-t26 c = c .before .before .before .before .before .before .pre .1 (c .before .before .before .before .loop .r) (c .before .before .before .loop-test .taken) .0 .first-in
 
-mul-t19 : tie.Need-mul-t19 Inv-loop μ-loop
-mul-t19 c = omega (arith, c .before .before .before .before .before .before .before .pre .1 (c .before .before .before .before .before .loop .r) (c .before .before .before .before .loop-test .taken) .0 .first-in)
+mul-t20 : tie.Need-mul-t20 Inv-loop μ-loop
+mul-t20 c = omega (arith, c .before .before .before .before .before .before .before .pre .1 (c .before .before .before .before .before .loop .r) (c .before .before .before .before .loop-test .taken) .0 .first-in)
 
-element-copy-out-t28 : tie.Need-element-copy-out-t28 Inv-loop μ-loop
-element-copy-out-t28 c = c .before .before .before .before .before .before .before .pre .1 (c .before .before .before .before .before .loop .r) (c .before .before .before .before .loop-test .taken) .0 .first-in
+element-copy-out-t29 : tie.Need-element-copy-out-t29 Inv-loop μ-loop
+element-copy-out-t29 c = c .before .before .before .before .before .before .before .pre .1 (c .before .before .before .before .before .loop .r) (c .before .before .before .before .loop-test .taken) .0 .first-in
 
-element-copy-out-t31 : tie.Need-element-copy-out-t31 Inv-loop μ-loop
-element-copy-out-t31 c = c .before .before .before .before .before .before .before .before .pre .1 (c .before .before .before .before .before .before .loop .r) (c .before .before .before .before .before .loop-test .taken) .0 .first-in
+element-copy-out-t32 : tie.Need-element-copy-out-t32 Inv-loop μ-loop
+element-copy-out-t32 c = c .before .before .before .before .before .before .before .before .pre .1 (c .before .before .before .before .before .before .loop .r) (c .before .before .before .before .before .loop-test .taken) .0 .first-in
 
-element-copy-out-t25-2 : tie.Need-element-copy-out-t25-2 Inv-loop μ-loop
-element-copy-out-t25-2 c = c .before .before .before .before .before .before .before .before .before .pre .1 (c .before .before .before .before .before .before .before .loop .r) (c .before .before .before .before .before .before .loop-test .taken) .0 .second-in
+element-copy-out-t26-2 : tie.Need-element-copy-out-t26-2 Inv-loop μ-loop
+element-copy-out-t26-2 c = c .before .before .before .before .before .before .before .before .before .pre .1 (c .before .before .before .before .before .before .before .loop .r) (c .before .before .before .before .before .before .loop-test .taken) .0 .second-in
 
-mul-t19-2 : tie.Need-mul-t19-2 Inv-loop μ-loop
-mul-t19-2 c = omega (arith, c .before .before .before .before .before .before .before .before .before .before .pre .1 (c .before .before .before .before .before .before .before .before .loop .r) (c .before .before .before .before .before .before .before .loop-test .taken) .0 .second-in)
+mul-t20-2 : tie.Need-mul-t20-2 Inv-loop μ-loop
+mul-t20-2 c = omega (arith, c .before .before .before .before .before .before .before .before .before .before .pre .1 (c .before .before .before .before .before .before .before .before .loop .r) (c .before .before .before .before .before .before .before .loop-test .taken) .0 .second-in)
 
-element-copy-out-t28-2 : tie.Need-element-copy-out-t28-2 Inv-loop μ-loop
-element-copy-out-t28-2 c = c .before .before .before .before .before .before .before .before .before .before .pre .1 (c .before .before .before .before .before .before .before .before .loop .r) (c .before .before .before .before .before .before .before .loop-test .taken) .0 .second-in
+element-copy-out-t29-2 : tie.Need-element-copy-out-t29-2 Inv-loop μ-loop
+element-copy-out-t29-2 c = c .before .before .before .before .before .before .before .before .before .before .pre .1 (c .before .before .before .before .before .before .before .before .loop .r) (c .before .before .before .before .before .before .before .loop-test .taken) .0 .second-in
 
-element-copy-out-t31-2 : tie.Need-element-copy-out-t31-2 Inv-loop μ-loop
-element-copy-out-t31-2 c =
+element-copy-out-t32-2 : tie.Need-element-copy-out-t32-2 Inv-loop μ-loop
+element-copy-out-t32-2 c =
     c .before .before .before .before .before .before .before .before .before .before .before .pre .1 (c .before .before .before .before .before .before .before .before .before .loop .r) (c .before .before .before .before .before .before .before .before .loop-test .taken) .0 .second-in
 
 build-next-requires : tie.Need-build-next-requires Inv-loop μ-loop
@@ -84,15 +85,15 @@ build-next-requires c κs =
 
 returns : tie.Need-returns Inv-loop μ-loop
 returns c =
-    let s = c .before .before .before .before .before .before .before .before .before .before .before .before .before .before .before .before .before .before in
-    let h = c .before .before .before .before .before .before .before .before .before .before .before .before .before .before .before .before .loop in
-    let t = c .before .before .before .before .before .before .before .before .before .before .before .before .before .before .before .loop-test .taken in
+    let s = c .before .before .before .before .before .before .before .before .before .before .before .before .before .before .before .before .before .before .before .before .before in
+    let h = c .before .before .before .before .before .before .before .before .before .before .before .before .before .before .before .before .before .before .before .loop in
+    let t = c .before .before .before .before .before .before .before .before .before .before .before .before .before .before .before .before .before .before .loop-test .taken in
     let a = s .args in
-    let v = c .before .before .before .before .build-next in
+    let v = c .before .before .before .before .before .before .before .build-next in
     let share = a .labels * a .c * a .c in
     let x = getD (a .t2) (h .r) noDecoded in
     let n = v .ensures .0 (h .t) (upto (a .t2) (a .c) (a .labels) (h .r)) (h .inv .3) (keeps (h .t) (x .first) (h .inv .2)) (keeps (h .t) (x .second) (h .inv .2)) (h .inv .4) in (
-      made-over-rest (a .t2) (a .c) (a .labels) (h .r) (a .m) (record { counts = h .t .counts; accepts = h .t .accepts; looks = h .t .looks; over = h .r }) (v .last .0) t (s .pre .0 .1) refl (n .many (c .if1 .taken)),
+      made-over-rest (a .t2) (a .c) (a .labels) (h .r) (a .m) (record { counts = h .t .counts; accepts = h .t .accepts; looks = h .t .looks; ending = Over (h .r) }) (v .last .0) t refl (n .many (c .before .before .before .if1 .taken)),
       drop-later (h .r * share + share) (a .m * share) (v .last .0) (h .ws) (next-share (h .r) (a .m) share t) (v .ensures .1) ∙ h .inv .5,
     )
 
@@ -132,14 +133,14 @@ build-all-spec =
     (λ c. search needs)
     cast-first
     cast-second
-    element-copy-out-t25
-    mul-t19
-    element-copy-out-t28
-    element-copy-out-t31
-    element-copy-out-t25-2
-    mul-t19-2
-    element-copy-out-t28-2
-    element-copy-out-t31-2
+    element-copy-out-t26
+    mul-t20
+    element-copy-out-t29
+    element-copy-out-t32
+    element-copy-out-t26-2
+    mul-t20-2
+    element-copy-out-t29-2
+    element-copy-out-t32-2
     build-next-requires
     (λ c. search needs)
     (λ c. search needs)
