@@ -1,7 +1,7 @@
 -- A machine with its reachable states numbered behaves as it did.
 -- Assumes nothing.
 use Prim.Native.Nat.{ℕ, zero, suc, _^_, _<_}
-use mathlib.Core.Path.{_≡_, refl, ap, sym, _∙_, fun-ext}
+use mathlib.Core.Path.{_≡_, refl, ap, sym, subst, _∙_, fun-ext}
 use mathlib.Core.Logic.{inl, inr}
 use mathlib.Core.Bool.{Bool, true, false, cond, _||_}
 use mathlib.Core.List.{List, [], _∷_}
@@ -74,9 +74,15 @@ module _ {k : ℕ} (n d : ℕ) (M : Machine k ℕ) (B : Bounded n d M) where
   pub bound : (q : ℕ) → Reached M (below (2 ^ n)) q → q < d
   bound q r = reached-bound n d M (below (2 ^ n)) B (λ l t. (elem-below l (2 ^ n)) .0 t) q r
 
+  -- just the states that are reached are counted
+  build-count : length (reach M (below (2 ^ n)) d) ≡ (build n d M) .count
+  unfolding build
+  build-count = refl
+
   pub build-bounded : Bounded n ((build n d M) .count) ((build n d M) .machine)
   unfolding build
-  build-bounded = numbered-bounded n M (reach M (below (2 ^ n)) d) (reach-start M (below (2 ^ n)) d bound) (reach-closed M (below (2 ^ n)) d bound)
+  build-bounded = subst (λ (c : ℕ). Bounded n c ((build n d M) .machine)) build-count
+      (numbered-bounded n M (reach M (below (2 ^ n)) d) (reach-start M (below (2 ^ n)) d bound) (reach-closed M (below (2 ^ n)) d bound))
 
   pub build-decides : (f : Formula k) → Decides n M f → Decides n ((build n d M) .machine) f
   unfolding build

@@ -63,15 +63,23 @@ module _ {k : ℕ} (n x c : ℕ) (hx : x < n) (M : Machine k ℕ) (B : Bounded n
   unfolding blanks
   blank-bound q r = reached-bound n c M blanks B (λ l t. let w = one-of n x 0 l t in subst (λ (z : ℕ). z < 2 ^ n) (sym (w .1)) (put-lt n x (w .0) 0 hx (pow-pos n))) q r
 
-  pub projection-bounded : Bounded n (2 ^ c) (projection n x c M)
-  unfolding projection
-  projection-bounded = (word-lt c (λ q. elem q (reach M (withBit n x false 0 ∷ withBit n x true 0 ∷ []) c)), λ l h s u. word-lt c (λ q. elem q (successors M (withBit n x false l ∷ withBit n x true l ∷ []) (λ b. members c (s b)))))
-
   abbrev pub In : ℕ → ℕ → Type 0
   In w q = (q < c) × T (low w q)
 
   in-word : (g : ℕ → Bool) (q : ℕ) → In (wordOf c g) q ↔ ((q < c) × T (g q))
   in-word g q = (λ u. (u .0, subst T (low-word c g q (u .0)) (u .1)), λ u. (u .0, subst T (sym (low-word c g q (u .0))) (u .1)))
+
+  -- the start has every state that M comes to on trees that are blank but for x, not its start alone
+  start-all : (q : ℕ) → Blank n x M q → In ((projection n x c M) .start) q
+  unfolding projection blanks
+  start-all q u = (in-word (λ z. elem z (reach M blanks c)) q) .1 (blank-bound q (of-blank q u), reach-all M blanks c blank-bound q (of-blank q u))
+
+  pub projection-bounded : Bounded n (2 ^ c) (projection n x c M)
+  unfolding projection
+  projection-bounded = (
+    word-lt c (λ q. elem q (reach M (withBit n x false 0 ∷ withBit n x true 0 ∷ []) c)),
+    λ l h s u. word-lt c (λ q. elem q (successors M (withBit n x false l ∷ withBit n x true l ∷ []) (λ b. members c (s b)))),
+  )
 
   pub projection-projects : Projects n x M (projection n x c M) (λ w. Unit {0}) In
   unfolding projection blanks
@@ -79,7 +87,7 @@ module _ {k : ℕ} (n x c : ℕ) (hx : x < n) (M : Machine k ℕ) (B : Bounded n
     start-ok = tt;
     step-ok = λ l h s u. tt;
     start-only = λ q u. to-blank q (reach-only M blanks c blank-bound q (((in-word (λ z. elem z (reach M blanks c)) q) .0 u) .1));
-    start-all = λ q u. (in-word (λ z. elem z (reach M blanks c)) q) .1 (blank-bound q (of-blank q u), reach-all M blanks c blank-bound q (of-blank q u));
+    start-all = start-all;
     step-only = λ l h s u q v.
         let ls = withBit n x false l ∷ withBit n x true l ∷ [] in
         let w = (successors-iff M ls (λ b. members c (s b)) q) .0 (((in-word (λ z. elem z (successors M ls (λ b. members c (s b)))) q) .0 v) .1) in

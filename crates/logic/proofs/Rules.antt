@@ -33,45 +33,6 @@ getD-snoc P z xs x f p j h = elim (ℕ-tri j (length xs)) [
 snoc-length : {A : Type 0} (xs : List A) (x : A) → length (xs ++ (x ∷ [])) ≡ suc (length xs)
 snoc-length xs x = length-append xs (x ∷ []) ∙ omega arith
 
-module _ (k n : ℕ) where
-  abbrev AllValid : List (Formula k) → Type 0
-  AllValid fs = (j : ℕ) → j < length fs → Valid n (getD fs j (root 0))
-
-  successor-valid : (i x y : ℕ) → T (ltb i k && (ltb x n && ltb y n)) → Valid n (successorAt {k = k} i x y)
-  unfolding successorAt Valid
-  successor-valid i x y t =
-      let w = and-both (ltb i k) (ltb x n && ltb y n) t in
-      let u = and-both (ltb x n) (ltb y n) (w .1) in
-      elim (decLt i k) as (λ d. Valid {k = k} n (elim d as (λ _. Formula k) [ yes h ↦ successor (record { number = i; below = h }) x y | no h ↦ root 0 ]))
-      [ yes h ↦ (ltb→lt x n (u .0), ltb→lt y n (u .1)) | no h ↦ absurd (h (ltb→lt i k (w .0))) ]
-
-  module _ (fs : List (Formula k)) (valid : AllValid fs) where
-    at-valid : (a : ℕ) → T (ltb a (length fs)) → Valid n (getD fs a (root 0))
-    at-valid a t = valid a (ltb→lt a (length fs) t)
-
-    of-good : (op a b : ℕ) → T (good k n (length fs) (record { op = op; first = a; second = b })) → Valid n (formulaOf (record { op = op; first = a; second = b }) fs)
-    unfolding good formulaOf Valid
-    of-good zero a b t = let w = and-both (ltb a n) (ltb b n) t in (ltb→lt a n (w .0), ltb→lt b n (w .1))
-    of-good (suc zero) a b t = ltb→lt a n ((and-both (ltb a n) (eqb b 0) t) .0)
-    of-good (suc (suc zero)) a b t = successor-valid 0 a b t
-    of-good (suc (suc (suc zero))) a b t = successor-valid 1 a b t
-    of-good (suc (suc (suc (suc zero)))) a b t = ltb→lt a n ((and-both (ltb a n) (eqb b 0) t) .0)
-    of-good (suc (suc (suc (suc (suc zero))))) a b t = at-valid a ((and-both (ltb a (length fs)) (eqb b 0) t) .0)
-    of-good (suc (suc (suc (suc (suc (suc zero)))))) a b t = let w = and-both (ltb a (length fs)) (ltb b (length fs)) t in (at-valid a (w .0), at-valid b (w .1))
-    of-good (suc (suc (suc (suc (suc (suc (suc zero))))))) a b t = let w = and-both (ltb a (length fs)) (ltb b (length fs)) t in (at-valid a (w .0), at-valid b (w .1))
-    of-good (suc (suc (suc (suc (suc (suc (suc (suc zero)))))))) a b t = let w = and-both (ltb a n) (ltb b (length fs)) t in (ltb→lt a n (w .0), at-valid b (w .1))
-    of-good (suc (suc (suc (suc (suc (suc (suc (suc (suc zero))))))))) a b t = successor-valid 2 a b t
-    of-good (suc (suc (suc (suc (suc (suc (suc (suc (suc (suc op)))))))))) a b t = absurd t
-
-  extend-valid : (rs : List Record) (fs : List (Formula k)) → T (goodFrom k n (length fs) rs) → AllValid fs → AllValid (extend fs rs)
-  unfolding goodFrom extend
-  extend-valid [] fs t vs = vs
-  extend-valid (r ∷ rs) fs t vs =
-      let w = and-both (good k n (length fs) r) (goodFrom k n (suc (length fs)) rs) t in
-      let f : Formula k = formulaOf r fs in
-      extend-valid rs (fs ++ (f ∷ [])) (rw (snoc-length fs f) (w .1))
-      (getD-snoc (λ j x. Valid n x) (root 0) fs f vs (of-good fs vs (r .op) (r .first) (r .second) (w .0)))
-
 pub extend-length : {k : ℕ} (rs : List Record) (fs : List (Formula k)) → length (extend fs rs) ≡ length fs + length rs
 unfolding extend
 extend-length [] fs = omega arith
@@ -84,56 +45,6 @@ extend-keeps [] fs j h = refl
 extend-keeps (r ∷ rs) fs j h =
     let e = snoc-length fs (formulaOf r fs) in
     extend-keeps rs (fs ++ (formulaOf r fs ∷ [])) j (omega arith) ∙ List·getD-append fs (formulaOf r fs ∷ []) (root 0) j h
-
-pub record-valid : (k n : ℕ) (rs : List Record) → T (goodFrom k n 0 rs) → (i : ℕ) → i < length rs → Valid {k = k} n (formulaAt rs i)
-unfolding formulaAt
-record-valid k n rs g i h = extend-valid k n rs [] g (λ j l. absurd (not-suc-le-zero l)) i (let e = extend-length {k = k} rs [] in omega arith)
-
-module _ (k n : ℕ) where
-  -- a good record's formula reads only the earlier ones
-  module _ (fs gs : List (Formula k)) (same : (j : ℕ) → j < length fs → getD fs j (root 0) ≡ getD gs j (root 0)) where
-    of-same : (op a b : ℕ) → T (good k n (length fs) (record { op = op; first = a; second = b }))
-        → formulaOf (record { op = op; first = a; second = b }) fs ≡ formulaOf (record { op = op; first = a; second = b }) gs
-    unfolding good formulaOf
-    of-same zero a b t = refl
-    of-same (suc zero) a b t = refl
-    of-same (suc (suc zero)) a b t = refl
-    of-same (suc (suc (suc zero))) a b t = refl
-    of-same (suc (suc (suc (suc zero)))) a b t = refl
-    of-same (suc (suc (suc (suc (suc zero))))) a b t = ap negation (same a (ltb→lt a (length fs) ((and-both (ltb a (length fs)) (eqb b 0) t) .0)))
-    of-same (suc (suc (suc (suc (suc (suc zero)))))) a b t = let w = and-both (ltb a (length fs)) (ltb b (length fs)) t in ap₂ disjunction (same a (ltb→lt a (length fs) (w .0))) (same b (ltb→lt b (length fs) (w .1)))
-    of-same (suc (suc (suc (suc (suc (suc (suc zero))))))) a b t = let w = and-both (ltb a (length fs)) (ltb b (length fs)) t in ap₂ conjunction (same a (ltb→lt a (length fs) (w .0))) (same b (ltb→lt b (length fs) (w .1)))
-    of-same (suc (suc (suc (suc (suc (suc (suc (suc zero)))))))) a b t = ap (exists a) (same b (ltb→lt b (length fs) ((and-both (ltb a n) (ltb b (length fs)) t) .1)))
-    of-same (suc (suc (suc (suc (suc (suc (suc (suc (suc zero))))))))) a b t = refl
-    of-same (suc (suc (suc (suc (suc (suc (suc (suc (suc (suc op)))))))))) a b t = absurd t
-
-  extend-at : (rs : List Record) (fs : List (Formula k)) → T (goodFrom k n (length fs) rs) → (j : ℕ) → j < length rs
-      → getD (extend fs rs) (length fs + j) (root 0) ≡ formulaOf (getD rs j noRecord) (extend fs rs)
-  unfolding extend goodFrom
-  extend-at [] fs t j h = absurd (not-suc-le-zero h)
-  extend-at (r ∷ rs) fs t zero h =
-      let w = and-both (good k n (length fs) r) (goodFrom k n (suc (length fs)) rs) t in
-      let f : Formula k = formulaOf r fs in
-      let l = snoc-length fs f in
-      ap (λ (j : ℕ). getD (extend (fs ++ (f ∷ [])) rs) j (root 0)) (omega arith)
-      ∙ extend-keeps rs (fs ++ (f ∷ [])) (length fs) (omega arith) ∙ getD-append-seam fs f [] (root 0)
-      ∙ of-same fs (extend (fs ++ (f ∷ [])) rs)
-      (λ j q. sym (extend-keeps rs (fs ++ (f ∷ [])) j (omega arith) ∙ List·getD-append fs (f ∷ []) (root 0) j q)) (r .op) (r .first) (r .second) (w .0)
-  extend-at (r ∷ rs) fs t (suc j) h =
-      let w = and-both (good k n (length fs) r) (goodFrom k n (suc (length fs)) rs) t in
-      let f : Formula k = formulaOf r fs in
-      let l = snoc-length fs f in
-      ap (λ (i : ℕ). getD (extend (fs ++ (f ∷ [])) rs) i (root 0)) (omega arith) ∙ extend-at rs (fs ++ (f ∷ [])) (rw l (w .1)) j (omega arith)
-
-  -- record i of an accepted rule holds as its op says, of the records that it names
-  pub record-formula : (rs : List Record) → T (goodFrom k n 0 rs) → (i : ℕ) → i < length rs → formulaAt {k = k} rs i ≡ formulaOf (getD rs i noRecord) (extend [] rs)
-  unfolding formulaAt
-  record-formula rs g i h = ap (λ (j : ℕ). getD (extend [] rs) j (root 0)) (omega arith) ∙ extend-at rs [] g i h
-
--- THE THEOREM, for every record of an accepted rule
-pub record-right : {k : ℕ} (n : ℕ) (rs : List Record) → T (goodFrom k n 0 rs) → (i : ℕ) → i < length rs → Right {k = k} n (formulaAt rs i) (table n (formulaAt rs i))
-unfolding formulaAt
-record-right {k} n rs g i h = table-right n (formulaAt rs i) (record-valid k n rs g i h)
 
 module _ (k n c : ℕ) where
   pub tablesOf : List (Formula k) → List (Table k)
@@ -217,3 +128,92 @@ module _ (k n c : ℕ) where
   pub built-says : (rs : List Record) → Says (extend [] rs) (buildAll n c rs [])
   unfolding tablesOf
   built-says rs = build-says rs [] (λ i h. absurd (not-suc-le-zero h))
+
+module _ (k n : ℕ) where
+  abbrev AllValid : List (Formula k) → Type 0
+  AllValid fs = (j : ℕ) → j < length fs → Valid n (getD fs j (root 0))
+
+  successor-valid : (i x y : ℕ) → T (ltb i k && (ltb x n && ltb y n)) → Valid n (successorAt {k = k} i x y)
+  unfolding successorAt Valid
+  successor-valid i x y t =
+      let w = and-both (ltb i k) (ltb x n && ltb y n) t in
+      let u = and-both (ltb x n) (ltb y n) (w .1) in
+      elim (decLt i k) as (λ d. Valid {k = k} n (elim d as (λ _. Formula k) [ yes h ↦ successor (record { number = i; below = h }) x y | no h ↦ root 0 ]))
+      [ yes h ↦ (ltb→lt x n (u .0), ltb→lt y n (u .1)) | no h ↦ absurd (h (ltb→lt i k (w .0))) ]
+
+  module _ (fs : List (Formula k)) (valid : AllValid fs) where
+    at-valid : (a : ℕ) → T (ltb a (length fs)) → Valid n (getD fs a (root 0))
+    at-valid a t = valid a (ltb→lt a (length fs) t)
+
+    of-good : (op a b : ℕ) → T (good k n (length fs) (record { op = op; first = a; second = b })) → Valid n (formulaOf (record { op = op; first = a; second = b }) fs)
+    unfolding good formulaOf Valid
+    of-good zero a b t = let w = and-both (ltb a n) (ltb b n) t in (ltb→lt a n (w .0), ltb→lt b n (w .1))
+    of-good (suc zero) a b t = ltb→lt a n ((and-both (ltb a n) (eqb b 0) t) .0)
+    of-good (suc (suc zero)) a b t = successor-valid 0 a b t
+    of-good (suc (suc (suc zero))) a b t = successor-valid 1 a b t
+    of-good (suc (suc (suc (suc zero)))) a b t = ltb→lt a n ((and-both (ltb a n) (eqb b 0) t) .0)
+    of-good (suc (suc (suc (suc (suc zero))))) a b t = at-valid a ((and-both (ltb a (length fs)) (eqb b 0) t) .0)
+    of-good (suc (suc (suc (suc (suc (suc zero)))))) a b t = let w = and-both (ltb a (length fs)) (ltb b (length fs)) t in (at-valid a (w .0), at-valid b (w .1))
+    of-good (suc (suc (suc (suc (suc (suc (suc zero))))))) a b t = let w = and-both (ltb a (length fs)) (ltb b (length fs)) t in (at-valid a (w .0), at-valid b (w .1))
+    of-good (suc (suc (suc (suc (suc (suc (suc (suc zero)))))))) a b t = let w = and-both (ltb a n) (ltb b (length fs)) t in (ltb→lt a n (w .0), at-valid b (w .1))
+    of-good (suc (suc (suc (suc (suc (suc (suc (suc (suc zero))))))))) a b t = successor-valid 2 a b t
+    of-good (suc (suc (suc (suc (suc (suc (suc (suc (suc (suc op)))))))))) a b t = absurd t
+
+  extend-valid : (rs : List Record) (fs : List (Formula k)) → T (goodFrom k n (length fs) rs) → AllValid fs → AllValid (extend fs rs)
+  unfolding goodFrom extend
+  extend-valid [] fs t vs = vs
+  extend-valid (r ∷ rs) fs t vs =
+      let w = and-both (good k n (length fs) r) (goodFrom k n (suc (length fs)) rs) t in
+      let f : Formula k = formulaOf r fs in
+      extend-valid rs (fs ++ (f ∷ [])) (rw (snoc-length fs f) (w .1))
+      (getD-snoc (λ j x. Valid n x) (root 0) fs f vs (of-good fs vs (r .op) (r .first) (r .second) (w .0)))
+
+pub record-valid : (k n : ℕ) (rs : List Record) → T (goodFrom k n 0 rs) → (i : ℕ) → i < length rs → Valid {k = k} n (formulaAt rs i)
+unfolding formulaAt
+record-valid k n rs g i h = extend-valid k n rs [] g (λ j l. absurd (not-suc-le-zero l)) i (let e = extend-length {k = k} rs [] in omega arith)
+
+module _ (k n : ℕ) where
+  -- a good record's formula reads only the earlier ones
+  module _ (fs gs : List (Formula k)) (same : (j : ℕ) → j < length fs → getD fs j (root 0) ≡ getD gs j (root 0)) where
+    of-same : (op a b : ℕ) → T (good k n (length fs) (record { op = op; first = a; second = b }))
+        → formulaOf (record { op = op; first = a; second = b }) fs ≡ formulaOf (record { op = op; first = a; second = b }) gs
+    unfolding good formulaOf
+    of-same zero a b t = refl
+    of-same (suc zero) a b t = refl
+    of-same (suc (suc zero)) a b t = refl
+    of-same (suc (suc (suc zero))) a b t = refl
+    of-same (suc (suc (suc (suc zero)))) a b t = refl
+    of-same (suc (suc (suc (suc (suc zero))))) a b t = ap negation (same a (ltb→lt a (length fs) ((and-both (ltb a (length fs)) (eqb b 0) t) .0)))
+    of-same (suc (suc (suc (suc (suc (suc zero)))))) a b t = let w = and-both (ltb a (length fs)) (ltb b (length fs)) t in ap₂ disjunction (same a (ltb→lt a (length fs) (w .0))) (same b (ltb→lt b (length fs) (w .1)))
+    of-same (suc (suc (suc (suc (suc (suc (suc zero))))))) a b t = let w = and-both (ltb a (length fs)) (ltb b (length fs)) t in ap₂ conjunction (same a (ltb→lt a (length fs) (w .0))) (same b (ltb→lt b (length fs) (w .1)))
+    of-same (suc (suc (suc (suc (suc (suc (suc (suc zero)))))))) a b t = ap (exists a) (same b (ltb→lt b (length fs) ((and-both (ltb a n) (ltb b (length fs)) t) .1)))
+    of-same (suc (suc (suc (suc (suc (suc (suc (suc (suc zero))))))))) a b t = refl
+    of-same (suc (suc (suc (suc (suc (suc (suc (suc (suc (suc op)))))))))) a b t = absurd t
+
+  extend-at : (rs : List Record) (fs : List (Formula k)) → T (goodFrom k n (length fs) rs) → (j : ℕ) → j < length rs
+      → getD (extend fs rs) (length fs + j) (root 0) ≡ formulaOf (getD rs j noRecord) (extend fs rs)
+  unfolding extend goodFrom
+  extend-at [] fs t j h = absurd (not-suc-le-zero h)
+  extend-at (r ∷ rs) fs t zero h =
+      let w = and-both (good k n (length fs) r) (goodFrom k n (suc (length fs)) rs) t in
+      let f : Formula k = formulaOf r fs in
+      let l = snoc-length fs f in
+      ap (λ (j : ℕ). getD (extend (fs ++ (f ∷ [])) rs) j (root 0)) (omega arith)
+      ∙ extend-keeps rs (fs ++ (f ∷ [])) (length fs) (omega arith) ∙ getD-append-seam fs f [] (root 0)
+      ∙ of-same fs (extend (fs ++ (f ∷ [])) rs)
+      (λ j q. sym (extend-keeps rs (fs ++ (f ∷ [])) j (omega arith) ∙ List·getD-append fs (f ∷ []) (root 0) j q)) (r .op) (r .first) (r .second) (w .0)
+  extend-at (r ∷ rs) fs t (suc j) h =
+      let w = and-both (good k n (length fs) r) (goodFrom k n (suc (length fs)) rs) t in
+      let f : Formula k = formulaOf r fs in
+      let l = snoc-length fs f in
+      ap (λ (i : ℕ). getD (extend (fs ++ (f ∷ [])) rs) i (root 0)) (omega arith) ∙ extend-at rs (fs ++ (f ∷ [])) (rw l (w .1)) j (omega arith)
+
+  -- record i of an accepted rule holds as its op says, of the records that it names
+  pub record-formula : (rs : List Record) → T (goodFrom k n 0 rs) → (i : ℕ) → i < length rs → formulaAt {k = k} rs i ≡ formulaOf (getD rs i noRecord) (extend [] rs)
+  unfolding formulaAt
+  record-formula rs g i h = ap (λ (j : ℕ). getD (extend [] rs) j (root 0)) (omega arith) ∙ extend-at rs [] g i h
+
+-- THE THEOREM, for every record of an accepted rule
+pub record-right : {k : ℕ} (n : ℕ) (rs : List Record) → T (goodFrom k n 0 rs) → (i : ℕ) → i < length rs → Right {k = k} n (formulaAt rs i) (table n (formulaAt rs i))
+unfolding formulaAt
+record-right {k} n rs g i h = table-right n (formulaAt rs i) (record-valid k n rs g i h)
