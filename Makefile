@@ -76,6 +76,7 @@ $(HOST)/example: examples/host.c include/ws2s.h $(LIB)
 
 host-test: $(HOST)/vectors $(HOST)/attack $(HOST)/stack $(HOST)/verdict target/bin/verdict
 	CC='$(CC)' tests/host/exports.sh crates/ws2s/src/exports.rt include/ws2s.h $(LIB)
+	tests/host/lines.sh
 	$(HOST)/vectors $(VECTORS) tests/vectors/heavy.txt
 	$(HOST)/attack 1 200000
 	$(HOST)/stack $(VECTORS) tests/vectors/heavy.txt

@@ -4,8 +4,9 @@
  *
  * Every lent buffer stands between guard bytes, in places where a step outside
  * it ends the program, and holds nonzero bytes before the call. Besides the
- * answer this checks what each call leaves in the buffers. It prints the lines
- * that fail and a count, and ends with status 1 if any did. */
+ * answer this checks what each call leaves in the buffers. A file without lines
+ * fails too. It prints what fails and a count, and ends with status 1 if anything
+ * did. */
 #define _DEFAULT_SOURCE
 #include "lent.h"
 #include "request.h"
@@ -148,6 +149,10 @@ int main(int argc, char **argv)
             printf("%s:%lu: %s\n  line   %s\n  answer %s\n", argv[i], number, fault, copy, answer);
         }
         fclose(file);
+        if (number == 0) {
+            failed++;
+            printf("%s: no lines\n", argv[i]);
+        }
     }
     printf("%lu passed, %lu failed\n", passed, failed);
     return failed || !passed;
