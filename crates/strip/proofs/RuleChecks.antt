@@ -3,7 +3,7 @@
 use mathlib.Core.Path.{_≡_, refl, sym, ap, _∙_}
 use mathlib.Core.Logic.{_⊎_, inl, inr, ⊎-elim}
 use mathlib.Core.Bool.{Bool, true, false, not, _&&_, _||_, true≢false}
-use mathlib.Core.List.{List, [], _∷_, map}
+use mathlib.Core.List.{List, [], _∷_}
 use Prim.Native.Nat.{ℕ, zero, suc, _+_, _-_, _*_, _≤_, _<_}
 use native.Mathlib.Nat.{not-suc-le-zero, le-of-suc-le-suc}
 use native.Mathlib.Numerals.{add-one}
@@ -14,28 +14,26 @@ use lib.Seq.{drop-cons}
 use borrow.Author.Tests.{lt-leb, leb-true, eqb-true, ne-eqb, not-false}
 use Rattle.logic.specs.Rule.{Record as RuleRecord}
 use Rattle.strip.specs.Bits.{bits, anySet}
-use Rattle.strip.specs.RuleStrip.{orElse, between, versionOf, variablesOf, countOf, recordAt, recordsFrom, recordsOf, ruleBytes, Use, variable, earlier, unused, firstUse, secondUse, badVariable, badEarlier, badUnused, recordRefusal, recordsRefusal, ruleRefusal}
-use Rattle.strip.specs.RuleAnswers.{useNumber, fieldRefusal, fieldsOf, recordOr, readRecord, readRecords, headRefusal, checkedRule}
+use Rattle.strip.specs.RuleStrip.{orElse, between, versionOf, variablesOf, countOf, recordAt, recordsFrom, recordsOf, ruleBytes, firstUse, secondUse, badVariable, badEarlier, badUnused, recordRefusal, recordsRefusal, ruleRefusal}
+use Rattle.strip.specs.RuleAnswers.{useRefusal, fieldRefusal, fieldsOf, recordOr, readRecord, readRecords, headRefusal, checkedRule}
 use Rattle.strip.specs.declared.rule.Fields.{Fields}
 use Rattle.strip.specs.declared.rule.Read.{Read}
 use Rattle.strip.specs.declared.rule.Read.the-variants.{Record, Refused}
+use Rattle.strip.specs.declared.rule.Use.{Use}
+use Rattle.strip.specs.declared.rule.Use.the-variants.{Variable, Earlier, Unused}
 use Rattle.strip.specs.declared.rule.RuleCheck.the-variants.{Accepted as accepted, Refused as turnedDown}
 
 -- ---- one record
 
--- a table of uses, as their numbers
-pub numbers : (us : List Use) (op : ℕ) → op < length us → getD (map useNumber us) op 0 ≡ useNumber (getD us op unused)
-numbers [] op h = absurd (not-suc-le-zero h)
-numbers (u ∷ us) zero h = refl
-numbers (u ∷ us) (suc op) h = numbers us op (le-of-suc-le-suc h)
+-- an entry that there is does not depend on the default
+pub entry-there : (us : List Use) (op : ℕ) (d e : Use) → op < length us → getD us op d ≡ getD us op e
+entry-there [] op d e h = absurd (not-suc-le-zero h)
+entry-there (u ∷ us) zero d e h = refl
+entry-there (u ∷ us) (suc op) d e h = entry-there us op d e (le-of-suc-le-suc h)
 
 -- the first number, where it is not 0, else the second
 abbrev pub firstOf : ℕ → ℕ → ℕ
 firstOf k l = orElse (eqb k 0) l k
-
--- the refusal of a field of a use, or 0
-abbrev pub fault : ℕ → ℕ → Use → ℕ → ℕ
-fault n i u v = fieldRefusal n i (useNumber u) v
 
 -- the refusals of two fields, in order: the three tests of `recordRefusal`
 abbrev ladder : Bool → Bool → Bool → ℕ
@@ -56,22 +54,22 @@ module _ (n i a b : ℕ) where
       ladder (badVariable n u a || badVariable n w b) (badEarlier i u a || badEarlier i w b) (badUnused u a || badUnused w b)
 
   -- where the first field's use has no later number, its refusal comes first
-  two-fields : (u w : Use) → useNumber u ≤ useNumber w → both u w ≡ firstOf (fault n i u a) (fault n i w b)
-  two-fields variable variable h = test-first 7 (leb n a) (λ p. ladder (p || leb n b) false false) _ refl refl
-  two-fields variable earlier h = test-first 7 (leb n a) (λ p. ladder (p || false) (leb i b) false) _ refl refl
-  two-fields variable unused h =
+  two-fields : (u w : Use) → useRefusal u ≤ useRefusal w → both u w ≡ firstOf (fieldRefusal n i u a) (fieldRefusal n i w b)
+  two-fields Variable Variable h = test-first 7 (leb n a) (λ p. ladder (p || leb n b) false false) _ refl refl
+  two-fields Variable Earlier h = test-first 7 (leb n a) (λ p. ladder (p || false) (leb i b) false) _ refl refl
+  two-fields Variable Unused h =
       rw (above-zero b) (test-first 7 (leb n a) (λ p. ladder (p || false) false (leb 1 b)) _ refl refl)
-  two-fields earlier variable h = absurd (omega arith)
-  two-fields earlier earlier h = test-first 8 (leb i a) (λ p. ladder false (p || leb i b) false) _ refl refl
-  two-fields earlier unused h =
+  two-fields Earlier Variable h = absurd (omega arith)
+  two-fields Earlier Earlier h = test-first 8 (leb i a) (λ p. ladder false (p || leb i b) false) _ refl refl
+  two-fields Earlier Unused h =
       rw (above-zero b) (test-first 8 (leb i a) (λ p. ladder false (p || false) (leb 1 b)) _ refl refl)
-  two-fields unused variable h = absurd (omega arith)
-  two-fields unused earlier h = absurd (omega arith)
-  two-fields unused unused h =
+  two-fields Unused Variable h = absurd (omega arith)
+  two-fields Unused Earlier h = absurd (omega arith)
+  two-fields Unused Unused h =
       rw (above-zero a, above-zero b) (test-first 9 (leb 1 a) (λ p. ladder false false (p || leb 1 b)) _ refl refl)
 
 -- so it is of each op
-ordered : (op : ℕ) → useNumber (firstUse op) ≤ useNumber (secondUse op)
+ordered : (op : ℕ) → useRefusal (firstUse op) ≤ useRefusal (secondUse op)
 unfolding firstUse secondUse
 ordered zero = lit≤ tt
 ordered (suc zero) = lit≤ tt
@@ -86,15 +84,15 @@ ordered (suc (suc (suc (suc (suc (suc (suc (suc (suc op))))))))) = lit≤ tt
 
 -- a record's refusal is that of its first field, else that of its second
 pub record-split : (n i op a b : ℕ)
-    → recordRefusal n i (record { op = op; first = a; second = b }) ≡ orElse (leb 9 op) 7 (firstOf (fault n i (firstUse op) a) (fault n i (secondUse op) b))
+    → recordRefusal n i (record { op = op; first = a; second = b }) ≡ orElse (leb 9 op) 7 (firstOf (fieldRefusal n i (firstUse op) a) (fieldRefusal n i (secondUse op) b))
 unfolding recordRefusal
 record-split n i op a b = ap (orElse (leb 9 op) 7) (two-fields n i a b (firstUse op) (secondUse op) (ordered op))
 
-module _ (n i op a b use₁ k : ℕ) (h : op < 9) (u : use₁ ≡ useNumber (firstUse op)) (q : k ≡ fieldRefusal n i use₁ a) where
+module _ (n i op a b : ℕ) (h : op < 9) (use₁ : Use) (u : use₁ ≡ firstUse op) (k : ℕ) (q : k ≡ fieldRefusal n i use₁ a) where
   pub record-first : (k ≡ 0 → ⊥) → k ≡ recordRefusal n i (record { op = op; first = a; second = b })
   record-first z = sym (record-split n i op a b ∙ rw (lt-leb 9 op h, ← u, ← q, ne-eqb k 0 z) refl)
 
-  pub record-second : k ≡ 0 → (use₂ l : ℕ) → use₂ ≡ useNumber (secondUse op) → l ≡ fieldRefusal n i use₂ b
+  pub record-second : k ≡ 0 → (use₂ : Use) (l : ℕ) → use₂ ≡ secondUse op → l ≡ fieldRefusal n i use₂ b
       → l ≡ recordRefusal n i (record { op = op; first = a; second = b })
   record-second z use₂ l w r = sym (record-split n i op a b ∙ rw (lt-leb 9 op h, ← u, ← q, ← w, ← r, z) refl)
 

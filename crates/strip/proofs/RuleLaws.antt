@@ -14,20 +14,22 @@ use lib.Seq.{getD-drop}
 use borrow.Author.Tests.{lt-leb, leb-false, le-ltb}
 use Rattle.logic.specs.Rule.{Record, noRecord, good, goodFrom, Accepted}
 use Rattle.strip.specs.Bits.{bits, number, field, anySet}
-use Rattle.strip.specs.RuleStrip.{orElse, variablesOf, countOf, recordAt, recordsFrom, recordsOf, ruleBytes, Use, variable, earlier, unused, firstUse, secondUse, recordRefusal, recordsRefusal, ruleRefusal}
-use Rattle.strip.specs.RuleAnswers.{useNumber, limitOf, headRefusal, checkedRule}
+use Rattle.strip.specs.RuleStrip.{orElse, variablesOf, countOf, recordAt, recordsFrom, recordsOf, ruleBytes, firstUse, secondUse, recordRefusal, recordsRefusal, ruleRefusal}
+use Rattle.strip.specs.RuleAnswers.{limitOf, fieldRefusal, headRefusal, checkedRule}
+use Rattle.strip.specs.declared.rule.Use.{Use}
+use Rattle.strip.specs.declared.rule.Use.the-variants.{Variable, Earlier, Unused}
 use Rattle.strip.specs.declared.rule.RuleCheck.the-variants.{Accepted as accepted, Refused as turnedDown}
 use Rattle.strip.proofs.Digits.{bit-lt}
 use Rattle.strip.proofs.Fields.{length-bits, bits-at}
-use Rattle.strip.proofs.RuleChecks.{firstOf, fault, record-split, zero-or, head-facts, bodyRefusal, rule-split}
+use Rattle.strip.proofs.RuleChecks.{firstOf, record-split, zero-or, head-facts, bodyRefusal, rule-split}
 
 -- ---- one record
 
 -- what the refusals 7 to 10 leave: a known op, and each field below its limit (n for a variable, i for an earlier record, 1 if unused)
 pub record RecordFacts (n i : ℕ) (r : Record) : Type 0 where
   pub known : r .op < 9
-  pub first-below : r .first < limitOf n i (useNumber (firstUse (r .op)))
-  pub second-below : r .second < limitOf n i (useNumber (secondUse (r .op)))
+  pub first-below : r .first < limitOf n i (firstUse (r .op))
+  pub second-below : r .second < limitOf n i (secondUse (r .op))
 
 -- a test that gives no refusal was not met
 passed : (t : Bool) (k x : ℕ) → orElse t (suc k) x ≡ 0 → (t ≡ false) × (x ≡ 0)
@@ -38,18 +40,18 @@ first-passed : (k l : ℕ) → firstOf k l ≡ 0 → (k ≡ 0) × (l ≡ 0)
 first-passed zero l e = (refl, e)
 first-passed (suc k) l e = absurd (let f = rw eqb·suc-zero at e in omega arith)
 
-field-passed : (n i : ℕ) (u : Use) (v : ℕ) → fault n i u v ≡ 0 → v < limitOf n i (useNumber u)
-field-passed n i variable v e = leb-false n v (passed (leb n v) 7 0 e .0)
-field-passed n i earlier v e = leb-false i v (passed (leb i v) 8 0 e .0)
-field-passed n i unused v e = leb-false 1 v (passed (leb 1 v) 9 0 e .0)
+field-passed : (n i : ℕ) (u : Use) (v : ℕ) → fieldRefusal n i u v ≡ 0 → v < limitOf n i u
+field-passed n i Variable v e = leb-false n v (passed (leb n v) 7 0 e .0)
+field-passed n i Earlier v e = leb-false i v (passed (leb i v) 8 0 e .0)
+field-passed n i Unused v e = leb-false 1 v (passed (leb 1 v) 9 0 e .0)
 
-field-good : (n i : ℕ) (u : Use) (v : ℕ) → v < limitOf n i (useNumber u) → fault n i u v ≡ 0
+field-good : (n i : ℕ) (u : Use) (v : ℕ) → v < limitOf n i u → fieldRefusal n i u v ≡ 0
 field-good n i u v h = rw (lt-leb _ v h) refl
 
 pub record-facts : (n i : ℕ) (r : Record) → recordRefusal n i r ≡ 0 → RecordFacts n i r
 record-facts n i r e =
     let w = passed (leb 9 (r .op)) 6 _ (sym (record-split n i (r .op) (r .first) (r .second)) ∙ e) in
-    let f = first-passed (fault n i (firstUse (r .op)) (r .first)) (fault n i (secondUse (r .op)) (r .second)) (w .1) in
+    let f = first-passed (fieldRefusal n i (firstUse (r .op)) (r .first)) (fieldRefusal n i (secondUse (r .op)) (r .second)) (w .1) in
     record {
       known = leb-false 9 (r .op) (w .0);
       first-below = field-passed n i (firstUse (r .op)) (r .first) (f .0);
@@ -64,19 +66,19 @@ record-unrefused n i r w =
 
 -- logic's test of a field
 abbrev fits : ℕ → ℕ → Use → ℕ → Bool
-fits n i variable v = ltb v n
-fits n i earlier v = ltb v i
-fits n i unused v = eqb v 0
+fits n i Variable v = ltb v n
+fits n i Earlier v = ltb v i
+fits n i Unused v = eqb v 0
 
-fits-below : (n i : ℕ) (u : Use) (v : ℕ) → T (fits n i u v) → v < limitOf n i (useNumber u)
-fits-below n i variable v t = ltb→lt v n t
-fits-below n i earlier v t = ltb→lt v i t
-fits-below n i unused v t = let e = eqb→eq v 0 t in omega arith
+fits-below : (n i : ℕ) (u : Use) (v : ℕ) → T (fits n i u v) → v < limitOf n i u
+fits-below n i Variable v t = ltb→lt v n t
+fits-below n i Earlier v t = ltb→lt v i t
+fits-below n i Unused v t = let e = eqb→eq v 0 t in omega arith
 
-below-fits : (n i : ℕ) (u : Use) (v : ℕ) → v < limitOf n i (useNumber u) → T (fits n i u v)
-below-fits n i variable v h = lt→ltb v n h
-below-fits n i earlier v h = lt→ltb v i h
-below-fits n i unused v h = let e : v ≡ 0 = omega arith in rw e tt
+below-fits : (n i : ℕ) (u : Use) (v : ℕ) → v < limitOf n i u → T (fits n i u v)
+below-fits n i Variable v h = lt→ltb v n h
+below-fits n i Earlier v h = lt→ltb v i h
+below-fits n i Unused v h = let e : v ≡ 0 = omega arith in rw e tt
 
 both-of : (a b : Bool) → T (a && b) → T a × T b
 both-of true b t = (tt, t)

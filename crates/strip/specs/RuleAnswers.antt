@@ -5,27 +5,31 @@ use mathlib.Core.List.{List}
 use lib.Dec.{ltb, leb, eqb}
 use lib.ListN.{length}
 use Rattle.logic.specs.Rule.{Record as RuleRecord}
-use Rattle.strip.specs.RuleStrip.{orElse, between, versionOf, variablesOf, countOf, ruleBytes, recordAt, recordsFrom, Use, variable, earlier, unused, recordRefusal, recordsRefusal, ruleRefusal}
+use Rattle.strip.specs.RuleStrip.{orElse, between, versionOf, variablesOf, countOf, ruleBytes, recordAt, recordsFrom, recordRefusal, recordsRefusal, ruleRefusal}
 use Rattle.strip.specs.declared.rule.Fields.{Fields}
+use Rattle.strip.specs.declared.rule.Use.{Use}
+use Rattle.strip.specs.declared.rule.Use.the-variants.{Variable, Earlier, Unused}
 use Rattle.strip.specs.declared.rule.Read.{Read}
 use Rattle.strip.specs.declared.rule.Read.the-variants.{Record, Refused}
 use Rattle.strip.specs.declared.rule.RuleCheck.{RuleCheck}
 use Rattle.strip.specs.declared.rule.RuleCheck.the-variants.{Accepted as accepted, Refused as turnedDown}
 
--- a use of a field stands in the code as the number of its refusal: "8 a variable not below n; 9 a record number not below its own;
--- 10 an unused field not 0"
-abbrev pub useNumber : Use → ℕ
-useNumber variable = 8
-useNumber earlier = 9
-useNumber unused = 10
+-- the refusal of a field that does not fit its use: "8 a variable not below n; 9 a record number not below its own; 10 an unused field
+-- not 0"
+abbrev pub useRefusal : Use → ℕ
+useRefusal Variable = 8
+useRefusal Earlier = 9
+useRefusal Unused = 10
 
 -- what a field of that use must be below, in record number i
-abbrev pub limitOf : ℕ → ℕ → ℕ → ℕ
-limitOf n i kind = orElse (eqb kind 8) n (orElse (eqb kind 9) i 1)
+abbrev pub limitOf : ℕ → ℕ → Use → ℕ
+limitOf n i Variable = n
+limitOf n i Earlier = i
+limitOf n i Unused = 1
 
 -- the refusal of a field v of that use, or 0
-abbrev pub fieldRefusal : ℕ → ℕ → ℕ → ℕ → ℕ
-fieldRefusal n i kind v = orElse (leb (limitOf n i kind) v) kind 0
+abbrev pub fieldRefusal : ℕ → ℕ → Use → ℕ → ℕ
+fieldRefusal n i u v = orElse (leb (limitOf n i u) v) (useRefusal u) 0
 
 -- a record, as the code holds it
 abbrev pub fieldsOf : RuleRecord → Fields

@@ -6,6 +6,8 @@ use lib.Dec.{ltb, leb, eqb}
 use lib.ListN.{length, getD, drop}
 use Rattle.logic.specs.Rule.{Record}
 use Rattle.strip.specs.Bits.{bits, field, anySet}
+use Rattle.strip.specs.declared.rule.Use.{Use}
+use Rattle.strip.specs.declared.rule.Use.the-variants.{Variable, Earlier, Unused}
 
 -- the first of two results, where its test holds
 abbrev pub orElse : {A : Type 0} → Bool → A → A → A
@@ -41,31 +43,39 @@ recordsOf s = recordsFrom s 16 (countOf s)
 abbrev pub ruleBytes : ℕ → ℕ
 ruleBytes m = (16 + 18 * m + 7) / 8
 
--- what a field is: a variable, an earlier record's number, or unused
-pub data Use : Type 0 where
-  variable earlier unused : Use
+-- the use of each op's first field, in the order of document 01's table
+abbrev pub firstUses : List Use
+firstUses = Variable ∷ Variable ∷ Variable ∷ Variable ∷ Variable ∷ Earlier ∷ Earlier ∷ Earlier ∷ Variable ∷ []
 
--- the fields of each op, in the order of document 01's table
+-- the use of an op's first field
 unfoldable pub firstUse : ℕ → Use
-firstUse op = getD (variable ∷ variable ∷ variable ∷ variable ∷ variable ∷ earlier ∷ earlier ∷ earlier ∷ variable ∷ []) op unused
+firstUse op = getD firstUses op Unused
 
+-- the use of each op's second field
+abbrev pub secondUses : List Use
+secondUses = Variable ∷ Unused ∷ Variable ∷ Variable ∷ Unused ∷ Unused ∷ Earlier ∷ Earlier ∷ Earlier ∷ []
+
+-- the use of an op's second field
 unfoldable pub secondUse : ℕ → Use
-secondUse op = getD (variable ∷ unused ∷ variable ∷ variable ∷ unused ∷ unused ∷ earlier ∷ earlier ∷ earlier ∷ []) op unused
+secondUse op = getD secondUses op Unused
 
+-- "a variable not below n"
 abbrev pub badVariable : ℕ → Use → ℕ → Bool
-badVariable n variable v = leb n v
-badVariable n earlier v = false
-badVariable n unused v = false
+badVariable n Variable v = leb n v
+badVariable n Earlier v = false
+badVariable n Unused v = false
 
+-- "a record number not below its own"
 abbrev pub badEarlier : ℕ → Use → ℕ → Bool
-badEarlier i variable v = false
-badEarlier i earlier v = leb i v
-badEarlier i unused v = false
+badEarlier i Variable v = false
+badEarlier i Earlier v = leb i v
+badEarlier i Unused v = false
 
+-- "an unused field not 0"
 abbrev pub badUnused : Use → ℕ → Bool
-badUnused variable v = false
-badUnused earlier v = false
-badUnused unused v = not (eqb v 0)
+badUnused Variable v = false
+badUnused Earlier v = false
+badUnused Unused v = not (eqb v 0)
 
 -- of record number i: "7 op 9 to 15; 8 a variable not below n; 9 a record number not below its own; 10 an unused field not 0"; else 0
 unfoldable pub recordRefusal : ℕ → ℕ → Record → ℕ

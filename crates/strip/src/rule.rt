@@ -6,7 +6,7 @@ ghost use Prim.Native.Nat.{_+_, _*_, _<_, _≤_};
 ghost use lib.ListN.{length, drop};
 ghost use Rattle.strip.specs.Bits.{bits, anySet};
 ghost use Rattle.strip.specs.RuleStrip.{between, firstUse, secondUse, recordAt, recordRefusal};
-ghost use Rattle.strip.specs.RuleAnswers.{useNumber, limitOf, fieldRefusal, fieldsOf, readRecord, readRecords, headRefusal, checkedRule};
+ghost use Rattle.strip.specs.RuleAnswers.{useRefusal, limitOf, fieldRefusal, fieldsOf, readRecord, readRecords, headRefusal, checkedRule};
 
 // A record's three fields, as they stand in the strip.
 pub struct Fields {
@@ -32,43 +32,79 @@ pub enum RuleCheck {
     Refused(u64),
 }
 
-// The use of each op's two fields, by the number of its refusal: 8 a variable, 9 an earlier record, 10 unused.
-const FIRST_USE: [u64; 9] = [8, 8, 8, 8, 8, 9, 9, 9, 8];
+// What a field of a record holds: a variable, an earlier record's number, or nothing.
+pub enum Use {
+    Variable,
+    Earlier,
+    Unused,
+}
 
-const SECOND_USE: [u64; 9] = [8, 10, 8, 8, 10, 10, 9, 9, 9];
+// The uses of each op's two fields.
+const FIRST_USE: [Use; 9] = [
+    Use::Variable,
+    Use::Variable,
+    Use::Variable,
+    Use::Variable,
+    Use::Variable,
+    Use::Earlier,
+    Use::Earlier,
+    Use::Earlier,
+    Use::Variable,
+];
 
-fn first_use(op: usize) -> u64
+const SECOND_USE: [Use; 9] = [
+    Use::Variable,
+    Use::Unused,
+    Use::Variable,
+    Use::Variable,
+    Use::Unused,
+    Use::Unused,
+    Use::Earlier,
+    Use::Earlier,
+    Use::Earlier,
+];
+
+fn first_use(op: usize) -> Use
     requires { ⌜ op < 9 ⌝ }
-    ensures { λ r. ⌜ r ≡ useNumber (firstUse op) ⌝ }
+    ensures { λ r. ⌜ r ≡ firstUse op ⌝ }
 {
     FIRST_USE[op]
 }
 
-fn second_use(op: usize) -> u64
+fn second_use(op: usize) -> Use
     requires { ⌜ op < 9 ⌝ }
-    ensures { λ r. ⌜ r ≡ useNumber (secondUse op) ⌝ }
+    ensures { λ r. ⌜ r ≡ secondUse op ⌝ }
 {
     SECOND_USE[op]
 }
 
-// What a field must be below.
-fn limit(n: usize, i: usize, kind: u64) -> usize
-    ensures { λ r. ⌜ r ≡ limitOf n i kind ⌝ }
+// The refusal of a field that does not fit its use.
+fn use_refusal(held: Use) -> u64
+    ensures { λ r. ⌜ r ≡ useRefusal held ⌝ }
 {
-    if kind == 8 {
-        return n;
+    match held {
+        Use::Variable => 8,
+        Use::Earlier => 9,
+        Use::Unused => 10,
     }
-    if kind == 9 {
-        return i;
-    }
-    1
 }
 
-fn field_refusal(n: usize, i: usize, kind: u64, v: usize) -> u64
-    ensures { λ r. ⌜ r ≡ fieldRefusal n i kind v ⌝ }
+// What a field must be below.
+fn limit(n: usize, i: usize, held: Use) -> usize
+    ensures { λ r. ⌜ r ≡ limitOf n i held ⌝ }
 {
-    if limit(n, i, kind) <= v {
-        return kind;
+    match held {
+        Use::Variable => n,
+        Use::Earlier => i,
+        Use::Unused => 1,
+    }
+}
+
+fn field_refusal(n: usize, i: usize, held: Use, v: usize) -> u64
+    ensures { λ r. ⌜ r ≡ fieldRefusal n i held v ⌝ }
+{
+    if limit(n, i, held) <= v {
+        return use_refusal(held);
     }
     0
 }

@@ -1,4 +1,4 @@
--- `rule::field_refusal` meets its contract, from that of `limit`. Assumes nothing.
+-- `rule::field_refusal` meets its contract, from those of `limit` and `use_refusal`. Assumes nothing.
 use mathlib.Core.Path.{refl}
 use borrow.Author.Needs.{needs}
 use borrow.Author.Tests.{le-leb, lt-leb}
@@ -6,10 +6,10 @@ use Rattle.strip.proofs.rule.field_refusal.Statement.{statement}
 use Rattle.strip.proofs.rule.field_refusal.Tie as tie
 
 returns : tie.Need-returns
-returns c = rw (← c .before .limit .ensures, le-leb _ _ (c .if1 .taken)) refl
+returns c = rw (← c .before .before .limit .ensures, le-leb _ _ (c .before .if1 .taken)) (c .use-refusal .ensures)
 
 returns-2 : tie.Need-returns-2
 returns-2 c = rw (← c .before .limit .ensures, lt-leb _ _ (c .if1 .left)) refl
 
 pub field-refusal-spec : {M : Type 1} → statement M
-field-refusal-spec = tie.close (tie.spec (λ c κs. search needs) returns returns-2)
+field-refusal-spec = tie.close (tie.spec (λ c κs. search needs) (λ c κs. search needs) returns returns-2)

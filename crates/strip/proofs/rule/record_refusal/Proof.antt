@@ -11,13 +11,13 @@ returns c = sym (record-split _ _ _ _ _ ∙ rw (le-leb 9 _ (c .if1 .taken)) refl
 
 returns-2 : tie.Need-returns-2
 returns-2 c =
-    record-first _ _ _ _ _ _ _ (c .before .before .before .if1 .left)
-    (c .before .before .first-use .ensures) (c .before .field-refusal .ensures) (c .if2 .taken)
+    record-first _ _ _ _ _ (c .before .before .before .if1 .left) _ (c .before .before .first-use .ensures)
+    _ (c .before .field-refusal .ensures) (c .if2 .taken)
 
 returns-3 : tie.Need-returns-3
 returns-3 c =
     let b = c .before .before .before in
-    record-second _ _ _ _ _ _ _ (b .before .before .if1 .left) (b .before .first-use .ensures) (b .field-refusal .ensures)
+    record-second _ _ _ _ _ (b .before .before .if1 .left) _ (b .before .first-use .ensures) _ (b .field-refusal .ensures)
     (c .before .before .if2 .left) _ _ (c .before .second-use .ensures) (c .field-refusal2 .ensures)
 
 pub record-refusal-spec : {M : Type 1} → statement M

@@ -1,14 +1,14 @@
--- `rule::second_use` meets its contract: its table has the numbers of the uses. Assumes nothing.
+-- `rule::second_use` meets its contract: its table has the uses in order. Assumes nothing.
 use borrow.Author.Needs.{needs}
-use mathlib.Core.List.{[], _∷_}
-use Rattle.strip.specs.RuleStrip.{variable, earlier, unused, secondUse}
-use Rattle.strip.proofs.RuleChecks.{numbers}
+use Rattle.strip.specs.RuleStrip.{secondUses, secondUse}
+use Rattle.strip.specs.declared.rule.Use.the-variants.{Variable, Unused}
+use Rattle.strip.proofs.RuleChecks.{entry-there}
 use Rattle.strip.proofs.rule.second_use.Statement.{statement}
 use Rattle.strip.proofs.rule.second_use.Tie as tie
 
 returns : tie.Need-returns
 unfolding secondUse
-returns c = numbers (variable ∷ unused ∷ variable ∷ variable ∷ unused ∷ unused ∷ earlier ∷ earlier ∷ earlier ∷ []) (c .args .op) (c .pre)
+returns c = entry-there secondUses (c .before .args .op) Variable Unused (c .before .pre)
 
 pub second-use-spec : {M : Type 1} → statement M
-second-use-spec = tie.close (tie.spec (λ c. search needs) (λ c. search needs) returns)
+second-use-spec = tie.close (tie.spec (λ c. search needs) returns)
