@@ -1,4 +1,2 @@
 pub mod ScanLaws
 pub mod RoundLaws
-pub mod RankLaws
-pub mod StripLaws

@@ -17,7 +17,9 @@ use lib.Seq.{getD-append-seam, getD-set-same, getD-set-other, set-out}
 use Rattle.logic.specs.Tree.{Tree, empty, positions}
 use Rattle.logic.specs.Machine.{Machine, run}
 use Rattle.search.specs.Scan.{stepIn, codeView, bestOf, sizeOf, Held, Ready, scanSecond, scanFirst, scanLabel}
-use Rattle.search.specs.Arrays.{treeAt, decode, acceptsOf, machineIn, Whole, settling, answerOf, Backs, Ended}
+use Rattle.strip.specs.Ranks.{treeAt, decode, Backs}
+use Rattle.strip.proofs.Ranks.{decode-length}
+use Rattle.search.specs.Arrays.{acceptsOf, machineIn, Whole, settling, answerOf, Ended}
 use Rattle.search.proofs.ScanLaws.{pick-loops}
 use Rattle.logic.proofs.Orders.{less, same, more, ℕ-tri}
 
@@ -48,11 +50,6 @@ module _ (v : View 2) (labels n : ℕ) where
   unfolding scanLabel loop
   ranged-label zero b hl r = r
   ranged-label (suc l) b hl r = ranged-first l n (scanLabel v n l b) (omega arith) (omega arith) (ranged-label l b (omega arith) r)
-
-pub decode-length : (label first second : List ℕ) (n : ℕ) → length (decode label first second n) ≡ n
-unfolding decode
-decode-length label first second zero = refl
-decode-length label first second (suc n) = length-append (decode label first second n) _ ∙ omega (arith, decode-length label first second n)
 
 -- entries from n on are not read
 module _ (label first second label′ first′ second′ : List ℕ) where

@@ -1,27 +1,19 @@
--- The rounds over arrays: the settled trees by rank, the machine in a table, and how the rounds end. Assumes nothing.
+-- The rounds over arrays: the machine in a table, and how the rounds end. Assumes nothing.
 use mathlib.Core.Path.{_≡_}
 use mathlib.Core.Bool.{Bool, true, not}
-use mathlib.Core.List.{List, [], _∷_, _++_}
+use mathlib.Core.List.{List, [], _∷_}
 use Prim.Native.Nat.{ℕ, zero, suc, _+_, _*_, _≤_, _<_, _-_}
 use lib.Dec.{eqb}
 use lib.ListN.{length, getD}
-use Rattle.logic.specs.Search.{at, candidate, Sought, tree, large, absent, rounds, begin}
+use Rattle.logic.specs.Search.{at, Sought, tree, large, absent, rounds, begin}
 use Rattle.logic.specs.Tree.{Tree, empty, positions}
 use Rattle.logic.specs.Machine.{Machine}
 use Rattle.logic.specs.Table.{Table}
 use Rattle.logic.specs.Two.{binary}
 use Rattle.search.specs.Scan.{stepIn}
+use Rattle.strip.specs.Ranks.{decode, Backs}
 use Rattle.search.specs.declared.Finding.{Finding}
 use Rattle.search.specs.declared.Finding.the-variants.{None, Larger, Shown}
-
--- the settled trees, from their labels and the ranks of their branches: rank 0 is the empty tree
-unfoldable pub treeAt : List ℕ → List ℕ → List ℕ → List (Tree 2) → ℕ → Tree 2
-treeAt label first second s zero = empty
-treeAt label first second s (suc i) = candidate s (getD label (suc i) 0) (getD first (suc i) 0 ∷ getD second (suc i) 0 ∷ [])
-
-unfoldable pub decode : List ℕ → List ℕ → List ℕ → ℕ → List (Tree 2)
-decode label first second zero = []
-decode label first second (suc i) = decode label first second i ++ (treeAt label first second (decode label first second i) i ∷ [])
 
 abbrev pub acceptsOf : List ℕ → ℕ → Bool
 acceptsOf accept q = not (eqb (getD accept q 0) 0)
@@ -50,10 +42,6 @@ unfoldable pub answerOf : Finding → ℕ → List ℕ → List ℕ → List ℕ
 answerOf None n label first second = absent
 answerOf Larger n label first second = large
 answerOf Shown n label first second = tree (at (decode label first second n) (n - 1))
-
--- the branches of a rank have smaller ranks
-abbrev pub Backs : ℕ → List ℕ → List ℕ → Type 0
-Backs n first second = (i : ℕ) → 0 < i → i < n → (getD first i 0 < i) × (getD second i 0 < i)
 
 -- How the rounds end: with the answer x and the positions of the tree shown, and with ranks that a writer can follow down.
 pub record Ended (x : Sought 2) (finding : Finding) (n size : ℕ) (label first second : List ℕ) : Type 0 where

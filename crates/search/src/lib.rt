@@ -1,6 +1,4 @@
-// The earliest accepted tree over a machine's table, and its strip.
-pub mod write; // the strip of the tree that was found
-
+// The earliest accepted tree over a machine's table.
 ghost use Rattle.search.specs.Arrays.{Whole, acceptsOf, machineIn, settling, Ended, tableIn};
 // The scan of one round, over byte arrays.
 ghost use mathlib.Core.Path.{_≡_};

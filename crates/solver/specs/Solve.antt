@@ -14,7 +14,8 @@ use Rattle.machine.specs.Rule.{noDecoded}
 use Rattle.machine.specs.declared.records.Decoded.{Decoded}
 use Rattle.machine.specs.declared.records.Ending.{Ending}
 use Rattle.machine.specs.declared.records.Ending.the-variants.{Over, Ready}
-use Rattle.search.specs.Arrays.{acceptsOf, answerOf, Backs}
+use Rattle.search.specs.Arrays.{acceptsOf, answerOf}
+use Rattle.strip.specs.Ranks.{Backs}
 use Rattle.search.specs.declared.Found.{Found}
 use Rattle.refinement.specs.Decode.{decodedOf}
 use Rattle.strip.specs.Bits.{field}

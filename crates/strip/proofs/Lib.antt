@@ -9,3 +9,5 @@ pub mod RuleLaws
 pub mod TreePack
 pub mod TreeLaws
 pub mod TreeWalk
+pub mod Ranks
+pub mod TreeWriting

@@ -3,3 +3,4 @@ pub mod RuleAnswers
 pub mod RuleStrip
 pub mod TreeStrip
 pub mod TreeAnswers
+pub mod Ranks

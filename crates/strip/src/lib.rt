@@ -2,3 +2,4 @@
 pub mod bits; // fields of bits in bytes
 pub mod rule; // rule strips, read and checked
 pub mod tree; // tree strips, read and checked
+pub mod tree_writer; // tree strips, written from a tree's labels and ranks

@@ -80,7 +80,7 @@ fn conclude(n: usize, v: Solution, out: &mut [u8]) -> Verdict
                     let first = f.first;
                     let second = f.second;
                     let len = crate::room::strip_bytes(n, positions as usize);
-                    search::write::write_strip(
+                    strip::tree_writer::write_strip(
                         &mut out[..len],
                         n,
                         &label,

@@ -8,7 +8,7 @@ use Rattle.ws2s.proofs.decide.conclude.Statement.{statement}
 use Rattle.ws2s.proofs.decide.conclude.Tie as tie
 use Rattle.ws2s.proofs.decide.conclude.Reads as reads
 use Rattle.ws2s.proofs.decide.conclude.Lts as lts
-use Rattle.search.proofs.write.write_strip.Reads as write-strip-reads
+use Rattle.strip.proofs.tree_writer.write_strip.Reads as write-strip-reads
 use Rattle.ws2s.proofs.room.strip_bytes.Reads as strip-bytes-reads
 
 strip-bytes-requires : tie.Need-strip-bytes-requires
@@ -44,7 +44,14 @@ write-strip-requires c κs =
     let k = shown-room (st .args .n) (st .args .v) (st .args .out .now) ready found (st .pre .1) (st .pre .2) in
     let len = c .before .before .before .before .strip-bytes in
     let front = shown-front (st .args .n) (st .args .v) (st .args .out .now) ready found (st .pre .1) (st .pre .2) (len .result) (len .ensures) in
-    ((st .pre .0, omega (arith, st .pre .1 .low), st .pre .1 .high), (st .pre .1 .back, (k .1, front)))
+    record {
+      few-variables = st .pre .0;
+      few = st .pre .1 .high;
+      settled = omega (arith, st .pre .1 .low);
+      back = st .pre .1 .back;
+      few-positions = k .1;
+      size = front;
+    }
 
 returns : tie.Need-returns
 returns c = let g = c .before .ending .given in tells-over _ (c .before .before .before .before .args .v) _ (g .0 .0) (g .1)

@@ -7,12 +7,11 @@ use lib.ListN.{length, getD, set, length-append, List·getD-append}
 use lib.Seq.{sets, set-getD, getD-append-seam}
 use Rattle.logic.specs.Tree.{Tree, empty}
 use Rattle.logic.specs.Search.{at}
 use Rattle.strip.specs.Bits.{digits}
 use Rattle.strip.specs.TreeStrip.{treeBits}
 use Rattle.strip.proofs.Fields.{sets-after, length-digits}
-use Rattle.search.specs.Arrays.{treeAt, decode, Backs}
-use Rattle.search.proofs.RoundLaws.{decode-length}
-use Rattle.search.specs.Ranks.{treeOfRank, Clear}
+use Rattle.strip.specs.Ranks.{treeAt, decode, Backs}
+use Rattle.strip.specs.Ranks.{treeOfRank, Clear}
 
 pub sets-append : (l : List ℕ) (at : ℕ) (xs ys : List ℕ) → sets l at (xs ++ ys) ≡ sets (sets l at xs) (at + length xs) ys
 sets-append l at [] ys = let e : at + 0 ≡ at = omega arith in rw e refl
@@ -30,6 +29,11 @@ pub three : (l₀ l₁ l₂ l₃ : List ℕ) (at m a : ℕ) (xs ys zs : List ℕ
     → l₁ ≡ sets l₀ at xs → l₂ ≡ sets l₁ m ys → l₃ ≡ sets l₂ a zs → m ≡ at + length xs → a ≡ m + length ys → l₃ ≡ sets l₀ at (xs ++ (ys ++ zs))
 three l₀ l₁ l₂ l₃ at m a xs ys zs p q r e f =
     r ∙ rw (f, q, e, p) (sym (sets-append l₀ at xs (ys ++ zs) ∙ sets-append (sets l₀ at xs) (at + length xs) ys zs))
+
+pub decode-length : (label first second : List ℕ) (n : ℕ) → length (decode label first second n) ≡ n
+unfolding decode
+decode-length label first second zero = refl
+decode-length label first second (suc n) = length-append (decode label first second n) _ ∙ omega (arith, decode-length label first second n)
 
 module _ (label first second : List ℕ) where
   -- a rank's tree does not change as further trees are settled

@@ -1,4 +1,4 @@
--- `search::write::put_node` meets its contract. Assumes nothing.
+-- `tree_writer::put_node` meets its contract. Assumes nothing.
 use mathlib.Core.Path.{_≡_, _∙_}
 use mathlib.Core.List.{List}
 use Prim.Native.Nat.{ℕ, suc, _+_}
@@ -7,14 +7,14 @@ use native.Mathlib.Omega.{arith}
 use borrow.Author.Needs.{needs}
 use lib.ListN.{getD, set}
 use lib.Seq.{getD-set-other, sets}
 use Rattle.strip.specs.Bits.{digits, bits}
-use Rattle.search.specs.Ranks.{Clear}
-use Rattle.search.proofs.write.put_node.Statement.{statement}
-use Rattle.search.proofs.write.put_node.Tie as tie
-use Rattle.search.proofs.write.put_node.Reads as reads
-use Rattle.search.proofs.write.put_node.Lts as lts
+use Rattle.strip.specs.Ranks.{Clear}
+use Rattle.strip.proofs.tree_writer.put_node.Statement.{statement}
+use Rattle.strip.proofs.tree_writer.put_node.Tie as tie
+use Rattle.strip.proofs.tree_writer.put_node.Reads as reads
+use Rattle.strip.proofs.tree_writer.put_node.Lts as lts
 use Rattle.strip.proofs.bits.put_field.Reads as put-field-reads
 use Rattle.strip.proofs.bits.set_bit.Reads as set-bit-reads
 
 rest : (l l′ : List ℕ) (at : ℕ) → l′ ≡ set l at 1 → Clear l at → (k : ℕ) → getD l′ (at + 1 + k) 0 ≡ 0
 rest l l′ at e z k = rw e (getD-set-other l at (at + 1 + k) 1 0 (λ q. omega arith) ∙ z (at + 1 + k) (omega arith))

@@ -6,14 +6,14 @@ use native.Mathlib.Omega.{arith}
 use lib.ListN.{length, getD, drop, replicate, length-append}
 use lib.Seq.{sets, sets-eq}
 use Rattle.logic.specs.Tree.{Tree, positions}
 use Rattle.strip.specs.Bits.{digits, bits}
 use Rattle.strip.specs.TreeStrip.{treeBits, treeStrip, treeBytes}
 use Rattle.strip.proofs.Fields.{length-digits}
 use Rattle.strip.proofs.TreeBits.{treeBits-length}
 use Rattle.strip.proofs.TreeLaws.{treeBytes-most}
 use Rattle.strip.proofs.TreePack.{strip-of-bits}
-use Rattle.search.specs.Ranks.{Clear}
-use Rattle.search.proofs.RankLaws.{clear-after, three}
+use Rattle.strip.specs.Ranks.{Clear}
+use Rattle.strip.proofs.Ranks.{clear-after, three}
 
 pub zeros-at : (m i : ℕ) → getD {A = ℕ} (replicate m 0) i 0 ≡ 0
 zeros-at zero i = refl

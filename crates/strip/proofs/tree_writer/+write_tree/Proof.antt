@@ -1,21 +1,21 @@
--- `search::write::write_tree` meets its contract: the rank falls with each call. Assumes nothing.
+-- `tree_writer::write_tree` meets its contract: the rank falls with each call. Assumes nothing.
 use mathlib.Core.List.{_∷_}
 use Prim.Native.Nat.{ℕ, _<_, _+_, _-_}
 use native.Mathlib.Omega.{arith}
 use lib.ListN.{getD}
 use borrow.Fn.Kinds.{In}
 use borrow.Fn.PlainCycle.{Measures, is, falls, and}
 use Rattle.strip.specs.Bits.{bits, digits}
 use Rattle.strip.specs.TreeStrip.{treeBits}
 use Rattle.strip.proofs.Fields.{length-digits}
-use Rattle.search.specs.Ranks.{treeOfRank, Clear}
-use Rattle.search.proofs.RankLaws.{clear-after, empty-stands, three, rank-zero, rank-node, rank-length}
-use Rattle.search.proofs.write.write_tree.Reads as write-tree
-use Rattle.search.proofs.write.write_tree.Kinds as write-tree-kinds
-use Rattle.search.proofs.write.+write_tree.Lts-write_tree as write-tree-lts
-use Rattle.search.proofs.write.put_node.Reads as put-node-reads
-use Rattle.search.proofs.write.+write_tree.{statement}
-use Rattle.search.proofs.write.+write_tree.Tie.{close}
+use Rattle.strip.specs.Ranks.{treeOfRank, Clear}
+use Rattle.strip.proofs.Ranks.{clear-after, empty-stands, three, rank-zero, rank-node, rank-length}
+use Rattle.strip.proofs.tree_writer.write_tree.Reads as write-tree
+use Rattle.strip.proofs.tree_writer.write_tree.Kinds as write-tree-kinds
+use Rattle.strip.proofs.tree_writer.+write_tree.Lts-write_tree as write-tree-lts
+use Rattle.strip.proofs.tree_writer.put_node.Reads as put-node-reads
+use Rattle.strip.proofs.tree_writer.+write_tree.{statement}
+use Rattle.strip.proofs.tree_writer.+write_tree.Tie.{close}
 
 abbrev μ-write-tree : Measures 4 write-tree-kinds.ps ℕ
 μ-write-tree κs a = a .1 .1 .1 .1 .1 .1 .1 .0

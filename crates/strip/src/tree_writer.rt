@@ -1,14 +1,14 @@
-// The tree strip of a settled tree, written by following the ranks of its branches down.
+// Tree strips, written by following the ranks of a tree's branches down.
+use crate::bits;
 ghost use mathlib.Core.Path.{_≡_};
 ghost use mathlib.Core.List.{_∷_};
 ghost use Prim.Native.Nat.{_+_, _*_, _<_, _≤_};
 ghost use lib.ListN.{length};
 ghost use lib.Seq.{sets};
 ghost use Rattle.logic.specs.Tree.{positions};
 ghost use Rattle.strip.specs.Bits.{bits, digits};
 ghost use Rattle.strip.specs.TreeStrip.{treeBits, treeStrip, treeBytes};
-ghost use Rattle.search.specs.Arrays.{Backs};
-ghost use Rattle.search.specs.Ranks.{treeOfRank, Clear};
+ghost use Rattle.strip.specs.Ranks.{treeOfRank, Backs, Clear};
 
 // A node bit and a label of n bits, at a place that holds zeros.
 fn put_node(d: &mut [u8], at: usize, n: usize, label: usize)
@@ -16,8 +16,8 @@ fn put_node(d: &mut [u8], at: usize, n: usize, label: usize)
     requires { ⌜ Clear (bits (now d)) at ⌝ }
     ensures { λ _. ⌜ bits (now (d .exit)) ≡ sets (bits (now (d .entry))) at (1 ∷ digits n label) ⌝ }
 {
-    strip::bits::set_bit(d, at);
-    strip::bits::put_field(d, at + 1, n, label as u64);
+    bits::set_bit(d, at);
+    bits::put_field(d, at + 1, n, label as u64);
 }
 
 // The bits of the tree of rank r, at a place that holds zeros; the place after them.
@@ -64,8 +64,8 @@ pub fn write_strip(
     ensures { λ _. ⌜ now (out .exit) ≡ treeStrip n (treeOfRank (now (label .entry)) (now (first .entry)) (now (second .entry)) count r) ⌝ }
 {
     let len = out.len();
-    strip::bits::clear(out, len);
-    strip::bits::put_field(out, 0, 4, 1);
-    strip::bits::put_field(out, 4, 4, n as u64);
+    bits::clear(out, len);
+    bits::put_field(out, 0, 4, 1);
+    bits::put_field(out, 4, 4, n as u64);
     write_tree(out, 8, n, label, first, second, count, r);
 }

@@ -1,18 +1,18 @@
--- `search::write::write_strip` meets its contract. Assumes nothing.
+-- `tree_writer::write_strip` meets its contract. Assumes nothing.
 use mathlib.Core.Path.{refl}
 use Prim.Native.Nat.{_+_}
 use native.Mathlib.Omega.{arith}
 use lib.ListN.{length}
-use Rattle.search.specs.Ranks.{treeOfRank}
-use Rattle.search.proofs.StripLaws.{cleared, after-version, after-head, strip-size, strip-written}
+use Rattle.strip.specs.Ranks.{treeOfRank}
+use Rattle.strip.proofs.TreeWriting.{cleared, after-version, after-head, strip-size, strip-written}
 use borrow.Author.Needs.{needs}
-use Rattle.search.proofs.write.write_strip.Statement.{statement}
-use Rattle.search.proofs.write.write_strip.Tie as tie
-use Rattle.search.proofs.write.write_strip.Reads as reads
-use Rattle.search.proofs.write.write_strip.Lts as lts
-use Rattle.search.proofs.write.write_tree.Reads as write-tree-reads
+use Rattle.strip.proofs.tree_writer.write_strip.Statement.{statement}
+use Rattle.strip.proofs.tree_writer.write_strip.Tie as tie
+use Rattle.strip.proofs.tree_writer.write_strip.Reads as reads
+use Rattle.strip.proofs.tree_writer.write_strip.Lts as lts
+use Rattle.strip.proofs.tree_writer.write_tree.Reads as write-tree-reads
 use Rattle.strip.proofs.bits.clear.Reads as clear-reads
 use Rattle.strip.proofs.bits.put_field.Reads as put-field-reads
 
 put-field-requires : tie.Need-put-field-requires
 put-field-requires c κs =
