@@ -1,7 +1,7 @@
 -- Binary digits of a number, and how setting one changes them. Assumes nothing.
 use mathlib.Core.Path.{_≡_, refl, sym, ap, _∙_}
 use Prim.Native.Nat.{ℕ, zero, suc, _/_, _%_, _^_, _<_, max}
-use native.Mathlib.Nat.{mod-lt, zero-lt-suc, pow-suc, div-one, suc-add, zero-add, zero-div}
+use native.Mathlib.Nat.{mod-lt, zero-lt-suc, div-one, suc-add, zero-add, zero-div}
 use native.Mathlib.Omega.{arith}
 use lib.Pow.{shr-shr}
 use lib.Arith.{digits-mod}
@@ -45,9 +45,9 @@ bit-none j = ap (λ (x : ℕ). x % 2) (zero-div (2 ^ j))
 
 pub pow-bit : (j i : ℕ) → bit j (2 ^ i) ≡ same j i
 pow-bit zero zero = refl
-pow-bit zero (suc i) = bit-zero (2 ^ suc i) ∙ omega (arith, pow-suc 2 i)
+pow-bit zero (suc i) = bit-zero (2 ^ suc i) ∙ omega arith
 pow-bit (suc j) zero = bit-suc j 1 ∙ bit-none j
-pow-bit (suc j) (suc i) = bit-suc j (2 ^ suc i) ∙ ap (bit j) (omega (arith, pow-suc 2 i)) ∙ pow-bit j i
+pow-bit (suc j) (suc i) = bit-suc j (2 ^ suc i) ∙ ap (bit j) (omega arith) ∙ pow-bit j i
 
 pub with-bit : (i w j : ℕ) → bit j (bitOr w (2 ^ i)) ≡ max (bit j w) (same j i)
 with-bit i w j = or-bit j w (2 ^ i) ∙ ap (max (bit j w)) (pow-bit j i)

@@ -3,14 +3,16 @@ use mathlib.Core.Path.{_≡_, refl, sym, ap, ap₂, _∙_}
 use mathlib.Core.Logic.{_⊎_, inl, inr, ⊎-elim}
 use mathlib.Core.List.{List, [], _∷_, _++_, append-assoc}
 use Prim.Native.Nat.{ℕ, zero, suc, _+_, _-_, _*_, _/_, _%_, _^_, _≤_, _<_, max}
-use native.Mathlib.Nat.{suc-add, not-suc-le-zero, le-of-suc-le-suc, max-zero, zero-add, add-zero, add-comm, add-mul, mul-one, mul-comm, mul-assoc, mod-one, pow-suc}
+use native.Mathlib.Nat.{suc-add, not-suc-le-zero, le-of-suc-le-suc, max-zero, zero-add, add-zero, add-comm, add-mul, mul-one, mul-comm, mul-assoc, mod-one}
+use native.Mathlib.Nat.{pow-suc}
 use native.Mathlib.Numerals.{add-one, one-add}
 use native.Mathlib.Omega.{arith}
 use lib.Dec.{lit<}
 use lib.Pow.{shr-shr, mod-pow-add, mod-mod-pow, high, low}
 use lib.Pow.{field as Pow-field}
 use lib.ListN.{length, getD, set, take, drop, length-append, length-drop, take-append-drop, length-set, List·getD-append}
-use lib.Seq.{getD-append-add, set-append-left, ext-getD, getD-set-same, getD-set-other, take-suc, sets, length-take-le, drop-append-le, take-append-le, drop-append-add}
+use lib.Seq.{getD-append-add, set-append-left, ext-getD, getD-set-same, getD-set-other, take-suc, sets, length-take-le, drop-append-le, take-append-le}
+use lib.Seq.{drop-append-add}
 use lib.Bits.{bitOr}
 use Rattle.strip.proofs.Digits.{bit, same}
 use Rattle.strip.proofs.Digits.{with-bit, bit-lt}
@@ -106,7 +108,8 @@ sets-after l i [] j h = refl
 sets-after l i (v ∷ vs) j h =
     sets-after (set l i v) (suc i) vs j (omega arith) ∙ getD-set-other l i j v 0 (λ e. omega arith)
 
-pub digits-more : (l : List ℕ) (at b v k : ℕ) → k < b → sets l at (take (k + 1) (digits b v)) ≡ set (sets l at (take k (digits b v))) (at + k) (bit (b - 1 - k) v)
+pub digits-more : (l : List ℕ) (at b v k : ℕ) → k < b → sets l at (take (k + 1) (digits b v))
+    ≡ set (sets l at (take k (digits b v))) (at + k) (bit (b - 1 - k) v)
 digits-more l at b v k h =
     let n = length-digits b v in
     let e : b - suc k ≡ b - 1 - k = omega arith in
@@ -171,12 +174,17 @@ window [] i j b h l m r g = absurd (not-suc-le-zero h)
 window (x ∷ []) zero j b h l m r g =
     let e : 8 * 0 + j ≡ j = omega arith in
     let n = length-digits 8 x in
-    rw e (ap (number 0) (inner b j (digits 8 x) [] (omega arith) ∙ sym (inner b j (digits 8 x) (digits 8 0) (omega arith)) ∙ ap (λ (k : List ℕ). take b (drop j k)) (pair x 0 (lit< tt)) ∙ field-in (x * 256 + 0) j b (omega arith)) ∙ number-digits 0 b _ ∙ from-zero (2 ^ b) _)
+    rw e (ap (number 0) (inner b j (digits 8 x) [] (omega arith) ∙ sym (inner b j (digits 8 x) (digits 8 0) (omega arith))
+    ∙ ap (λ (k : List ℕ). take b (drop j k)) (pair x 0 (lit< tt)) ∙ field-in (x * 256 + 0) j b (omega arith)) ∙ number-digits 0 b _ ∙ from-zero (2 ^ b) _)
 window (x ∷ y ∷ s) zero j b h l m r g =
     let e : 8 * 0 + j ≡ j = omega arith in
     let n = length-digits 16 (x * 256 + y) in
-    rw e (ap (number 0) (ap (λ (k : List ℕ). take b (drop j k)) (sym (append-assoc (digits 8 x) (digits 8 y) (bits s)) ∙ ap (λ (k : List ℕ). k ++ bits s) (pair x y (g 1))) ∙ inner b j (digits 16 (x * 256 + y)) (bits s) (omega arith) ∙ field-in (x * 256 + y) j b (omega arith)) ∙ number-digits 0 b _ ∙ from-zero (2 ^ b) _)
+    rw e (ap (number 0) (ap (λ (k : List ℕ). take b (drop j k))
+    (sym (append-assoc (digits 8 x) (digits 8 y) (bits s)) ∙ ap (λ (k : List ℕ). k ++ bits s) (pair x y (g 1)))
+    ∙ inner b j (digits 16 (x * 256 + y)) (bits s) (omega arith) ∙ field-in (x * 256 + y) j b (omega arith)) ∙ number-digits 0 b _
+    ∙ from-zero (2 ^ b) _)
 window (x ∷ s) (suc i) j b h l m r g =
     let e : 8 * suc i + j ≡ length (digits 8 x) + (8 * i + j) = omega (arith, length-digits 8 x) in
     let f : suc i + 1 ≡ suc (i + 1) = omega arith in
-    rw (e, f) (ap (λ (k : List ℕ). number 0 (take b k)) (drop-append-add (digits 8 x) (bits s) (8 * i + j)) ∙ window s i j b (le-of-suc-le-suc h) l m (omega arith) (λ k. g (suc k)))
+    rw (e, f) (ap (λ (k : List ℕ). number 0 (take b k)) (drop-append-add (digits 8 x) (bits s) (8 * i + j))
+    ∙ window s i j b (le-of-suc-le-suc h) l m (omega arith) (λ k. g (suc k)))

@@ -14,7 +14,8 @@ use lib.Seq.{drop-cons}
 use borrow.Author.Tests.{lt-leb, leb-true, eqb-true, ne-eqb, not-false}
 use Rattle.logic.specs.Rule.{Record as RuleRecord}
 use Rattle.strip.specs.Bits.{bits, anySet}
-use Rattle.strip.specs.RuleStrip.{orElse, between, versionOf, variablesOf, countOf, recordAt, recordsFrom, recordsOf, ruleBytes, firstUse, secondUse, badVariable, badEarlier, badUnused, recordRefusal, recordsRefusal, ruleRefusal}
+use Rattle.strip.specs.RuleStrip.{orElse, between, versionOf, variablesOf, countOf, recordAt, recordsFrom, recordsOf, ruleBytes, firstUse, secondUse}
+use Rattle.strip.specs.RuleStrip.{badVariable, badEarlier, badUnused, recordRefusal, recordsRefusal, ruleRefusal}
 use Rattle.strip.specs.RuleAnswers.{useRefusal, fieldRefusal, fieldsOf, recordOr, readRecord, readRecords, headRefusal, checkedRule}
 use Rattle.strip.specs.declared.rule.Fields.{Fields}
 use Rattle.strip.specs.declared.rule.Read.{Read}
@@ -84,7 +85,8 @@ ordered (suc (suc (suc (suc (suc (suc (suc (suc (suc op))))))))) = lit≤ tt
 
 -- a record's refusal is that of its first field, else that of its second
 pub record-split : (n i op a b : ℕ)
-    → recordRefusal n i (record { op = op; first = a; second = b }) ≡ orElse (leb 9 op) 7 (firstOf (fieldRefusal n i (firstUse op) a) (fieldRefusal n i (secondUse op) b))
+    → recordRefusal n i (record { op = op; first = a; second = b })
+    ≡ orElse (leb 9 op) 7 (firstOf (fieldRefusal n i (firstUse op) a) (fieldRefusal n i (secondUse op) b))
 unfolding recordRefusal
 record-split n i op a b = ap (orElse (leb 9 op) 7) (two-fields n i a b (firstUse op) (secondUse op) (ordered op))
 
@@ -179,16 +181,16 @@ pub record Reached (s : List ℕ) (n m at i : ℕ) : Type 0 where
 pub reach-first : (s : List ℕ) (n m : ℕ) → 1 ≤ m → Reached s n m 16 0
 reach-first s n m h = let e : m - 0 ≡ m = omega arith in record { below = h; place = refl; same = rw e refl }
 
-module _ (s : List ℕ) (n m at i : ℕ) (w : Reached s n m at i) (r : Read) (q : r ≡ readRecord s n i at) where
-  pub reach-next : (op a b next : ℕ) → r ≡ Record op a b next → i + 1 < m → Reached s n m next (i + 1)
+module _ {s : List ℕ} {n m at i : ℕ} (w : Reached s n m at i) {r : Read} (q : r ≡ readRecord s n i at) where
+  pub reach-next : {op a b next : ℕ} → r ≡ Record op a b next → i + 1 < m → Reached s n m next (i + 1)
   unfolding readRecord
-  reach-next op a b next e h =
+  reach-next {op} {a} {b} {next} e h =
       let f = or-record (recordRefusal n i (recordAt s at)) (recordAt s at) (at + 18) op a b next (sym q ∙ e) in
       record { below = h; place = omega arith; same = w .same ∙ rw (f .1) (rest-more s n m i at (w .below) (f .0)) }
 
-  pub reach-refused : (k : ℕ) → r ≡ Refused k → r ≡ readRecords s n m
+  pub reach-refused : {k : ℕ} → r ≡ Refused k → r ≡ readRecords s n m
   unfolding readRecord readRecords
-  reach-refused k e =
+  reach-refused {k} e =
       let f = or-refused (recordRefusal n i (recordAt s at)) (recordAt s at) (at + 18) k (sym q ∙ e) in
       let g = w .same ∙ rest-refused s n m i at (w .below) k (f .0) (f .1) in
       e ∙ sym (rw g (or-other k _ _ (f .1)))

@@ -14,7 +14,8 @@ use lib.Seq.{getD-drop}
 use borrow.Author.Tests.{lt-leb, leb-false, le-ltb}
 use Rattle.logic.specs.Rule.{Record, noRecord, good, goodFrom, Accepted}
 use Rattle.strip.specs.Bits.{bits, number, field, anySet}
-use Rattle.strip.specs.RuleStrip.{orElse, variablesOf, countOf, recordAt, recordsFrom, recordsOf, ruleBytes, firstUse, secondUse, recordRefusal, recordsRefusal, ruleRefusal}
+use Rattle.strip.specs.RuleStrip.{orElse, variablesOf, countOf, recordAt, recordsFrom, recordsOf, ruleBytes, firstUse, secondUse, recordRefusal}
+use Rattle.strip.specs.RuleStrip.{recordsRefusal, ruleRefusal}
 use Rattle.strip.specs.RuleAnswers.{limitOf, fieldRefusal, headRefusal, checkedRule}
 use Rattle.strip.specs.declared.rule.Use.{Use}
 use Rattle.strip.specs.declared.rule.Use.the-variants.{Variable, Earlier, Unused}

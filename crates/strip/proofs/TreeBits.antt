@@ -2,7 +2,7 @@
 use Prim.Native.Nat.{ℕ, zero, suc, _+_, _-_, _*_, _/_, _%_, _^_, _<_}
 use mathlib.Core.Path.{_≡_, refl, sym, ap, ap₂, _∙_}
 use mathlib.Core.List.{List, [], _∷_, _++_}
-use native.Mathlib.Nat.{mod-eq-of-lt, add-mul, suc-mul, pow-suc, mul-assoc, mul-comm, mul-one}
+use native.Mathlib.Nat.{mod-eq-of-lt, add-mul, suc-mul, pow-suc, mul-assoc, mul-comm}
 use native.Mathlib.Omega.{arith}
 use lib.Arith.{digits-lt, digits-mod}
 use lib.Dec.{lit<}
@@ -92,7 +92,7 @@ pub number-of : (n l : ℕ) → l < 2 ^ n → number 0 (digits n l) ≡ l
 number-of n l h = number-digits 0 n l ∙ ap (λ (v : ℕ). 0 * 2 ^ n + v) (mod-eq-of-lt h) ∙ omega arith
 
 number-from : (a : ℕ) (bs : List ℕ) → number a bs ≡ a * 2 ^ length bs + number 0 bs
-number-from a [] = sym (omega (arith, mul-one a))
+number-from a [] = sym (omega arith)
 number-from a (b ∷ bs) =
     let e : (a * 2 + b) * 2 ^ length bs ≡ a * (2 * 2 ^ length bs) + b * 2 ^ length bs =
     add-mul (a * 2) b (2 ^ length bs) ∙ ap (λ (k : ℕ). k + b * 2 ^ length bs) (mul-assoc a 2 (2 ^ length bs)) in
@@ -107,7 +107,8 @@ pub number-lt : (bs : List ℕ) → AreBits bs → number 0 bs < 2 ^ length bs
 number-lt [] h = lit< tt
 number-lt (b ∷ bs) h =
     let f : 2 ^ suc (length bs) ≡ 2 * 2 ^ length bs = pow-suc 2 (length bs) ∙ mul-comm (2 ^ length bs) 2 in
-    let q : number (0 * 2 + b) bs ≡ b * 2 ^ length bs + number 0 bs = number-from (0 * 2 + b) bs ∙ ap (λ (k : ℕ). k * 2 ^ length bs + number 0 bs) (omega arith) in
+    let q : number (0 * 2 + b) bs ≡ b * 2 ^ length bs + number 0 bs = number-from (0 * 2 + b) bs
+    ∙ ap (λ (k : ℕ). k * 2 ^ length bs + number 0 bs) (omega arith) in
     rw (f, q) (digits-lt (h 0) (number-lt bs (λ k. h (suc k))))
 
 -- the digits of the number that some bits are, are those bits

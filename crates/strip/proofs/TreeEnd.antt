@@ -71,19 +71,20 @@ module _ (s : List ℕ) (n : ℕ) (r : TreeRead) (is-read : r ≡ told s (treeAt
       go (parsed t m rest) e = absurd (let z : _≡_ {A = ℕ} 0 1 = cc in omega arith)
 
   module _ (met next : ℕ) (is-tree : r ≡ read.Tree met next) (any : 0 < length s) where
-    tree-end : (t : Tree 2) × (treeAt s n 0 8 ≡ parsed t met (drop next (bits s))) × (next ≡ 8 + length (treeBits n t)) × (next ≤ 8 * length s) × (positions t ≤ 255)
+    tree-end : (t : Tree 2) × (treeAt s n 0 8 ≡ parsed t met (drop next (bits s))) × (next ≡ 8 + length (treeBits n t)) × (next ≤ 8 * length s)
+        × (positions t ≤ 255)
     tree-end =
         let q = told-tree s n (treeAt s n 0 8) met next (sym is-read ∙ is-tree) in
         let g = reading-at s n 0 8 met (q .0) (q .1) (omega arith) (q .2) in
         let f = ending s n 0 8 met next (q .0) (q .1) (omega arith) g (q .3) in
-        (q .0, q .2 ∙ ap (parsed (q .0) met) (sym (f .0)), f .1, f .2, omega (arith, g .counted, g .few))
+        (q .0, q .2 ∙ ap (parsed (q .0) met) (sym (f .0)), f .1, f .2, omega arith)
 
     pub end-room : n ≤ 8 → (next ≤ 65536) × (next ≤ 8 * length s)
     end-room h =
         let w = tree-end in
         let b = treeBits-length n (w .0) in
         let c = room s n (positions (w .0)) h in
-        (omega (arith, w .2, w .4), w .3)
+        (omega arith, w .3)
 
     pub end-over : (v : Bool) → v ≡ over s next → v ≡ true → check.Refused 21 ≡ answered s (ended (treeAt s n 0 8))
     unfolding ended

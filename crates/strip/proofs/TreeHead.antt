@@ -34,7 +34,8 @@ module _ (s : List ℕ) (n : ℕ) where
 
   -- a node bit's head
   abbrev nodeHead : ℕ → ℕ → Head
-  nodeHead met at = orElse (leb 255 met) (head.Refused 20) (orElse (ltb (8 * length s) (at + 1 + n)) (head.Refused 18) (head.Node (field s (at + 1) n) (at + 1 + n)))
+  nodeHead met at =
+      orElse (leb 255 met) (head.Refused 20) (orElse (ltb (8 * length s) (at + 1 + n)) (head.Refused 18) (head.Node (field s (at + 1) n) (at + 1 + n)))
 
   cut : (at : ℕ) → at < 8 * length s → ltb (length (drop (suc at) (bits s))) n ≡ ltb (8 * length s) (at + 1 + n)
   cut at h = go (ltb (8 * length s) (at + 1 + n)) refl
@@ -61,14 +62,20 @@ module _ (s : List ℕ) (n : ℕ) where
   unfolding headAt parse
   parse-head d met at = ends (leb (8 * length s) at) refl
     where
-      first-bit : at < 8 * length s → (b : ℕ) → parse (suc d) n met (b ∷ drop (suc at) (bits s)) ≡ follow d met (orElse (eqb b 0) (head.Empty (at + 1)) (nodeHead met at))
+      first-bit : at < 8 * length s → (b : ℕ) → parse (suc d) n met (b ∷ drop (suc at) (bits s))
+          ≡ follow d met (orElse (eqb b 0) (head.Empty (at + 1)) (nodeHead met at))
       first-bit h zero = rw (add-one at) refl
       first-bit h (suc b) = rw (eqb·suc-zero b) (parse-node d met at b h)
 
       ends : (v : Bool) → leb (8 * length s) at ≡ v
-          → parse (suc d) n met (drop at (bits s)) ≡ follow d met (orElse v (head.Refused 18) (orElse (eqb (getD (bits s) at 0) 0) (head.Empty (at + 1)) (nodeHead met at)))
-      ends true e = let h : length (bits s) ≤ at = (let k = leb-true (8 * length s) at e in let l = length-bits s in omega arith) in rw (drop-of-length-le (bits s) h) refl
-      ends false e = let k = leb-false (8 * length s) at e in rw (drop-cons (bits s) at 0 (let l = length-bits s in omega arith)) (first-bit k (getD (bits s) at 0))
+          → parse (suc d) n met (drop at (bits s)) ≡ follow d met
+          (orElse v (head.Refused 18) (orElse (eqb (getD (bits s) at 0) 0) (head.Empty (at + 1)) (nodeHead met at)))
+      ends true e =
+          let h : length (bits s) ≤ at = (let k = leb-true (8 * length s) at e in let l = length-bits s in omega arith) in
+          rw (drop-of-length-le (bits s) h) refl
+      ends false e =
+          let k = leb-false (8 * length s) at e in
+          rw (drop-cons (bits s) at 0 (let l = length-bits s in omega arith)) (first-bit k (getD (bits s) at 0))
 
   -- ---- where a head's tree goes on
   abbrev Within : ℕ → ℕ → Head → Type 0
@@ -81,7 +88,8 @@ module _ (s : List ℕ) (n : ℕ) where
   head-within met at = go (leb (8 * length s) at) refl (eqb (getD (bits s) at 0) 0) (leb 255 met) refl (ltb (8 * length s) (at + 1 + n)) refl
     where
       go : (v : Bool) → leb (8 * length s) at ≡ v → (w : Bool) → (x : Bool) → leb 255 met ≡ x → (y : Bool) → ltb (8 * length s) (at + 1 + n) ≡ y
-          → Within met at (orElse v (head.Refused 18) (orElse w (head.Empty (at + 1)) (orElse x (head.Refused 20) (orElse y (head.Refused 18) (head.Node (field s (at + 1) n) (at + 1 + n))))))
+          → Within met at (orElse v (head.Refused 18)
+          (orElse w (head.Empty (at + 1)) (orElse x (head.Refused 20) (orElse y (head.Refused 18) (head.Node (field s (at + 1) n) (at + 1 + n))))))
       go true e w x f y g = tt
       go false e true x f y g = let h = leb-false (8 * length s) at e in (refl, omega arith)
       go false e false true f y g = tt
@@ -91,14 +99,15 @@ module _ (s : List ℕ) (n : ℕ) where
   pub empty-within : (met at next : ℕ) → headAt s n met at ≡ head.Empty next → (next ≡ at + 1) × (next ≤ 8 * length s)
   empty-within met at next e = subst (Within met at) e (head-within met at)
 
-  pub node-within : (met at l next : ℕ) → headAt s n met at ≡ head.Node l next → (next ≡ at + 1 + n) × (next ≤ 8 * length s) × (met < 255) × (l ≡ field s (at + 1) n)
+  pub node-within : (met at l next : ℕ) → headAt s n met at ≡ head.Node l next
+      → (next ≡ at + 1 + n) × (next ≤ 8 * length s) × (met < 255) × (l ≡ field s (at + 1) n)
   node-within met at l next e = subst (Within met at) e (head-within met at)
 
   pub head-label : (met at l next : ℕ) → headAt s n met at ≡ head.Node l next → l < 2 ^ n
   head-label met at l next e =
       let w = node-within met at l next e in
       let k = length-from s (at + 1) in
-      rw (w .3) (label-lt n (drop (at + 1) (bits s)) (bits-drop (at + 1) (bits s) (bits-bits s)) (omega (arith, w .0, w .1)))
+      rw (w .3) (label-lt n (drop (at + 1) (bits s)) (bits-drop (at + 1) (bits s) (bits-bits s)) (omega arith))
 
   -- ---- the reader's answers, with enough for every bit of the strip
   abbrev pub treeAt : ℕ → ℕ → Parsed
@@ -121,18 +130,21 @@ module _ (s : List ℕ) (n : ℕ) where
       let l = length-from s at in
       parse-enough n (8 * length s) (suc (8 * length s)) met (drop at (bits s)) (omega arith) (omega arith) h (bits-drop at (bits s) (bits-bits s))
 
-  node-at : (met at l next : ℕ) (h : Head) → h ≡ headAt s n met at → h ≡ head.Node l next → treeAt met at ≡ andThen l (treeAt (suc met) next) (parse (8 * length s) n)
+  node-at : (met at l next : ℕ) (h : Head) → h ≡ headAt s n met at → h ≡ head.Node l next
+      → treeAt met at ≡ andThen l (treeAt (suc met) next) (parse (8 * length s) n)
   node-at met at l next h p q =
       let w = node-within met at l next (sym p ∙ q) in
       parse-head (8 * length s) met at ∙ ap (follow (8 * length s) met) (sym p ∙ q)
       ∙ ap (λ (P : Parsed). andThen l P (parse (8 * length s) n)) (one-less (suc met) next (omega arith) (omega arith) (w .1))
 
-  pub told-tree : (P : Parsed) (m mid : ℕ) → told s P ≡ read.Tree m mid → (t : Tree 2) × (rest : List ℕ) × (P ≡ parsed t m rest) × (mid ≡ 8 * length s - length rest)
+  pub told-tree : (P : Parsed) (m mid : ℕ) → told s P ≡ read.Tree m mid
+      → (t : Tree 2) × (rest : List ℕ) × (P ≡ parsed t m rest) × (mid ≡ 8 * length s - length rest)
   told-tree (refused r) m mid e = absurd (let z : _≡_ {A = ℕ} 0 1 = cc in omega arith)
   told-tree (parsed t m′ rest) m mid e = let q : m′ ≡ m = cc in (t, rest, ap (λ (k : ℕ). parsed t k rest) q, cc)
 
   -- what was read from a place ends at another
-  pub ending : (met next m mid : ℕ) (t : Tree 2) (rest : List ℕ) → next ≤ 8 * length s → Reading n met (drop next (bits s)) t m rest → mid ≡ 8 * length s - length rest
+  pub ending : (met next m mid : ℕ) (t : Tree 2) (rest : List ℕ) → next ≤ 8 * length s → Reading n met (drop next (bits s)) t m rest
+      → mid ≡ 8 * length s - length rest
       → (drop mid (bits s) ≡ rest) × (mid ≡ next + length (treeBits n t)) × (mid ≤ 8 * length s)
   ending met next m mid t rest h g e =
       let a = ap length (g .written) ∙ length-append (treeBits n t) rest in
@@ -164,12 +176,14 @@ module _ (s : List ℕ) (n : ℕ) where
       go true e false f = let b = eqb-false (positions u) 0 f in sym (ne-eqb m′ (met + 1) (λ z. b (omega arith)))
       go false e w f = let a = eqb-false (positions t) 0 e in sym (ne-eqb m′ (met + 1) (λ z. a (omega arith)))
 
-  join-closed : (l met m : ℕ) (t : Tree 2) (rest : List ℕ) (Q : Parsed) → m ≡ suc met + positions t → Good n m rest Q → closed l (met + 1) (told s Q) ≡ told s (join l t Q)
+  join-closed : (l met m : ℕ) (t : Tree 2) (rest : List ℕ) (Q : Parsed) → m ≡ suc met + positions t → Good n m rest Q
+      → closed l (met + 1) (told s Q) ≡ told s (join l t Q)
   unfolding join
   join-closed l met m t rest (refused r) p g = refl
   join-closed l met m t rest (parsed u m′ rest′) p g = rw (none-met met m m′ t u p (g .counted)) (go (eqb l 0 && eqb m′ (met + 1)))
     where
-      go : (v : Bool) → orElse v (read.Refused 19) (told s (parsed (node l (pairOf t u)) m′ rest′)) ≡ told s (orElse v (refused 19) (parsed (node l (pairOf t u)) m′ rest′))
+      go : (v : Bool) → orElse v (read.Refused 19) (told s (parsed (node l (pairOf t u)) m′ rest′))
+          ≡ told s (orElse v (refused 19) (parsed (node l (pairOf t u)) m′ rest′))
       go true = refl
       go false = refl
 
@@ -196,7 +210,7 @@ module _ (s : List ℕ) (n : ℕ) where
           let e = ending (met + 1) next m mid (q .0) (q .1) (w .1) g (q .3) in
           let b = treeBits-length n (q .0) in
           let c = room (positions (q .0)) i in
-          (omega (arith, g .counted), g .few, omega (arith, g .counted))
+          (omega arith, g .few, omega arith)
 
       pub told-node : met ≤ 255 → (r′ : TreeRead) → r′ ≡ told s (treeAt m mid) → closed l (met + 1) r′ ≡ told s (treeAt met at)
       unfolding andThen
@@ -208,7 +222,7 @@ module _ (s : List ℕ) (n : ℕ) where
           let c : treeAt met at ≡ join l (q .0) (parse (8 * length s) n m (q .1)) =
           node-at met at l next h is-head is-node ∙ ap (λ (P : Parsed). andThen l P (parse (8 * length s) n)) (q .2) in
           let d : parse (8 * length s) n m (q .1) ≡ treeAt m mid = ap (parse (8 * length s) n m) (sym (f .0))
-          ∙ one-less m mid (g .few) (omega (arith, w .0, f .1)) (f .2) in
+          ∙ one-less m mid (g .few) (omega arith) (f .2) in
           ap (closed l (met + 1)) e
           ∙ join-closed l met m (q .0) (drop mid (bits s)) (treeAt m mid) (g .counted)
           (parse-good n (suc (8 * length s)) m (drop mid (bits s)) (g .few) (bits-drop mid (bits s) (bits-bits s)))

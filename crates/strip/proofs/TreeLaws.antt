@@ -61,7 +61,8 @@ unfolding anySet
 no-set zero = refl
 no-set (suc z) = no-set z
 
-ended-is : (P : Parsed) (t : Tree 2) (m : ℕ) (rest : List ℕ) → ended P ≡ parsed t m rest → (P ≡ parsed t m rest) × (length rest < 8) × (rest ≡ replicate (length rest) 0)
+ended-is : (P : Parsed) (t : Tree 2) (m : ℕ) (rest : List ℕ) → ended P ≡ parsed t m rest
+    → (P ≡ parsed t m rest) × (length rest < 8) × (rest ≡ replicate (length rest) 0)
 unfolding ended
 ended-is (refused r) t m rest e = absurd (let z : _≡_ {A = ℕ} 0 1 = cc in omega arith)
 ended-is (parsed u k more) t m rest e =
@@ -80,7 +81,8 @@ header s v n h p q =
     let l = length-bits s in
     let k = length-drop 4 (bits s) in
     let a : digits 4 v ≡ take 4 (bits s) = ap (digits 4) (sym p) ∙ label-digits 4 (bits s) (bits-bits s) (omega arith) in
-    let b : digits 4 n ≡ take 4 (drop 4 (bits s)) = ap (digits 4) (sym q) ∙ label-digits 4 (drop 4 (bits s)) (bits-drop 4 (bits s) (bits-bits s)) (omega arith) in
+    let b : digits 4 n ≡ take 4 (drop 4 (bits s)) = ap (digits 4) (sym q)
+    ∙ label-digits 4 (drop 4 (bits s)) (bits-drop 4 (bits s) (bits-bits s)) (omega arith) in
     rw (a, b, ← (drop-drop 4 4 (bits s))) (sym (ap (λ (x : List ℕ). take 4 (bits s) ++ x) (take-append-drop 4 (drop 4 (bits s))) ∙ take-append-drop 4 (bits s)))
 
 pub tree-accepted : (s : List ℕ) (t : Tree 2) (m : ℕ) (rest : List ℕ) → readTree s ≡ parsed t m rest → (m ≡ positions t) × TreeFacts s (field s 4 4) t
@@ -95,18 +97,19 @@ tree-accepted s t m rest e =
     let g = parse-reading n (suc (8 * length s)) 0 (drop 8 (bits s)) t m rest (omega arith) (bits-drop 8 (bits s) (bits-bits s)) (d .0) in
     let h : 0 < length s = (let z = eqb-false (length s) 0 (a .0) in omega arith) in
     let v = eqb-true (field s 0 4) 1 (not-false (eqb (field s 0 4) 1) (b .0)) in (
-      omega (arith, g .counted),
+      omega arith,
       record {
         some = leb-true 1 n (i .0);
         at-most = leb-true n 8 (i .1);
         proper = g .proper;
         trimmed = g .trimmed;
-        few = omega (arith, g .counted, g .few);
+        few = omega arith;
         padded = (
           length rest,
           d .1,
           header s 1 n h v refl
-              ∙ ap (λ (x : List ℕ). digits 4 1 ++ (digits 4 n ++ x)) (g .written ∙ ap (λ (x : List ℕ). treeBits n t ++ x) (d .2)) ∙ sym (grouped n t (length rest)),
+              ∙ ap (λ (x : List ℕ). digits 4 1 ++ (digits 4 n ++ x)) (g .written ∙ ap (λ (x : List ℕ). treeBits n t ++ x) (d .2))
+              ∙ sym (grouped n t (length rest)),
         );
       },
     )
@@ -161,7 +164,7 @@ module _ (s : List ℕ) (n : ℕ) (t : Tree 2) (f : TreeFacts s n t) where
   pub facts-variables : field s 4 4 ≡ n
   facts-variables =
       ap (λ (l : List ℕ). number 0 (take 4 l)) after-version ∙ ap (number 0) (take-at (digits 4 n) (treeBits n t ++ zeros) 4 (length-digits 4 n))
-      ∙ number-of 4 n (omega (arith, f .at-most))
+      ∙ number-of 4 n (omega arith)
 
   -- the tree stands at bit place 8
   pub facts-tree : drop 8 (bits s) ≡ treeBits n t ++ zeros
@@ -171,7 +174,7 @@ module _ (s : List ℕ) (n : ℕ) (t : Tree 2) (f : TreeFacts s n t) where
   unfolding readTree ended
   facts-read =
       let h : length (treeBits n t ++ zeros) < suc (8 * length s) = omega (arith, ap length facts-tree, length-from s 8) in
-      let p = parse-back n (suc (8 * length s)) 0 t zeros h (omega (arith, f .few)) (f .proper) (f .trimmed) in
+      let p = parse-back n (suc (8 * length s)) 0 t zeros h (omega arith) (f .proper) (f .trimmed) in
       let z : length zeros < 8 = omega (arith, length-replicate {A = ℕ} (f .padded .0) 0, f .padded .1) in
       rw (
         facts-variables,

@@ -49,10 +49,12 @@ last-bits : (bs : List ℕ) → 0 < length bs → length bs ≤ 8 → AreBits bs
 unfolding bits
 last-bits bs h l a =
     let w = bs ++ replicate (8 - length bs) 0 in
-    let e : length w ≡ 8 = length-append bs (replicate (8 - length bs) 0) ∙ ap (λ (k : ℕ). length bs + k) (length-replicate (8 - length bs) 0) ∙ omega arith in (
+    let e : length w ≡ 8 = length-append bs (replicate (8 - length bs) 0) ∙ ap (λ (k : ℕ). length bs + k) (length-replicate (8 - length bs) 0)
+    ∙ omega arith in (
       8 - length bs,
       omega arith,
-      ap bits (pack-last 0 8 bs l) ∙ append-nil (digits 8 (number 0 w)) ∙ eight w e (bits-append bs (replicate (8 - length bs) 0) a (zeros-bits (8 - length bs))),
+      ap bits (pack-last 0 8 bs l) ∙ append-nil (digits 8 (number 0 w))
+          ∙ eight w e (bits-append bs (replicate (8 - length bs) 0) a (zeros-bits (8 - length bs))),
     )
 
 more-bits : (bs : List ℕ) → 8 < length bs → AreBits bs → Padded (pack 0 8 (drop 8 bs)) (drop 8 bs) → Padded (pack 0 8 bs) bs
@@ -70,7 +72,8 @@ bits-of : (d : ℕ) (bs : List ℕ) → length bs ≤ d → 0 < length bs → Ar
 bits-of zero bs l h a = absurd (omega arith)
 bits-of (suc d) bs l h a = go (ltb 8 (length bs)) refl (λ i j. bits-of d (drop 8 bs) i j (bits-drop 8 bs a))
   where
-    go : (v : Bool) → ltb 8 (length bs) ≡ v → (length (drop 8 bs) ≤ d → 0 < length (drop 8 bs) → Padded (pack 0 8 (drop 8 bs)) (drop 8 bs)) → Padded (pack 0 8 bs) bs
+    go : (v : Bool) → ltb 8 (length bs) ≡ v → (length (drop 8 bs) ≤ d → 0 < length (drop 8 bs) → Padded (pack 0 8 (drop 8 bs)) (drop 8 bs))
+        → Padded (pack 0 8 bs) bs
     go true e k = let i = ltb-true 8 (length bs) e in let j = length-drop 8 bs in more-bits bs i a (k (omega arith) (omega arith))
     go false e k = last-bits bs h (ltb-false 8 (length bs) e) a
 

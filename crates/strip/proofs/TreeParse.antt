@@ -106,7 +106,8 @@ module _ (n : ℕ) where
       (λ e. parse-good d (suc met) (drop n bs) (let f = leb-false 255 met e in omega arith) (bits-drop n bs (λ k. a (suc k))))
       (λ m mid g c. parse-good d m mid g c)
     where
-      go : (v : Bool) → leb 255 met ≡ v → (w : Bool) → ltb (length bs) n ≡ w → (leb 255 met ≡ false → Good n (suc met) (drop n bs) (parse d n (suc met) (drop n bs)))
+      go : (v : Bool) → leb 255 met ≡ v → (w : Bool) → ltb (length bs) n ≡ w
+          → (leb 255 met ≡ false → Good n (suc met) (drop n bs) (parse d n (suc met) (drop n bs)))
           → ((m : ℕ) (mid : List ℕ) → m ≤ 255 → AreBits mid → Good n m mid (parse d n m mid))
           → Good n met (1 ∷ bs) (orElse v (refused 20) (orElse w (refused 18) (andThen (number 0 (take n bs)) (parse d n (suc met) (drop n bs)) (parse d n))))
       go true e w f p k = tt
@@ -126,7 +127,8 @@ module _ (n : ℕ) where
   reading-of : (met : ℕ) (bs : List ℕ) (P : Parsed) (t : Tree 2) (m : ℕ) (rest : List ℕ) → Good n met bs P → P ≡ parsed t m rest → Reading n met bs t m rest
   reading-of met bs P t m rest g e = subst (Good n met bs) e g
 
-  pub parse-reading : (d met : ℕ) (bs : List ℕ) (t : Tree 2) (m : ℕ) (rest : List ℕ) → met ≤ 255 → AreBits bs → parse d n met bs ≡ parsed t m rest → Reading n met bs t m rest
+  pub parse-reading : (d met : ℕ) (bs : List ℕ) (t : Tree 2) (m : ℕ) (rest : List ℕ) → met ≤ 255 → AreBits bs → parse d n met bs ≡ parsed t m rest
+      → Reading n met bs t m rest
   parse-reading d met bs t m rest h a e = reading-of met bs (parse d n met bs) t m rest (parse-good d met bs h a) e
 
   shorter : (met : ℕ) (bs : List ℕ) (t : Tree 2) (m : ℕ) (rest : List ℕ) → Reading n met bs t m rest → length rest ≤ length bs
@@ -156,7 +158,8 @@ module _ (n : ℕ) where
           k m mid (omega arith) (g .few) (bits-second (treeBits n t) mid (subst AreBits (g .written) c))))
 
   -- ---- a written tree is read back
-  parse-one : (d met l : ℕ) (bs : List ℕ) → met < 255 → l < 2 ^ n → parse (suc d) n met (1 ∷ (digits n l ++ bs)) ≡ andThen l (parse d n (suc met) bs) (parse d n)
+  parse-one : (d met l : ℕ) (bs : List ℕ) → met < 255 → l < 2 ^ n
+      → parse (suc d) n met (1 ∷ (digits n l ++ bs)) ≡ andThen l (parse d n (suc met) bs) (parse d n)
   unfolding parse
   parse-one d met l bs h k =
       let a = length-append (digits n l) bs in

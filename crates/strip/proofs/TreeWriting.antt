@@ -3,7 +3,7 @@ use mathlib.Core.Path.{_≡_, refl, ap, _∙_}
 use mathlib.Core.List.{List, [], _∷_, _++_, append-nil}
 use Prim.Native.Nat.{ℕ, zero, suc, _+_, _-_, _*_, _≤_, _<_}
 use native.Mathlib.Omega.{arith}
-use lib.ListN.{length, getD, drop, replicate, length-append}
+use lib.ListN.{length, getD, drop, replicate, length-append, length-replicate, replicate-append-replicate}
 use lib.Seq.{sets, sets-eq}
 use Rattle.logic.specs.Tree.{Tree, positions}
 use Rattle.strip.specs.Bits.{digits, bits}
@@ -20,14 +20,6 @@ zeros-at zero i = refl
 zeros-at (suc m) zero = refl
 zeros-at (suc m) (suc i) = zeros-at m i
 
-zeros-append : (m k : ℕ) → _≡_ {A = List ℕ} (replicate m 0 ++ replicate k 0) (replicate (m + k) 0)
-zeros-append zero k = let e : 0 + k ≡ k = omega arith in rw e refl
-zeros-append (suc m) k = let e : suc m + k ≡ suc (m + k) = omega arith in rw e (ap (λ (l : List ℕ). 0 ∷ l) (zeros-append m k))
-
-zeros-length : (m : ℕ) → length {A = ℕ} (replicate m 0) ≡ m
-zeros-length zero = refl
-zeros-length (suc m) = ap suc (zeros-length m)
-
 drop-zeros : (k m : ℕ) → _≡_ {A = List ℕ} (drop k (replicate m 0)) (replicate (m - k) 0)
 drop-zeros zero m = let e : m - 0 ≡ m = omega arith in rw e refl
 drop-zeros (suc k) zero = let e : 0 - suc k ≡ 0 = omega arith in rw e refl
@@ -36,7 +28,9 @@ drop-zeros (suc k) (suc m) = let e : suc m - suc k ≡ m - k = omega arith in rw
 bits-zeros : (m : ℕ) → bits (replicate m 0) ≡ replicate (8 * m) 0
 unfolding bits digits
 bits-zeros zero = refl
-bits-zeros (suc m) = let e : 8 * suc m ≡ 8 + 8 * m = omega arith in rw e (ap (λ (l : List ℕ). replicate 8 0 ++ l) (bits-zeros m) ∙ zeros-append 8 (8 * m))
+bits-zeros (suc m) =
+    let e : 8 * suc m ≡ 8 + 8 * m = omega arith in
+    rw e (ap (λ (l : List ℕ). replicate 8 0 ++ l) (bits-zeros m) ∙ replicate-append-replicate 8 (8 * m) 0)
 
 -- the bytes were made 0
 module _ (d out : List ℕ) (len : ℕ) (e : out ≡ replicate len 0 ++ drop len d) (l : length d ≡ len) where
@@ -69,10 +63,12 @@ module _ (d out : List ℕ) (len : ℕ) (e : out ≡ replicate len 0 ++ drop len
           let z = treeBits-length n t in
           let x = length-digits 4 1 in
           let y = length-digits 4 n in
-          let k : length vs ≡ 8 + length (treeBits n t) = length-append (digits 4 1) (digits 4 n ++ treeBits n t) ∙ (let w = length-append (digits 4 n) (treeBits n t) in omega arith) in
-          let w : bits f ≡ sets (bits out) 0 vs = three (bits out) (bits a) (bits b) (bits f) 0 4 8 (digits 4 1) (digits 4 n) (treeBits n t) p q r (omega arith) (omega arith) in
+          let k : length vs ≡ 8 + length (treeBits n t) = length-append (digits 4 1) (digits 4 n ++ treeBits n t)
+          ∙ (let w = length-append (digits 4 n) (treeBits n t) in omega arith) in
+          let w : bits f ≡ sets (bits out) 0 vs = three (bits out) (bits a) (bits b) (bits f) 0 4 8 (digits 4 1) (digits 4 n) (treeBits n t) p q r (omega arith)
+          (omega arith) in
           let o : bits out ≡ replicate (8 * len) 0 = ap bits all-zero ∙ bits-zeros len in
-          let m : length (bits out) ≡ 8 * len = ap length o ∙ zeros-length (8 * len) in
+          let m : length (bits out) ≡ 8 * len = ap length o ∙ length-replicate (8 * len) 0 in
           let v : sets (bits out) 0 vs ≡ vs ++ drop (0 + length vs) (bits out) = sets-eq vs (bits out) 0 (omega arith) in
           let u : drop (0 + length vs) (bits out) ≡ replicate (8 * len - (0 + length vs)) 0 = rw o (drop-zeros (0 + length vs) (8 * len)) in
           strip-of-bits f vs (8 * len - (0 + length vs)) g (w ∙ v ∙ ap (λ (l : List ℕ). vs ++ l) u) (omega arith) (omega arith)

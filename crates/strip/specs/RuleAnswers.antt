@@ -5,7 +5,8 @@ use mathlib.Core.List.{List}
 use lib.Dec.{ltb, leb, eqb}
 use lib.ListN.{length}
 use Rattle.logic.specs.Rule.{Record as RuleRecord}
-use Rattle.strip.specs.RuleStrip.{orElse, between, versionOf, variablesOf, countOf, ruleBytes, recordAt, recordsFrom, recordRefusal, recordsRefusal, ruleRefusal}
+use Rattle.strip.specs.RuleStrip.{orElse, between, versionOf, variablesOf, countOf, ruleBytes, recordAt, recordsFrom, recordRefusal, recordsRefusal}
+use Rattle.strip.specs.RuleStrip.{ruleRefusal}
 use Rattle.strip.specs.declared.rule.Fields.{Fields}
 use Rattle.strip.specs.declared.rule.Use.{Use}
 use Rattle.strip.specs.declared.rule.Use.the-variants.{Variable, Earlier, Unused}

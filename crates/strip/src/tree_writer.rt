@@ -5,10 +5,9 @@ ghost use mathlib.Core.List.{_∷_};
 ghost use Prim.Native.Nat.{_+_, _*_, _<_, _≤_};
 ghost use lib.ListN.{length};
 ghost use lib.Seq.{sets};
-ghost use Rattle.logic.specs.Tree.{positions};
 ghost use Rattle.strip.specs.Bits.{bits, digits};
-ghost use Rattle.strip.specs.TreeStrip.{treeBits, treeStrip, treeBytes};
-ghost use Rattle.strip.specs.Ranks.{treeOfRank, Backs, Clear};
+ghost use Rattle.strip.specs.TreeStrip.{treeBits, treeStrip};
+ghost use Rattle.strip.specs.Ranks.{treeOfRank, Clear, Writable, AsLong};
 
 // A node bit and a label of n bits, at a place that holds zeros.
 fn put_node(d: &mut [u8], at: usize, n: usize, label: usize)
@@ -31,10 +30,7 @@ pub fn write_tree(
     count: usize,
     r: usize,
 ) -> usize
-    requires { ⌜ (n ≤ 8) × (r < count) × (count ≤ 64) × (length (now d) ≤ 4096) ⌝ }
-    requires { ⌜ Backs count (now first) (now second) ⌝ }
-    requires { ⌜ at + length (treeBits n (treeOfRank (now label) (now first) (now second) count r)) ≤ 8 * length (now d) ⌝ }
-    requires { ⌜ Clear (bits (now d)) at ⌝ }
+    requires { ⌜ Writable (now d) at n (now label) (now first) (now second) count r ⌝ }
     ensures { λ e. ⌜ e ≡ at + length (treeBits n (treeOfRank (now (label .entry)) (now (first .entry)) (now (second .entry)) count r)) ⌝ }
     ensures { λ e. ⌜ bits (now (d .exit))
         ≡ sets (bits (now (d .entry))) at (treeBits n (treeOfRank (now (label .entry)) (now (first .entry)) (now (second .entry)) count r)) ⌝ }
@@ -57,10 +53,7 @@ pub fn write_strip(
     count: usize,
     r: usize,
 )
-    requires { ⌜ (n ≤ 8) × (r < count) × (count ≤ 64) ⌝ }
-    requires { ⌜ Backs count (now first) (now second) ⌝ }
-    requires { ⌜ positions (treeOfRank (now label) (now first) (now second) count r) ≤ 255 ⌝ }
-    requires { ⌜ length (now out) ≡ treeBytes n (positions (treeOfRank (now label) (now first) (now second) count r)) ⌝ }
+    requires { ⌜ AsLong (now out) n (now label) (now first) (now second) count r ⌝ }
     ensures { λ _. ⌜ now (out .exit) ≡ treeStrip n (treeOfRank (now (label .entry)) (now (first .entry)) (now (second .entry)) count r) ⌝ }
 {
     let len = out.len();

@@ -7,8 +7,6 @@ use borrow.Author.Fill.{fill-more}
 use lib.ListN.{length, drop, replicate, set, length-set}
 use Rattle.strip.proofs.bits.clear.Statement.{statement}
 use Rattle.strip.proofs.bits.clear.Tie as tie
-use Rattle.strip.proofs.bits.clear.Reads as reads
-use Rattle.strip.proofs.bits.clear.Lts as lts
 
 abbrev Inv-loop : tie.InvT-loop
 Inv-loop d₀ n i₀ d i = (i ≤ n) × (length d ≡ length d₀) × (d ≡ replicate i 0 ++ drop i d₀)

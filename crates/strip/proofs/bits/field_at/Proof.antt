@@ -13,9 +13,6 @@ use Rattle.strip.proofs.Fields.{window}
 use borrow.Author.Needs.{needs}
 use Rattle.strip.proofs.bits.field_at.Statement.{statement}
 use Rattle.strip.proofs.bits.field_at.Tie as tie
-use Rattle.strip.proofs.bits.field_at.Reads as reads
-use Rattle.strip.proofs.bits.field_at.Lts as lts
-use Rattle.strip.proofs.bits.wide.Reads as wide-reads
 
 -- both bytes; past the end stands 0
 hi-is : (c : tie.Joined1) → c .before .wide .result ≡ getD (c .before .before .before .before .args .s .now) (c .before .before .before .before .args .at / 8) 0
@@ -37,12 +34,15 @@ mul-result : tie.Need-mul-result
 mul-result c = omega (arith, hi-is c, byte c (c .before .before .before .before .args .at / 8))
 
 add-result : tie.Need-add-result
-add-result c = let a = c .before .before .before .before .before .args in omega (arith, hi-is (c .before), byte (c .before) (a .at / 8), lo-is (c .before), byte (c .before) (a .at / 8 + 1))
+add-result c =
+    let a = c .before .before .before .before .before .args in
+    omega (arith, hi-is (c .before), byte (c .before) (a .at / 8), lo-is (c .before), byte (c .before) (a .at / 8 + 1))
 
 rem-result : tie.Need-rem-result
 rem-result c = let b = c .before .before .before .before .before .args .b in rw (pow-is b (omega arith)) (pow-pos b)
 
-read : (s : List ℕ) (at b hi lo : ℕ) → hi ≡ getD s (at / 8) 0 → lo ≡ getD s (at / 8 + 1) 0 → b ≤ 8 → at + b ≤ 8 * length s → at < 8 * length s → ((k : ℕ) → getD s k 0 < 256)
+read : (s : List ℕ) (at b hi lo : ℕ) → hi ≡ getD s (at / 8) 0 → lo ≡ getD s (at / 8 + 1) 0 → b ≤ 8 → at + b ≤ 8 * length s → at < 8 * length s
+    → ((k : ℕ) → getD s k 0 < 256)
     → (hi * 256 + lo) / 2 ^ (16 - at % 8 - b) % ((1 * 2 ^ b) % 18446744073709551616) ≡ field s at b
 read s at b hi lo p q m r l g =
     let e : 8 * (at / 8) + at % 8 ≡ at = omega arith in

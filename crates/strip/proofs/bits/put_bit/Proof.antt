@@ -8,9 +8,6 @@ use lib.Seq.{set-getD}
 use borrow.Author.Needs.{needs}
 use Rattle.strip.proofs.bits.put_bit.Statement.{statement}
 use Rattle.strip.proofs.bits.put_bit.Tie as tie
-use Rattle.strip.proofs.bits.put_bit.Reads as reads
-use Rattle.strip.proofs.bits.put_bit.Lts as lts
-use Rattle.strip.proofs.bits.set_bit.Reads as set-bit-reads
 
 returns : tie.Need-returns
 returns c = rw (c .before .before .before .before .if1 .taken) (c .before .before .set-bit .ensures)

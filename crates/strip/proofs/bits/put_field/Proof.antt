@@ -9,9 +9,6 @@ use Rattle.strip.proofs.Fields.{length-digits, digits-more, digits-afte
 use Rattle.strip.specs.Bits.{bits, digits}
 use Rattle.strip.proofs.bits.put_field.Statement.{statement}
 use Rattle.strip.proofs.bits.put_field.Tie as tie
-use Rattle.strip.proofs.bits.put_field.Reads as reads
-use Rattle.strip.proofs.bits.put_field.Lts as lts
-use Rattle.strip.proofs.bits.put_bit.Reads as put-bit-reads
 
 abbrev Inv-loop : tie.InvT-loop
 Inv-loop d₀ at b v k₀ d k = (k ≤ b) × (length d ≡ length d₀) × (bits d ≡ sets (bits d₀) at (take k (digits b v)))
@@ -40,7 +37,7 @@ loop-again : tie.Need-loop-again Inv-loop μ-loop
 loop-again c =
     let a = c .before .before .before .before .before in (
       omega arith,
-      omega (arith, c .before .before .put-bit .kept .0),
+      omega arith,
       turn _ _ _ _ _ _ _ (c .before .before .before .before .loop-test .taken) (a .loop .inv .2) (c .before .before .put-bit .ensures),
     )
 

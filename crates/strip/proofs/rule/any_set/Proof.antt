@@ -17,9 +17,6 @@ Inv-loop s from end at₀ at = (end ≡ 8 * length s) × (anySet (drop from (bit
 abbrev μ-loop : tie.MeasureT-loop
 μ-loop s from end at₀ at = end - at
 
-loop-holds : tie.Need-loop-holds Inv-loop μ-loop
-loop-holds c = (search needs, refl)
-
 returns : tie.Need-returns Inv-loop μ-loop
 returns c =
     let b = c .before .before .before in
@@ -40,4 +37,15 @@ returns-2 c =
 
 pub any-set-spec : {M : Type 1} → statement M
 any-set-spec =
-    tie.close (tie.spec Inv-loop μ-loop (λ c. search needs) loop-holds (λ c κs. omega arith) returns (λ c. omega arith) (λ c. omega arith) loop-again returns-2)
+    tie.close
+    (tie.spec
+    Inv-loop
+    μ-loop
+    (λ c. search needs)
+    (λ c. search needs)
+    (λ c κs. omega arith)
+    returns
+    (λ c. omega arith)
+    (λ c. omega arith)
+    loop-again
+    returns-2)

@@ -18,15 +18,15 @@ loop-holds c = reach-first _ _ _ (c .before .pre .1 .0)
 returns : tie.Need-returns Inv-loop μ-loop
 returns c =
     let b = c .before .before .before .before in
-    reach-refused _ _ _ _ _ (b .loop .inv) _ (c .before .before .read-record .ensures) _ (c .enum-told .given .1)
+    reach-refused (b .loop .inv) (c .before .before .read-record .ensures) (c .enum-told .given .1)
 
 loop-again : tie.Need-loop-again Inv-loop μ-loop
 loop-again c =
     let b = c .before .before .before .before in
-    reach-next _ _ _ _ _ (b .before .loop .inv) _ (c .before .before .before .read-record .ensures) _ _ _ _ (c .before .r .given .1) (b .loop-test .taken)
+    reach-next (b .before .loop .inv) (c .before .before .before .read-record .ensures) (c .before .r .given .1) (b .loop-test .taken)
 
 returns-2 : tie.Need-returns-2 Inv-loop μ-loop
-returns-2 c = reach-last _ _ _ _ _ (c .before .before .loop .inv) _ (c .read-record2 .ensures) (c .before .loop-test .left)
+returns-2 c = reach-last (c .before .before .loop .inv) (c .read-record2 .ensures) (c .before .loop-test .left)
 
 pub read-records-spec : {M : Type 1} → statement M
 read-records-spec =

@@ -28,21 +28,6 @@ read-tree-below t =
 abbrev R : ℕ → read-tree-lts.Claims
 R t = (read-head-reads.Asked, read-head-reads.Learnt, read-tree-below t, read-tree.Post, close-node-reads.Asked, close-node-reads.Learnt)
 
-read-tree-read-head-requires : (t : ℕ) → read-tree-lts.Need-read-head-requires (R t) (read-tree-at t) read-tree.Post
-read-tree-read-head-requires t c κs = search needs
-
-read-tree-enum-known-k : (t : ℕ) → read-tree-lts.Need-enum-known-k (R t) (read-tree-at t) read-tree.Post
-read-tree-enum-known-k t c = search needs
-
-read-tree-enum-known-next : (t : ℕ) → read-tree-lts.Need-enum-known-next (R t) (read-tree-at t) read-tree.Post
-read-tree-enum-known-next t c = search needs
-
-read-tree-enum-known-label : (t : ℕ) → read-tree-lts.Need-enum-known-label (R t) (read-tree-at t) read-tree.Post
-read-tree-enum-known-label t c = search needs
-
-read-tree-add-read-tree : (t : ℕ) → read-tree-lts.Need-add-read-tree (R t) (read-tree-at t) read-tree.Post
-read-tree-add-read-tree t c = search needs
-
 read-tree-read-tree-requires : (t : ℕ) → read-tree-lts.Need-read-tree-requires (R t) (read-tree-at t) read-tree.Post
 read-tree-read-tree-requires t c κs =
     let b = c .before .before .before .before .before in
@@ -53,12 +38,6 @@ read-tree-read-tree-requires t c κs =
     let p = b .pre .1 in
     let r = first-room (a .s .now) (a .n) (a .met) (a .at) (g .0 .0) (g .0 .1 .0) (h .result) (h .ensures) (g .1) (p .1) (p .2) (p .3) in
     (omega arith, (p .0, p .1, r .0, r .1))
-
-read-tree-enum-known-first : (t : ℕ) → read-tree-lts.Need-enum-known-first (R t) (read-tree-at t) read-tree.Post
-read-tree-enum-known-first t c = search needs
-
-read-tree-enum-told : (t : ℕ) → read-tree-lts.Need-enum-told (R t) (read-tree-at t) read-tree.Post
-read-tree-enum-told t c = search needs
 
 read-tree-returns : (t : ℕ) → read-tree-lts.Need-returns (R t) (read-tree-at t) read-tree.Post
 read-tree-returns t c =
@@ -82,12 +61,6 @@ read-tree-read-tree-requires-2 t c κs =
     let q = second-room (a .s .now) (a .n) (a .met) (a .at) (g .0 .0) (g .0 .1 .0) (h .result) (h .ensures) (g .1)
     (f .0 .0) (f .0 .1 .0) (r .result) (r .ensures) (f .1) (p .1) (p .2) (p .3) in
     (omega arith, (p .0, p .1, q .1, q .2))
-
-read-tree-add-close-node : (t : ℕ) → read-tree-lts.Need-add-close-node (R t) (read-tree-at t) read-tree.Post
-read-tree-add-close-node t c = search needs
-
-read-tree-close-node-requires : (t : ℕ) → read-tree-lts.Need-close-node-requires (R t) (read-tree-at t) read-tree.Post
-read-tree-close-node-requires t c κs = search needs
 
 read-tree-returns-2 : (t : ℕ) → read-tree-lts.Need-returns-2 (R t) (read-tree-at t) read-tree.Post
 read-tree-returns-2 t c =
@@ -118,18 +91,18 @@ pub +read-tree-spec : {M : Type 1} → statement M
 +read-tree-spec = close μ-read-tree λ t. read-tree-lts.spec (R t)
     (read-tree-at t)
     read-tree.Post
-    (read-tree-read-head-requires t)
-    (read-tree-enum-known-k t)
-    (read-tree-enum-known-next t)
-    (read-tree-enum-known-label t)
-    (read-tree-add-read-tree t)
+    (λ c κs. search needs)
+    (λ c. search needs)
+    (λ c. search needs)
+    (λ c. search needs)
+    (λ c. search needs)
     (read-tree-read-tree-requires t)
-    (read-tree-enum-known-first t)
-    (read-tree-enum-told t)
+    (λ c. search needs)
+    (λ c. search needs)
     (read-tree-returns t)
     (read-tree-read-tree-requires-2 t)
-    (read-tree-add-close-node t)
-    (read-tree-close-node-requires t)
+    (λ c. search needs)
+    (λ c κs. search needs)
     (read-tree-returns-2 t)
     (read-tree-returns-3 t)
     (read-tree-returns-4 t)

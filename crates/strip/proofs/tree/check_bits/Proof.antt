@@ -15,7 +15,8 @@ returns c =
     let b = c .before .before .before .before .before .before .before in
     let r = c .before .before .before .before .before .read-tree in
     let o = c .before .left-over in
-    end-over (b .args .s .now) (b .args .n) (r .result) (r .ensures) _ _ (c .before .before .before .met .given .1) (b .pre .2) (o .result) (o .ensures) (c .if1 .taken)
+    end-over (b .args .s .now) (b .args .n) (r .result) (r .ensures) _ _ (c .before .before .before .met .given .1) (b .pre .2) (o .result) (o .ensures)
+    (c .if1 .taken)
 
 returns-2 : tie.Need-returns-2
 returns-2 c =
@@ -28,7 +29,8 @@ returns-3 c =
     let b = c .before .before .before .before .before .before .before in
     let r = c .before .before .before .before .before .read-tree in
     let o = c .before .left-over in
-    end-clean (b .args .s .now) (b .args .n) (r .result) (r .ensures) _ _ (c .before .before .before .met .given .1) (b .pre .2) (o .result) (o .ensures) (c .if1 .left) (b .pre .3)
+    end-clean (b .args .s .now) (b .args .n) (r .result) (r .ensures) _ _ (c .before .before .before .met .given .1) (b .pre .2) (o .result) (o .ensures)
+    (c .if1 .left) (b .pre .3)
 
 pub check-bits-spec : {M : Type 1} → statement M
 check-bits-spec =

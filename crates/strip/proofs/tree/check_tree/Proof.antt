@@ -44,21 +44,25 @@ returns : tie.Need-returns
 returns c = no-bytes (c .before .before .args .s .now) (c .if1 .taken)
 
 returns-2 : tie.Need-returns-2
-returns-2 c = let f = c .before .field-at in bad-version (c .before .before .before .before .args .s .now) (c .before .before .if1 .left) (f .result) (f .ensures) (c .if2 .taken)
+returns-2 c =
+    let f = c .before .field-at in
+    bad-version (c .before .before .before .before .args .s .now) (c .before .before .if1 .left) (f .result) (f .ensures) (c .if2 .taken)
 
 returns-3 : tie.Need-returns-3
 returns-3 c =
     let b = c .before .before in
     let f = b .before .field-at in
     let g = c .before .field-at2 in
-    no-variables (b .before .before .before .before .args .s .now) (b .before .before .if1 .left) (f .result) (f .ensures) (b .if2 .left) (g .result) (g .ensures) (c .if3 .taken)
+    no-variables (b .before .before .before .before .args .s .now) (b .before .before .if1 .left) (f .result) (f .ensures) (b .if2 .left) (g .result)
+    (g .ensures) (c .if3 .taken)
 
 returns-4 : tie.Need-returns-4
 returns-4 c =
     let b = c .before .before .before in
     let f = b .before .field-at in
     let g = c .before .before .field-at2 in
-    many-variables (b .before .before .before .before .args .s .now) (b .before .before .if1 .left) (f .result) (f .ensures) (b .if2 .left) (g .result) (g .ensures)
+    many-variables (b .before .before .before .before .args .s .now) (b .before .before .if1 .left) (f .result) (f .ensures) (b .if2 .left) (g .result)
+    (g .ensures)
     (c .before .if3 .left) (c .if4 .taken)
 
 returns-5 : tie.Need-returns-5

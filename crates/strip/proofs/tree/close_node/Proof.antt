@@ -10,7 +10,7 @@ use Rattle.strip.proofs.tree.close_node.Statement.{statement}
 use Rattle.strip.proofs.tree.close_node.Tie as tie
 
 -- the second branch's answer is r
-module _ (label met all next : ℕ) (r : TreeRead) (e : r ≡ Tree all next) where
+module _ (label met : ℕ) {all next : ℕ} {r : TreeRead} (e : r ≡ Tree all next) where
   bare : label ≡ 0 → all ≡ met → Refused 19 ≡ closed label met r
   bare p q = rw (e, eq-eqb label 0 p, eq-eqb all met q) refl
 
@@ -21,13 +21,13 @@ module _ (label met all next : ℕ) (r : TreeRead) (e : r ≡ Tree all next) whe
   labelled p = rw (e, ne-eqb label 0 p) refl
 
 returns-2 : tie.Need-returns-2
-returns-2 c = bare _ _ _ _ _ (c .before .before .before .second .given .1) (c .before .if1 .taken) (c .if2 .taken)
+returns-2 c = bare _ _ (c .before .before .before .second .given .1) (c .before .if1 .taken) (c .if2 .taken)
 
 returns-3 : tie.Need-returns-3
-returns-3 c = branched _ _ _ _ _ (c .before .before .before .second .given .1) (c .before .if1 .taken) (c .if2 .left)
+returns-3 c = branched _ _ (c .before .before .before .second .given .1) (c .before .if1 .taken) (c .if2 .left)
 
 returns-4 : tie.Need-returns-4
-returns-4 c = labelled _ _ _ _ _ (c .before .before .second .given .1) (c .if1 .left)
+returns-4 c = labelled _ _ (c .before .before .second .given .1) (c .if1 .left)
 
 pub close-node-spec : {M : Type 1} → statement M
 close-node-spec =

@@ -30,12 +30,23 @@ module _ (s : List ℕ) (n met at : ℕ) where
     label-end : (b ≡ 0 → ⊥) → met < 255 → length s ≤ (at + n) / 8 → Refused 18 ≡ headAt s n met at
     unfolding headAt
     label-end z k l =
-        rw (lt-leb (8 * length s) at (omega arith), ne-eqb (getD (bits s) at 0) 0 (λ q. z (e ∙ q)), lt-leb 255 met k, lt-ltb (8 * length s) (at + 1 + n) (omega arith)) refl
+        rw (
+          lt-leb (8 * length s) at (omega arith),
+          ne-eqb (getD (bits s) at 0) 0 (λ q. z (e ∙ q)),
+          lt-leb 255 met k,
+          lt-ltb (8 * length s) (at + 1 + n) (omega arith),
+        ) refl
 
     is-node : (b ≡ 0 → ⊥) → met < 255 → (at + n) / 8 < length s → (v : ℕ) → v ≡ field s (at + 1) n → Node v (at + 1 + n) ≡ headAt s n met at
     unfolding headAt
     is-node z k l v q =
-        rw (lt-leb (8 * length s) at (omega arith), ne-eqb (getD (bits s) at 0) 0 (λ q. z (e ∙ q)), lt-leb 255 met k, le-ltb (8 * length s) (at + 1 + n) (omega arith), q) refl
+        rw (
+          lt-leb (8 * length s) at (omega arith),
+          ne-eqb (getD (bits s) at 0) 0 (λ q. z (e ∙ q)),
+          lt-leb 255 met k,
+          le-ltb (8 * length s) (at + 1 + n) (omega arith),
+          q,
+        ) refl
 
 returns : tie.Need-returns
 returns c = bits-end _ _ _ _ (c .if1 .taken)
@@ -48,11 +59,13 @@ returns-3 c = many _ _ _ _ _ (c .before .before .before .if1 .left) (c .before .
 
 returns-4 : tie.Need-returns-4
 returns-4 c =
-    label-end _ _ _ _ _ (c .before .before .before .before .if1 .left) (c .before .before .before .bit-at .ensures .0) (c .before .before .if2 .left) (c .before .if3 .left) (c .if4 .taken)
+    label-end _ _ _ _ _ (c .before .before .before .before .if1 .left) (c .before .before .before .bit-at .ensures .0) (c .before .before .if2 .left)
+    (c .before .if3 .left) (c .if4 .taken)
 
 returns-5 : tie.Need-returns-5
 returns-5 c =
-    is-node _ _ _ _ _ (c .before .before .before .before .before .if1 .left) (c .before .before .before .before .bit-at .ensures .0) (c .before .before .before .if2 .left)
+    is-node _ _ _ _ _ (c .before .before .before .before .before .if1 .left) (c .before .before .before .before .bit-at .ensures .0)
+    (c .before .before .before .if2 .left)
     (c .before .before .if3 .left) (c .before .if4 .left) (c .field-at .result) (c .field-at .ensures)
 
 pub read-head-spec : {M : Type 1} → statement M

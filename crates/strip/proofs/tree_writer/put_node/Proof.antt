@@ -11,10 +11,6 @@ use Rattle.strip.specs.Bits.{digits, bits}
 use Rattle.strip.specs.Ranks.{Clear}
 use Rattle.strip.proofs.tree_writer.put_node.Statement.{statement}
 use Rattle.strip.proofs.tree_writer.put_node.Tie as tie
-use Rattle.strip.proofs.tree_writer.put_node.Reads as reads
-use Rattle.strip.proofs.tree_writer.put_node.Lts as lts
-use Rattle.strip.proofs.bits.put_field.Reads as put-field-reads
-use Rattle.strip.proofs.bits.set_bit.Reads as set-bit-reads
 
 rest : (l l′ : List ℕ) (at : ℕ) → l′ ≡ set l at 1 → Clear l at → (k : ℕ) → getD l′ (at + 1 + k) 0 ≡ 0
 rest l l′ at e z k = rw e (getD-set-other l at (at + 1 + k) 1 0 (λ q. omega arith) ∙ z (at + 1 + k) (omega arith))

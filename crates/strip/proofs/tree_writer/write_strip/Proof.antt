@@ -8,11 +8,6 @@ use Rattle.strip.proofs.TreeWriting.{cleared, after-version, after-head
 use borrow.Author.Needs.{needs}
 use Rattle.strip.proofs.tree_writer.write_strip.Statement.{statement}
 use Rattle.strip.proofs.tree_writer.write_strip.Tie as tie
-use Rattle.strip.proofs.tree_writer.write_strip.Reads as reads
-use Rattle.strip.proofs.tree_writer.write_strip.Lts as lts
-use Rattle.strip.proofs.tree_writer.write_tree.Reads as write-tree-reads
-use Rattle.strip.proofs.bits.clear.Reads as clear-reads
-use Rattle.strip.proofs.bits.put_field.Reads as put-field-reads
 
 put-field-requires : tie.Need-put-field-requires
 put-field-requires c κs =
@@ -22,7 +17,7 @@ put-field-requires c κs =
     let h = st .pre in
     let w = c .before .before .before .clear in
     let k = w .kept .0 in
-    let r = strip-size (a .n) t (h .0 .0) (h .1 .1 .0) in
+    let r = strip-size (a .n) t (h .few-variables) (h .few-positions) in
     let z = cleared (a .out .now) (w .last .0) (length (a .out .now)) (w .ensures) refl in
     (omega arith, (omega arith, (omega arith, λ i l. z (0 + i) (omega arith))))
 
@@ -36,7 +31,7 @@ put-field-requires-2 c κs =
     let v = c .before .before .before .put-field in
     let k = w .kept .0 in
     let k₂ = v .kept .0 in
-    let r = strip-size (a .n) t (h .0 .0) (h .1 .1 .0) in
+    let r = strip-size (a .n) t (h .few-variables) (h .few-positions) in
     let z = after-version (a .out .now) (w .last .0) (length (a .out .now)) (w .ensures) refl (v .last .0) (v .ensures) in
     (omega arith, (omega arith, (omega arith, λ i l. z (4 + i) (omega arith))))
 
@@ -52,9 +47,17 @@ write-tree-requires c κs =
     let k = w .kept .0 in
     let k₂ = v .kept .0 in
     let k₃ = u .kept .0 in
-    let r = strip-size (a .n) t (h .0 .0) (h .1 .1 .0) in
+    let r = strip-size (a .n) t (h .few-variables) (h .few-positions) in
     let z = after-head (a .out .now) (w .last .0) (length (a .out .now)) (w .ensures) refl (v .last .0) (v .ensures) (a .n) (u .last .0) (u .ensures) in
-    ((omega arith, omega arith, omega arith, omega arith), (h .1 .0, (omega arith, z)))
+    record {
+      few-variables = h .few-variables;
+      few = h .few;
+      settled = h .settled;
+      back = h .back;
+      short = omega arith;
+      room = omega arith;
+      clear = z;
+    }
 
 returns : tie.Need-returns
 returns c =
@@ -66,7 +69,8 @@ returns c =
     let v = c .before .before .before .before .before .before .before .before .before .before .put-field in
     let u = c .before .before .before .before .before .before .put-field2 in
     let x = c .before .before .write-tree in
-    strip-written (a .out .now) (w .last .0) (length (a .out .now)) (w .ensures) refl (v .last .0) (v .ensures) (a .n) (u .last .0) (u .ensures) t (h .1 .1 .1) (x .last .0) (x .ensures .1) (λ i. omega (arith, c .slice-known5 .given i))
+    strip-written (a .out .now) (w .last .0) (length (a .out .now)) (w .ensures) refl (v .last .0) (v .ensures) (a .n) (u .last .0) (u .ensures) t (h .size)
+    (x .last .0) (x .ensures .1) (λ i. omega (arith, c .slice-known5 .given i))
 
 pub write-strip-spec : {M : Type 1} → statement M
 write-strip-spec =
