@@ -15,7 +15,7 @@ use borrow.Author.Tests.{lt-leb, leb-false, le-ltb}
 use Rattle.logic.specs.Rule.{Record, noRecord, good, goodFrom, Accepted}
 use Rattle.strip.specs.Bits.{bits, number, field, anySet}
 use Rattle.strip.specs.RuleStrip.{orElse, variablesOf, countOf, recordAt, recordsFrom, recordsOf, ruleBytes, firstUse, secondUse, recordRefusal}
-use Rattle.strip.specs.RuleStrip.{recordsRefusal, ruleRefusal}
+use Rattle.strip.specs.RuleStrip.{recordsRefusal, ruleRefusal, AcceptedRule}
 use Rattle.strip.specs.RuleAnswers.{limitOf, fieldRefusal, headRefusal, checkedRule}
 use Rattle.strip.specs.declared.rule.Use.{Use}
 use Rattle.strip.specs.declared.rule.Use.the-variants.{Variable, Earlier, Unused}
@@ -230,9 +230,9 @@ module _ (s : List ℕ) where
   unfolding checkedRule
   checked-or = zero-or (ruleRefusal s) (accepted (variablesOf s) (countOf s)) (turnedDown (ruleRefusal s))
 
-  pub checked-accepted : (n m : ℕ) → checkedRule s ≡ accepted n m → (ruleRefusal s ≡ 0) × (n ≡ variablesOf s) × (m ≡ countOf s)
+  pub checked-accepted : (n m : ℕ) → checkedRule s ≡ accepted n m → AcceptedRule s n m
   checked-accepted n m e =
-      ⊎-elim (λ w. let f = sym e ∙ w .1 in (w .0, cc, cc))
+      ⊎-elim (λ w. let f = sym e ∙ w .1 in record { unrefused = w .0; variables = cc; count = cc })
       (λ w. let f = sym e ∙ w .1 in absurd (let z : _≡_ {A = ℕ} 0 1 = cc in omega arith)) checked-or
 
   pub checked-refused : (k : ℕ) → checkedRule s ≡ turnedDown k → (ruleRefusal s ≡ k) × (k ≡ 0 → ⊥)

@@ -1,5 +1,6 @@
 -- Rule strips: document 01, "Strips" and "Check a rule strip". Assumes nothing.
 use Prim.Native.Nat.{ℕ, zero, suc, _+_, _*_, _/_}
+use mathlib.Core.Path.{_≡_}
 use mathlib.Core.Bool.{Bool, true, false, not, _&&_, _||_}
 use mathlib.Core.List.{List, [], _∷_}
 use lib.Dec.{ltb, leb, eqb}
@@ -101,3 +102,9 @@ ruleRefusal s =
     (orElse (not (eqb (length s) (ruleBytes (countOf s)))) 5
     (orElse (anySet (drop (16 + 18 * countOf s) (bits s))) 6
     (recordsRefusal (variablesOf s) 0 (recordsOf s)))))))
+
+-- an accepted strip of m records over n variables
+pub record AcceptedRule (s : List ℕ) (n m : ℕ) : Type 0 where
+  pub unrefused : ruleRefusal s ≡ 0
+  pub variables : n ≡ variablesOf s
+  pub count : m ≡ countOf s

@@ -15,39 +15,40 @@ use Rattle.refinement.proofs.Ready.{ready}
 use Rattle.solver.specs.Solve.{outcomeOf, Ranked, Solved}
 use Rattle.solver.proofs.Told.{treeIn, told-over, told-none, told-larger, told-shown}
 use Rattle.solver.specs.declared.Solution.{Solution}
-use Rattle.strip.specs.RuleStrip.{variablesOf, countOf, recordAt, recordsOf, ruleRefusal}
+use Rattle.strip.specs.RuleStrip.{variablesOf, recordAt, recordsOf, AcceptedRule}
 use Rattle.strip.proofs.RuleLaws.{rule-accepted, records-at, widths-at}
 use Rattle.ws2s.specs.Decoding.{DecodesTo}
-use Rattle.ws2s.specs.Room.{roomFor, cleared}
+use Rattle.ws2s.specs.Room.{roomFor, cleared, Roomy}
 use Rattle.strip.specs.TreeStrip.{treeStrip, treeBytes}
 use Rattle.strip.proofs.TreeLaws.{treeStrip-length}
 use Rattle.ws2s.specs.Decide.{decidedOf, tell, outAfter, Spacious}
 use Rattle.ws2s.specs.declared.decide.Verdict.{Verdict}
 use Rattle.ws2s.specs.declared.decide.Verdict.the-variants.{Shown, None, Larger, TooManyStates}
 
-module _ (s : List ℕ) (n m c : ℕ) (ok : ruleRefusal s ≡ 0) (en : n ≡ variablesOf s) (em : m ≡ countOf s) (pos : 1 ≤ c) (top : c ≤ 64)
-    (xs : List Decoded) (dec : DecodesTo s m xs) (labels : ℕ) (el : labels ≡ 2 ^ n) where
+module _ {s : List ℕ} {n m c : ℕ} (accepted : AcceptedRule s n m) (xs : List Decoded) (dec : DecodesTo s m xs) {labels : ℕ} (el : labels ≡ 2 ^ n) where
   -- the builder may be called on the strip's records
-  pub rule-ready : (len : ℕ) → roomFor n m c ≤ len → (r : ℕ) → r < m → Fits (getD xs r noDecoded) r c labels len × Sound (getD xs r noDecoded) r labels
-  rule-ready len room r h =
-      let f = rule-accepted s ok in
+  pub rule-ready : {len : ℕ} → Roomy n m c len → (r : ℕ) → r < m → Fits (getD xs r noDecoded) r c labels len × Sound (getD xs r noDecoded) r labels
+  rule-ready {len} room r h =
+      let f = rule-accepted s (accepted .unrefused) in
       let w = widths-at s (16 + 18 * r) in
       let e : getD (recordsOf s) r noRecord ≡ recordAt s (16 + 18 * r) = records-at s r (omega arith) in
       let l = f .records-count in
-      let g = ready (variablesOf s) (f .some-variable) (f .few-variables) (recordsOf s) (f .records-accepted) r m c len (omega arith) h (let k = f .few-records in omega arith) pos top
-      (subst (λ (k : ℕ). roomFor k m c ≤ len) en room)
+      let g = ready (variablesOf s) (f .some-variable) (f .few-variables) (recordsOf s) (f .records-accepted) r m c len (omega arith) h
+      (let k = f .few-records in omega arith) (room .some-state) (room .few-states) (subst (λ (k : ℕ). roomFor k m c ≤ len) (accepted .variables) (room .long))
       (subst (λ (x : Record). x .first < 128) (sym e) (w .1)) (subst (λ (x : Record). x .second < 128) (sym e) (w .2)) in
-      rw (dec r h, el, en) g
+      rw (dec r h, el, accepted .variables) g
 
   -- and what it answers is decide's outcome
-  pub rule-solved : (P : ℕ) (v : Solution) → Solved xs m c labels P v → outcomeOf v ≡ decidedOf s c P
-  rule-solved P v g =
-      let f = rule-accepted s ok in
+  pub rule-solved : {P : ℕ} {v : Solution} → Solved xs m c labels P v → outcomeOf v ≡ decidedOf s c P
+  rule-solved g =
+      let f = rule-accepted s (accepted .unrefused) in
       let l = f .records-count in
-      g .answer (variablesOf s) (recordsOf s) (f .records-accepted) (omega arith) (el ∙ ap (λ (k : ℕ). 2 ^ k) en) (λ r h. dec r (omega arith))
+      g .answer (variablesOf s) (recordsOf s) (f .records-accepted) (omega arith) (el ∙ ap (λ (k : ℕ). 2 ^ k) (accepted .variables))
+      (λ r h. dec r (omega arith))
 
 -- the workspace: the build changes nothing past the shares, and they are cleared
-pub workspace-cleared : (need need′ : ℕ) (ws built ended : List ℕ) → need′ ≡ need → drop need built ≡ drop need ws → ended ≡ replicate need′ 0 ++ drop need′ built → ended ≡ cleared need ws
+pub workspace-cleared : (need need′ : ℕ) (ws built ended : List ℕ) → need′ ≡ need → drop need built ≡ drop need ws
+    → ended ≡ replicate need′ 0 ++ drop need′ built → ended ≡ cleared need ws
 workspace-cleared need need′ ws built ended e k f = f ∙ rw (e, k)
 
 -- what a solution tells, and what stands in out then

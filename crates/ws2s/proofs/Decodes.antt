@@ -10,7 +10,7 @@ use lib.Seq.{getD-set-same, getD-set-other}
 use Rattle.machine.specs.declared.records.Decoded.{Decoded}
 use Rattle.machine.specs.Rule.{noDecoded}
 use Rattle.refinement.specs.Decode.{weight, decodedOf}
-use Rattle.strip.specs.RuleStrip.{variablesOf, countOf, recordAt, ruleRefusal}
+use Rattle.strip.specs.RuleStrip.{recordAt, AcceptedRule}
 use Rattle.strip.specs.RuleAnswers.{fieldsOf}
 use Rattle.strip.specs.declared.rule.Fields.{Fields}
 use Rattle.strip.proofs.RuleLaws.{rule-accepted, records-at, widths-at}
@@ -35,10 +35,10 @@ pub record Decoding (s : List ℕ) (n m : ℕ) (records : List Decoded) (at i : 
   pub short : length s ≤ 4096
   pub whole : 16 + 18 * m ≤ 8 * length s
 
-module _ (s : List ℕ) (n m : ℕ) (ok : ruleRefusal s ≡ 0) (en : n ≡ variablesOf s) (em : m ≡ countOf s) where
+module _ {s : List ℕ} {n m : ℕ} (accepted : AcceptedRule s n m) where
   pub decoding-first : (records : List Decoded) → length records ≡ 128 → Decoding s n m records 16 0
   decoding-first records l =
-      let f = rule-accepted s ok in
+      let f = rule-accepted s (accepted .unrefused) in
       let e = f .size in
       let k = f .few-records in
       record {
@@ -52,16 +52,17 @@ module _ (s : List ℕ) (n m : ℕ) (ok : ruleRefusal s ≡ 0) (en : n ≡ varia
         whole = omega arith;
       }
 
-  module _ (records : List Decoded) (at i : ℕ) (v : Decoding s n m records at i) (h : i < m) (f : Fields) (q : f ≡ fieldsOf (recordAt s at)) where
-    pub decoding-next : (x : Decoded) → x ≡ decodedOf n (record { op = f .op; first = f .first; second = f .second })
+  module _ {records : List Decoded} {at i : ℕ} (v : Decoding s n m records at i) (h : i < m) {f : Fields} (q : f ≡ fieldsOf (recordAt s at)) where
+    pub decoding-next : {x : Decoded} → x ≡ decodedOf n (record { op = f .op; first = f .first; second = f .second })
         → Decoding s n m (set records i x) (at + 18) (i + 1)
-    decoding-next x ex =
+    decoding-next {x} ex =
         record {
           low = omega arith;
-          place = omega (arith, v .place);
+          place = omega arith;
           long = length-set records i x ∙ v .long;
           done = λ j l. elim (ℕ-discrete j i) [
-            | yes p ↦ rw (p, getD-set-same records i x noDecoded (omega (arith, v .long, v .few))) (ex ∙ rw (en, q, v .place, records-at s i (omega arith)) refl)
+            | yes p ↦ rw (p, getD-set-same records i x noDecoded (omega arith))
+                (ex ∙ rw (accepted .variables, q, v .place, records-at s i (omega arith)) refl)
             | no p ↦ rw (getD-set-other records i j x noDecoded p) (v .done j (omega arith))
           ];
           few = v .few;
@@ -70,5 +71,5 @@ module _ (s : List ℕ) (n m : ℕ) (ok : ruleRefusal s ≡ 0) (en : n ≡ varia
           whole = v .whole;
         }
 
-  pub decoding-last : (records : List Decoded) (at i : ℕ) → Decoding s n m records at i → m ≤ i → DecodesTo s m records
-  decoding-last records at i v h j l = v .done j (omega arith)
+pub decoding-last : {s : List ℕ} {n m : ℕ} {records : List Decoded} {at i : ℕ} → Decoding s n m records at i → m ≤ i → DecodesTo s m records
+decoding-last v h j l = v .done j (omega arith)

@@ -103,5 +103,9 @@ expected =
     ∷ []
 
 pub examples-right : map answer examples ≡ expected
-unfolding answer examples expected bits anySet recordAt recordsFrom recordsOf firstUse secondUse recordRefusal recordsRefusal ruleRefusal roomRefusal earlyRefusal tell outAfter verdictOf outOf low bit downFrom allOf anyOf sumOf positions successorAt kindOf setLow withBit run elem below flat select outcomes successors add closure reach position numbered wordOf members projection table codedProduct build productTable projectionTable complementTable tableOf admit buildAll settled view lighter choose consider loop tuples pick verdict next rounds anyBelow begin search report conclude decideOf digits pack treeBits treeStrip decLt
+unfolding answer examples expected bits anySet recordAt recordsFrom recordsOf firstUse secondUse recordRefusal recordsRefusal ruleRefusal roomRefusal
+    earlyRefusal tell outAfter verdictOf outOf low bit downFrom allOf anyOf sumOf positions successorAt kindOf setLow withBit run elem below flat select
+    outcomes successors add closure reach position numbered wordOf members projection table codedProduct build productTable projectionTable
+    complementTable tableOf admit buildAll settled view lighter choose consider loop tuples pick verdict next rounds anyBelow begin search report
+    conclude decideOf digits pack treeBits treeStrip decLt
 examples-right = refl

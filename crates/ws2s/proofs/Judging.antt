@@ -7,11 +7,9 @@ use native.Mathlib.Omega.{arith}
 use borrow.Author.Tests.{eq-eqb, ne-eqb, eqb-true}
 use lib.Dec.{ltb, leb, eqb, eqb·suc-zero}
 use lib.ListN.{length, take, drop}
-use Rattle.logic.specs.Meaning.{Assignment}
-use Rattle.logic.specs.Tree.{Tree, node, TreeOf}
+use Rattle.logic.specs.Tree.{Tree, node}
 use Rattle.logic.specs.Two.{pairOf}
 use Rattle.logic.specs.Trim.{isEmpty}
-use Rattle.logic.specs.Claims.{Judgement as Ruled, Judges}
 use Rattle.logic.specs.Decide.{say, judgeOf}
 use Rattle.logic.proofs.Answers.{judge-judges, trimmed-iff}
 use Rattle.machine.specs.declared.records.Decoded.{Decoded}
@@ -19,15 +17,15 @@ use Rattle.machine.specs.declared.records.Ending.the-variants.{Over, Ready}
 use Rattle.solver.specs.Solve.{judgementAfter, judgementOf, Judged}
 use Rattle.solver.specs.declared.Ruling.{Ruling}
 use Rattle.strip.specs.Bits.{bits, number, field, anySet}
-use Rattle.strip.specs.RuleStrip.{orElse, between, variablesOf, countOf, recordsOf, ruleRefusal}
+use Rattle.strip.specs.RuleStrip.{orElse, between, variablesOf, countOf, recordsOf, ruleRefusal, AcceptedRule}
 use Rattle.strip.specs.TreeStrip.{Parsed, parsed, refused, join, andThen, parse, ended, readTree}
 use Rattle.strip.specs.TreeAnswers.{answered, checkedTree}
 use Rattle.strip.specs.declared.tree.TreeCheck.the-variants.{Accepted as treeAccepted, Refused as treeRefused}
 use Rattle.strip.proofs.RuleLaws.{rule-accepted}
 use Rattle.strip.proofs.TreeLaws.{TreeFacts, tree-accepted, facts-length, treeBytes-most}
 use Rattle.ws2s.specs.Decoding.{DecodesTo}
-use Rattle.ws2s.specs.Room.{roomFor, cleared, workRefusal}
-use Rattle.ws2s.specs.Judge.{Readable, treeRefusal, lateRefusal, refusalBefore, tell, judgedOf, judgementFor, workspaceFor, JudgeClaim}
+use Rattle.ws2s.specs.Room.{roomFor, cleared, workRefusal, Roomy}
+use Rattle.ws2s.specs.Judge.{Readable, treeRefusal, lateRefusal, refusalBefore, tell, judgedOf, judgementFor, workspaceFor, JudgedTree, JudgeClaim}
 use Rattle.ws2s.specs.declared.judge.Judgement.{Judgement}
 use Rattle.ws2s.specs.declared.judge.Judgement.the-variants.{No, Yes, Refused, TooManyStates}
 use Rattle.ws2s.proofs.Rooms.{work-free}
@@ -71,7 +69,8 @@ read-numbered : (s : List ℕ) → Numbered (readTree s)
 unfolding readTree
 read-numbered s =
     let p : Parsed = ended (parse (suc (8 * length s)) (field s 4 4) 0 (drop 8 (bits s))) in
-    let n = ended-numbered (parse (suc (8 * length s)) (field s 4 4) 0 (drop 8 (bits s))) (parse-numbered (suc (8 * length s)) (field s 4 4) 0 (drop 8 (bits s))) in
+    let n = ended-numbered (parse (suc (8 * length s)) (field s 4 4) 0 (drop 8 (bits s)))
+    (parse-numbered (suc (8 * length s)) (field s 4 4) 0 (drop 8 (bits s))) in
     let x : Parsed = orElse (not (between 1 8 (field s 4 4))) (refused 17) p in
     let y : Parsed = orElse (not (eqb (field s 0 4) 1)) (refused 16) x in
     either-way (eqb (length s) 0) (refused 15) y (omega arith)
@@ -79,12 +78,12 @@ read-numbered s =
     (either-way (not (between 1 8 (field s 4 4))) (refused 17) p (omega arith) n))
 
 -- ---- what the check of the tree says
-pub check-readable : (s : List ℕ) (n N : ℕ) → checkedTree s ≡ treeAccepted n N → Readable s n
-check-readable s n N e = go (readTree s) refl e
+pub check-readable : (s : List ℕ) {n N : ℕ} → checkedTree s ≡ treeAccepted n N → Readable s n
+check-readable s {n} {N} e = go (readTree s) refl e
   where
     go : (p : Parsed) → readTree s ≡ p → answered s p ≡ treeAccepted n N → Readable s n
     go (refused r) q f = absurd (let z : _≡_ {A = ℕ} 0 1 = cc in omega arith)
-    go (parsed t met rest) q f = (t, met, rest, q, cc)
+    go (parsed t met rest) q f = record { tree = t; met = met; rest = rest; read = q; variables = cc }
 
 pub check-refused : (s : List ℕ) (k : ℕ) → checkedTree s ≡ treeRefused k → (treeRefusal s ≡ k) × (k ≡ 0 → ⊥)
 unfolding treeRefusal
@@ -94,14 +93,14 @@ check-refused s k e = go (readTree s) refl (read-numbered s) e
     go (parsed t met rest) q h f = absurd (let z : _≡_ {A = ℕ} 0 1 = cc in omega arith)
     go (refused r) q h f = let z : r ≡ k = cc in (rw q z, λ y. omega arith)
 
-pub readable-free : (s : List ℕ) (n : ℕ) → Readable s n → treeRefusal s ≡ 0
+readable-free : {s : List ℕ} {n : ℕ} → Readable s n → treeRefusal s ≡ 0
 unfolding treeRefusal
-readable-free s n w = rw (w .3) refl
+readable-free w = rw (w .read) refl
 
-pub readable-size : (s : List ℕ) (n : ℕ) → Readable s n → (1 ≤ length s) × (length s ≤ 4096)
-readable-size s n w =
-    let f = tree-accepted s (w .0) (w .1) (w .2) (w .3) .1 in
-    let l = facts-length s (field s 4 4) (w .0) f in
+pub readable-size : {s : List ℕ} {n : ℕ} → Readable s n → (1 ≤ length s) × (length s ≤ 4096)
+readable-size {s} w =
+    let f = tree-accepted s (w .tree) (w .met) (w .rest) (w .read) .1 in
+    let l = facts-length s (field s 4 4) (w .tree) f in
     let b = treeBytes-most (field s 4 4) _ (f .at-most) (f .few) in
     (omega arith, omega arith)
 
@@ -119,14 +118,16 @@ module _ (v : Ruling) where
   unfolding judgementAfter say
   ruled-no h e = rw (h, e)
 
-module _ (rule : List ℕ) (n m c : ℕ) (ok : ruleRefusal rule ≡ 0) (en : n ≡ variablesOf rule) (em : m ≡ countOf rule) where
-  pub rule-judged : (xs : List Decoded) → DecodesTo rule m xs → (tree : List ℕ) → Readable tree n → (v : Ruling) → Judged xs m c n tree v → judgementOf v ≡ judgedOf rule c tree
-  unfolding judgedOf
-  rule-judged xs dec tree w v g =
-      let f = rule-accepted rule ok in
-      let l = f .records-count in
-      rw (w .3) (subst (λ (k : ℕ). judgementOf v ≡ judgeOf k (recordsOf rule) c (w .0)) en
-      (g (recordsOf rule) (rw en (f .records-accepted)) (omega arith) (λ r h. rw en (dec r (omega arith))) (w .0) (w .1) (w .2) (w .3) (w .4)))
+pub rule-judged : {rule tree : List ℕ} {n m : ℕ} → AcceptedRule rule n m → (c : ℕ) (xs : List Decoded) → DecodesTo rule m xs → Readable tree n
+    → (v : Ruling) → Judged xs m c n tree v → judgementOf v ≡ judgedOf rule c tree
+unfolding judgedOf
+rule-judged {rule} accepted c xs dec w v g =
+    let f = rule-accepted rule (accepted .unrefused) in
+    let l = f .records-count in
+    let en = accepted .variables in
+    rw (w .read) (subst (λ (k : ℕ). judgementOf v ≡ judgeOf k (recordsOf rule) c (w .tree)) en
+    (g (recordsOf rule) (rw en (f .records-accepted)) (omega arith) (λ r h. rw en (dec r (omega arith)))
+    (w .tree) (w .met) (w .rest) (w .read) (w .variables)))
 
 -- ---- the end, by the refusals
 module _ (rule : List ℕ) (c : ℕ) (ws tree : List ℕ) where
@@ -145,40 +146,41 @@ module _ (rule : List ℕ) (c : ℕ) (ws tree : List ℕ) where
   unfolding refusalBefore
   ends-refused k e z = ends-before k (rw (e, ne-eqb k 0 z)) z
 
-  module _ (n m : ℕ) (ok : ruleRefusal rule ≡ 0) (en : n ≡ variablesOf rule) (em : m ≡ countOf rule) (k : ℕ) (ek : k ≡ workRefusal n m c (length ws)) where
+  module _ {n m : ℕ} (accepted : AcceptedRule rule n m) {k : ℕ} (ek : k ≡ workRefusal n m c (length ws)) where
     -- want of room, or a ceiling out of range
     pub ends-room : (k ≡ 0 → ⊥) → Ends (Refused k) ws
     unfolding refusalBefore
-    ends-room z = ends-before k (rw (ok, ← en, ← em, ← ek, ne-eqb k 0 z)) z
+    ends-room z = ends-before k (rw (accepted .unrefused, ← accepted .variables, ← accepted .count, ← ek, ne-eqb k 0 z)) z
 
     module _ (z : k ≡ 0) where
       late : before ≡ lateRefusal tree n
       unfolding refusalBefore
-      late = rw (ok, ← en, ← em, ← ek, z)
+      late = rw (accepted .unrefused, ← accepted .variables, ← accepted .count, ← ek, z)
 
-      pub room-known : (1 ≤ c) × (c ≤ 64) × (roomFor n m c ≤ length ws)
+      pub room-known : Roomy n m c (length ws)
       room-known = work-free n m c (length ws) (sym ek ∙ z)
 
       -- a tree strip that is turned down
-      pub ends-tree : (r : ℕ) → treeRefusal tree ≡ r → (r ≡ 0 → ⊥) → Ends (Refused r) ws
+      pub ends-tree : {r : ℕ} → treeRefusal tree ≡ r → (r ≡ 0 → ⊥) → Ends (Refused r) ws
       unfolding lateRefusal
-      ends-tree r e y = ends-before r (late ∙ rw (e, ne-eqb r 0 y)) y
+      ends-tree {r} e y = ends-before r (late ∙ rw (e, ne-eqb r 0 y)) y
 
       -- another number of variables
-      pub ends-other : (i : ℕ) → Readable tree i → (i ≡ n → ⊥) → Ends (Refused 22) ws
+      pub ends-other : {i : ℕ} → Readable tree i → (i ≡ n → ⊥) → Ends (Refused 22) ws
       unfolding lateRefusal
-      ends-other i w y = ends-before 22 (late ∙ rw (readable-free tree i w, ne-eqb (field tree 4 4) n (λ q. y (sym (w .4) ∙ q)))) (λ q. omega arith)
+      ends-other w y = ends-before 22 (late ∙ rw (readable-free w, ne-eqb (field tree 4 4) n (λ q. y (sym (w .variables) ∙ q)))) (λ q. omega arith)
 
-      pub ends-told : Readable tree n → (v : Ruling) → judgementOf v ≡ judgedOf rule c tree → (x : Judgement) → x ≡ tell (judgementOf v) → (ws′ : List ℕ) → ws′ ≡ cleared (roomFor n m c) ws → Ends x ws′
+      pub ends-told : Readable tree n → (v : Ruling) → judgementOf v ≡ judgedOf rule c tree → {x : Judgement} → x ≡ tell (judgementOf v)
+          → {ws′ : List ℕ} → ws′ ≡ cleared (roomFor n m c) ws → Ends x ws′
       unfolding judgementFor workspaceFor lateRefusal
-      ends-told w v e x ex ws′ ew =
-          let y : before ≡ 0 = late ∙ rw (readable-free tree n w, eq-eqb (field tree 4 4) n (w .4)) in
-          rw y (ex ∙ ap tell e, ew ∙ rw (en, em))
+      ends-told w v e ex ew =
+          let y : before ≡ 0 = late ∙ rw (readable-free w, eq-eqb (field tree 4 4) n (w .variables)) in
+          rw y (ex ∙ ap tell e, ew ∙ rw (accepted .variables, accepted .count))
 
 -- YES OR NO AGREES WITH THE MEANING
-pub claim : (rule : List ℕ) (c : ℕ) (ws tree : List ℕ) (x : Judgement) → x ≡ judgementFor rule c (length ws) tree → JudgeClaim rule c (length ws) tree x
+pub claim : (rule : List ℕ) (c : ℕ) (ws tree : List ℕ) {x : Judgement} → x ≡ judgementFor rule c (length ws) tree → JudgeClaim rule c (length ws) tree x
 unfolding refusalBefore judgementFor lateRefusal treeRefusal judgedOf
-claim rule c ws tree x ex = record { judged = λ e. go (readTree tree) refl (read-numbered tree) e }
+claim rule c ws tree {x} ex = record { judged = λ e. go (readTree tree) refl (read-numbered tree) e }
   where
     rule-free : (a b : ℕ) → orElse (eqb a 0) b a ≡ 0 → (a ≡ 0) × (b ≡ 0)
     rule-free zero b f = (refl, f)
@@ -188,22 +190,24 @@ claim rule c ws tree x ex = record { judged = λ e. go (readTree tree) refl (rea
     same-variables n true q f = eqb-true (field tree 4 4) n q
     same-variables n false q f = absurd (omega arith)
 
-    go : (p : Parsed) → readTree tree ≡ p → Numbered p → refusalBefore rule c (length ws) tree ≡ 0
-        → (t : Tree 2) × (met : ℕ) × (rest : List ℕ) × (readTree tree ≡ parsed t met rest) × ((A : Assignment 2) × TreeOf (variablesOf rule) A t)
-        × ((j : Ruled) × Judges (variablesOf rule) (recordsOf rule) c t j × (x ≡ tell j))
+    go : (p : Parsed) → readTree tree ≡ p → Numbered p → refusalBefore rule c (length ws) tree ≡ 0 → JudgedTree rule c tree x
     go (parsed t met rest) q h e =
         let a = rule-free (ruleRefusal rule) _ e in
         let b = rule-free (workRefusal (variablesOf rule) (countOf rule) c (length ws)) _ (a .1) in
         let d = rule-free (treeRefusal tree) _ (b .1) in
         let f : TreeFacts tree (variablesOf rule) t =
-        subst (λ (n : ℕ). TreeFacts tree n t) (same-variables (variablesOf rule) (eqb (field tree 4 4) (variablesOf rule)) refl (d .1)) (tree-accepted tree t met rest q .1) in (
-          t,
-          met,
-          rest,
-          q,
-          (trimmed-iff (variablesOf rule) t (f .proper)) .0 (f .trimmed),
-          (judgeOf (variablesOf rule) (recordsOf rule) c t, judge-judges 2 (variablesOf rule) (recordsOf rule) c 0 (rule-accepted rule (a .0) .records-accepted) t, ex ∙ rw (e, q)),
-        )
+        subst (λ (n : ℕ). TreeFacts tree n t) (same-variables (variablesOf rule) (eqb (field tree 4 4) (variablesOf rule)) refl (d .1))
+        (tree-accepted tree t met rest q .1) in
+        record {
+          tree = t;
+          met = met;
+          rest = rest;
+          read = q;
+          assigned = (trimmed-iff (variablesOf rule) t (f .proper)) .0 (f .trimmed);
+          judgement = judgeOf (variablesOf rule) (recordsOf rule) c t;
+          judges = judge-judges 2 (variablesOf rule) (recordsOf rule) c 0 (rule-accepted rule (a .0) .records-accepted) t;
+          told = ex ∙ rw (e, q);
+        }
     go (refused r) q h e =
         let a = rule-free (ruleRefusal rule) _ e in
         let b = rule-free (workRefusal (variablesOf rule) (countOf rule) c (length ws)) _ (a .1) in

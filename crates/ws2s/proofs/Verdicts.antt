@@ -12,26 +12,27 @@ use Rattle.logic.specs.Tree.{positions}
 use Rattle.logic.proofs.Answers.{decide-answers, shown-fits}
 use Rattle.solver.specs.Solve.{outcomeOf}
 use Rattle.solver.specs.declared.Solution.{Solution}
-use Rattle.strip.specs.RuleStrip.{orElse, variablesOf, countOf, recordsOf, ruleRefusal}
+use Rattle.strip.specs.RuleStrip.{orElse, variablesOf, countOf, recordsOf, ruleRefusal, AcceptedRule}
 use Rattle.strip.specs.TreeStrip.{treeStrip, treeBytes}
 use Rattle.strip.proofs.RuleLaws.{rule-accepted}
-use Rattle.ws2s.specs.Room.{roomFor, cleared, roomRefusal}
+use Rattle.ws2s.specs.Room.{roomFor, cleared, roomRefusal, Roomy}
 use Rattle.ws2s.specs.Decide.{earlyRefusal, decidedOf, tell, outAfter, Spacious, verdictOf, workspaceOf, outOf, Claim}
 use Rattle.ws2s.specs.declared.decide.Verdict.{Verdict}
 use Rattle.ws2s.specs.declared.decide.Verdict.the-variants.{Refused}
-use Rattle.ws2s.proofs.Rooms.{work-free, room-free}
+use Rattle.ws2s.proofs.Rooms.{room-free}
 
 module _ (rule : List ℕ) (c P : ℕ) (ws out : List ℕ) where
   -- decide ends so
   abbrev pub Ends : Verdict → List ℕ → List ℕ → Type 0
-  Ends v ws′ out′ = (v ≡ verdictOf rule c P (length ws) (length out)) × (ws′ ≡ workspaceOf rule c P ws (length out)) × (out′ ≡ outOf rule c P (length ws) out)
+  Ends v ws′ out′ =
+      (v ≡ verdictOf rule c P (length ws) (length out)) × ((ws′ ≡ workspaceOf rule c P ws (length out)) × (out′ ≡ outOf rule c P (length ws) out))
 
   abbrev early : ℕ
   early = earlyRefusal rule c P (length ws) (length out)
 
   ends-early : (k : ℕ) → early ≡ k → (k ≡ 0 → ⊥) → Ends (Refused k) ws out
   unfolding verdictOf workspaceOf outOf
-  ends-early k e z = rw (e, ne-eqb k 0 z) (refl, refl, refl)
+  ends-early k e z = rw (e, ne-eqb k 0 z) (refl, (refl, refl))
 
   early-rule : (k : ℕ) → ruleRefusal rule ≡ k → (k ≡ 0 → ⊥) → early ≡ k
   unfolding earlyRefusal
@@ -41,11 +42,10 @@ module _ (rule : List ℕ) (c P : ℕ) (ws out : List ℕ) where
   pub ends-refused : (k : ℕ) → ruleRefusal rule ≡ k → (k ≡ 0 → ⊥) → Ends (Refused k) ws out
   ends-refused k e z = ends-early k (early-rule k e z) z
 
-  module _ (n m : ℕ) (ok : ruleRefusal rule ≡ 0) (en : n ≡ variablesOf rule) (em : m ≡ countOf rule) (k : ℕ)
-      (ek : k ≡ roomRefusal n m c P (length ws) (length out)) where
+  module _ {n m : ℕ} (accepted : AcceptedRule rule n m) {k : ℕ} (ek : k ≡ roomRefusal n m c P (length ws) (length out)) where
     early-room : early ≡ k
     unfolding earlyRefusal
-    early-room = rw (ok, ← en, ← em) (sym ek)
+    early-room = rw (accepted .unrefused, ← accepted .variables, ← accepted .count) (sym ek)
 
     -- want of room, or a ceiling out of range
     pub ends-room : (k ≡ 0 → ⊥) → Ends (Refused k) ws out
@@ -53,34 +53,32 @@ module _ (rule : List ℕ) (c P : ℕ) (ws out : List ℕ) where
 
     module _ (z : k ≡ 0) where
       -- the build and the search may go on
-      pub room-known : (1 ≤ c) × (c ≤ 64) × (P ≤ 255) × (roomFor n m c ≤ length ws)
-      room-known =
-          let f = room-free n m c (length ws) P (length out) (sym ek ∙ z) in
-          let g = work-free n m c (length ws) (f .1) in
-          (g .0, g .1, f .0, g .2)
+      pub room-known : Roomy n m c (length ws) × (P ≤ 255)
+      room-known = let f = room-free n m c (length ws) P (length out) (sym ek ∙ z) in (f .roomy, f .few-places)
 
       bytes-mono : (N : ℕ) → N ≤ P → treeBytes n N ≤ treeBytes n P
       bytes-mono N h = let e = mul-le-mul-right (n + 1) h in omega arith
 
       pub spacious : (v : Solution) → outcomeOf v ≡ decidedOf rule c P → Spacious n (outcomeOf v) (length out)
       spacious v e places states t f =
-          let g = rule-accepted rule ok in
+          let g = rule-accepted rule (accepted .unrefused) in
           let w = shown-fits 2 (variablesOf rule) (recordsOf rule) c P (g .records-accepted) places states t (sym e ∙ f) in
           let r = room-free n m c (length ws) P (length out) (sym ek ∙ z) in
-          (let a = w .1 in let b = r .0 in omega arith, let a = bytes-mono (positions t) (w .1) in let b = r .2 in omega arith)
+          (let a = w .1 in omega arith, let a = bytes-mono (positions t) (w .1) in omega arith)
 
-      pub ends-told : (v : Solution) → outcomeOf v ≡ decidedOf rule c P → (x : Verdict) → x ≡ tell n (outcomeOf v) → (ws′ : List ℕ) → ws′ ≡ cleared (roomFor n m c) ws
-          → (out′ : List ℕ) → out′ ≡ outAfter n (outcomeOf v) out → Ends x ws′ out′
+      pub ends-told : (v : Solution) → outcomeOf v ≡ decidedOf rule c P → {x : Verdict} → x ≡ tell n (outcomeOf v)
+          → {ws′ : List ℕ} → ws′ ≡ cleared (roomFor n m c) ws → {out′ : List ℕ} → out′ ≡ outAfter n (outcomeOf v) out → Ends x ws′ out′
       unfolding verdictOf workspaceOf outOf
-      ends-told v e x ex ws′ ew out′ eo =
+      ends-told v e ex ew eo =
           let y : early ≡ 0 = early-room ∙ z in
-          rw (y) (ex ∙ rw (e, en), ew ∙ rw (en, em), eo ∙ rw (e, en))
+          let en = accepted .variables in
+          rw y (ex ∙ rw (e, en), (ew ∙ rw (en, accepted .count), eo ∙ rw (e, en)))
 
 -- DEMANDS 2 AND 3, of what decide answers and leaves in out
-pub claim : (rule : List ℕ) (c P : ℕ) (ws out : List ℕ) → (x : Verdict) → x ≡ verdictOf rule c P (length ws) (length out) → (out′ : List ℕ) → out′ ≡ outOf rule c P (length ws) out
-    → Claim rule c P (length ws) (length out) x out′
+pub claim : (rule : List ℕ) (c P : ℕ) (ws out : List ℕ) {x : Verdict} → x ≡ verdictOf rule c P (length ws) (length out)
+    → {out′ : List ℕ} → out′ ≡ outOf rule c P (length ws) out → Claim rule c P (length ws) (length out) x out′
 unfolding earlyRefusal verdictOf outOf outAfter
-claim rule c P ws out x ex out′ eo = record {
+claim rule c P ws out ex eo = record {
   outcome = λ e. decidedOf rule c P;
   answers = λ e. decide-answers 2 (variablesOf rule) (recordsOf rule) c P (rule-accepted rule (accepted e) .records-accepted);
   told = λ e. ex ∙ rw e;
@@ -90,6 +88,7 @@ claim rule c P ws out x ex out′ eo = record {
     accepted : earlyRefusal rule c P (length ws) (length out) ≡ 0 → ruleRefusal rule ≡ 0
     accepted e = go (ruleRefusal rule) refl e
       where
-        go : (k : ℕ) → ruleRefusal rule ≡ k → orElse (eqb k 0) (roomRefusal (variablesOf rule) (countOf rule) c P (length ws) (length out)) k ≡ 0 → ruleRefusal rule ≡ 0
+        go : (k : ℕ) → ruleRefusal rule ≡ k → orElse (eqb k 0) (roomRefusal (variablesOf rule) (countOf rule) c P (length ws) (length out)) k ≡ 0
+            → ruleRefusal rule ≡ 0
         go zero p f = p
         go (suc k) p f = absurd (let g = rw eqb·suc-zero at f in omega arith)

@@ -29,8 +29,12 @@ treeIn (parsed t met rest) = t
 treeIn (refused r) = empty
 
 -- the strip holds a tree over n variables
-abbrev pub Readable : List ℕ → ℕ → Type 0
-Readable tree n = (t : Tree 2) × (met : ℕ) × (rest : List ℕ) × (readTree tree ≡ parsed t met rest) × (field tree 4 4 ≡ n)
+pub record Readable (strip : List ℕ) (n : ℕ) : Type 0 where
+  pub tree : Tree 2
+  pub met : ℕ
+  pub rest : List ℕ
+  pub read : readTree strip ≡ parsed tree met rest
+  pub variables : field strip 4 4 ≡ n
 
 -- "In order: 1 to 10; 11 for c alone; 12; 15 to 21 in that operation's order; 22 the two n differ"; else 0
 unfoldable pub lateRefusal : List ℕ → ℕ → ℕ
@@ -39,7 +43,8 @@ lateRefusal tree n = orElse (eqb (treeRefusal tree) 0) (orElse (eqb (field tree 
 unfoldable pub refusalBefore : List ℕ → ℕ → ℕ → List ℕ → ℕ
 refusalBefore rule c room tree =
     orElse (eqb (ruleRefusal rule) 0)
-    (orElse (eqb (workRefusal (variablesOf rule) (countOf rule) c room) 0) (lateRefusal tree (variablesOf rule)) (workRefusal (variablesOf rule) (countOf rule) c room))
+    (orElse (eqb (workRefusal (variablesOf rule) (countOf rule) c room) 0) (lateRefusal tree (variablesOf rule))
+    (workRefusal (variablesOf rule) (countOf rule) c room))
     (ruleRefusal rule)
 
 -- this paper's answers: "14. Otherwise yes or no"
@@ -59,10 +64,17 @@ judgementFor rule c room tree = orElse (eqb (refusalBefore rule c room tree) 0) 
 unfoldable pub workspaceFor : List ℕ → ℕ → List ℕ → List ℕ → List ℕ
 workspaceFor rule c ws tree = orElse (eqb (refusalBefore rule c (length ws) tree) 0) (cleared (roomFor (variablesOf rule) (countOf rule) c) ws) ws
 
--- "For a tree I hand in, yes or no agrees with the same meaning": where no refusal before the build applies, the strip holds the tree t of
--- an assignment, and v tells a judgement of t
+-- the strip holds the tree of an assignment, and v tells a judgement of the tree
+pub record JudgedTree (rule : List ℕ) (c : ℕ) (strip : List ℕ) (v : Judgement) : Type 0 where
+  pub tree : Tree 2
+  pub met : ℕ
+  pub rest : List ℕ
+  pub read : readTree strip ≡ parsed tree met rest
+  pub assigned : (A : Assignment 2) × TreeOf (variablesOf rule) A tree
+  pub judgement : Ruled
+  pub judges : Judges (variablesOf rule) (recordsOf rule) c tree judgement
+  pub told : v ≡ tell judgement
+
+-- "For a tree I hand in, yes or no agrees with the same meaning", where no refusal before the build applies
 pub record JudgeClaim (rule : List ℕ) (c room : ℕ) (strip : List ℕ) (v : Judgement) : Type 0 where
-  pub judged : refusalBefore rule c room strip ≡ 0
-      → (t : Tree 2) × (met : ℕ) × (rest : List ℕ) × (readTree strip ≡ parsed t met rest)
-      × ((A : Assignment 2) × TreeOf (variablesOf rule) A t)
-      × ((j : Ruled) × Judges (variablesOf rule) (recordsOf rule) c t j × (v ≡ tell j))
+  pub judged : refusalBefore rule c room strip ≡ 0 → JudgedTree rule c strip v

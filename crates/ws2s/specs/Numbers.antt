@@ -42,9 +42,13 @@ verdictNumbers (verdict.Refused k) = record { kind = 3; refusal = k; recordnumbe
 verdictNumbers (verdict.TooManyStates r) = record { kind = 3; refusal = 14; recordnumber = r; positions = 0; states = 0; length = 0 }
 
 -- the numbers are those of a judgement that meets judge's claim
-abbrev pub JudgedInNumbers : List ℕ → ℕ → ℕ → List ℕ → JudgementNumbers → Type 0
-JudgedInNumbers rule c room tree r = (j : Judgement) × JudgeClaim rule c room tree j × (r ≡ judgementNumbers j)
+pub record JudgedInNumbers (rule : List ℕ) (c room : ℕ) (tree : List ℕ) (r : JudgementNumbers) : Type 0 where
+  pub answer : Judgement
+  pub claim : JudgeClaim rule c room tree answer
+  pub numbers : r ≡ judgementNumbers answer
 
 -- the numbers are those of a verdict that meets demands 2 and 3
-abbrev pub DecidedInNumbers : List ℕ → ℕ → ℕ → ℕ → ℕ → VerdictNumbers → List ℕ → Type 0
-DecidedInNumbers rule c P room outRoom r out = (v : Verdict) × Claim rule c P room outRoom v out × (r ≡ verdictNumbers v)
+pub record DecidedInNumbers (rule : List ℕ) (c P room outRoom : ℕ) (r : VerdictNumbers) (out : List ℕ) : Type 0 where
+  pub answer : Verdict
+  pub claim : Claim rule c P room outRoom answer out
+  pub numbers : r ≡ verdictNumbers answer

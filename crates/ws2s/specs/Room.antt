@@ -1,5 +1,5 @@
 -- The room refusals and the workspace's end: document 01, "Decide" and "Judge". Assumes nothing.
-use Prim.Native.Nat.{ℕ, _*_, _^_}
+use Prim.Native.Nat.{ℕ, _*_, _^_, _≤_}
 use mathlib.Core.Bool.{not, _||_}
 use mathlib.Core.List.{List, _++_}
 use lib.Dec.{ltb}
@@ -26,3 +26,9 @@ roomRefusal n m c P room outRoom =
 -- "the workspace bytes that 12 asks for are zero and later ones unchanged"
 abbrev pub cleared : ℕ → List ℕ → List ℕ
 cleared need ws = replicate need 0 ++ drop need ws
+
+-- neither 11 for c nor 12 applies
+pub record Roomy (n m c room : ℕ) : Type 0 where
+  pub some-state : 1 ≤ c
+  pub few-states : c ≤ 64
+  pub long : roomFor n m c ≤ room

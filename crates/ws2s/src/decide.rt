@@ -1,10 +1,10 @@
 // Decide: from the bytes of a rule strip to the bytes in out.
 ghost use mathlib.Core.Path.{_≡_};
-ghost use Prim.Native.Nat.{_<_, _≤_};
+ghost use Prim.Native.Nat.{_≤_};
 ghost use lib.ListN.{length};
 ghost use Rattle.solver.specs.Solve.{outcomeOf, Ranked};
-ghost use Rattle.strip.specs.RuleStrip.{variablesOf, countOf, ruleRefusal};
-ghost use Rattle.ws2s.specs.Room.{roomFor, cleared, roomRefusal};
+ghost use Rattle.strip.specs.RuleStrip.{AcceptedRule};
+ghost use Rattle.ws2s.specs.Room.{roomFor, cleared, roomRefusal, Roomy};
 ghost use Rattle.ws2s.specs.Decide.{decidedOf, tell, outAfter, Spacious, verdictOf, workspaceOf, outOf, Claim};
 use crate::decode::decode;
 use machine::records::Ending;
@@ -46,8 +46,9 @@ fn room_refusal(n: usize, m: usize, c: u64, p: u64, room: usize, outroom: usize)
 
 // Build and search over the strip's own records; the workspace is cleared behind them.
 fn solve_rule(rule: &[u8], n: usize, m: usize, c: usize, p: u64, ws: &mut [u8]) -> Solution
-    requires { ⌜ (ruleRefusal (now rule) ≡ 0) × (n ≡ variablesOf (now rule)) × (m ≡ countOf (now rule)) ⌝ }
-    requires { ⌜ (1 ≤ c) × (c ≤ 64) × (p ≤ 255) × (roomFor n m c ≤ length (now ws)) ⌝ }
+    requires { ⌜ AcceptedRule (now rule) n m ⌝ }
+    requires { ⌜ Roomy n m c (length (now ws)) ⌝ }
+    requires { ⌜ p ≤ 255 ⌝ }
     ensures { λ r. ⌜ (outcomeOf r ≡ decidedOf (now (rule .entry)) c p) × Ranked r ⌝ }
     ensures { λ r. ⌜ now (ws .exit) ≡ cleared (roomFor n m c) (now (ws .entry)) ⌝ }
 {
@@ -110,7 +111,7 @@ fn decide_accepted(
     ws: &mut [u8],
     out: &mut [u8],
 ) -> Verdict
-    requires { ⌜ (ruleRefusal (now rule) ≡ 0) × (n ≡ variablesOf (now rule)) × (m ≡ countOf (now rule)) ⌝ }
+    requires { ⌜ AcceptedRule (now rule) n m ⌝ }
     ensures { λ r. ⌜ r ≡ verdictOf (now (rule .entry)) c p (length (now (ws .entry))) (length (now (out .entry))) ⌝ }
     ensures { λ _. ⌜ now (ws .exit) ≡ workspaceOf (now (rule .entry)) c p (now (ws .entry)) (length (now (out .entry))) ⌝ }
     ensures { λ _. ⌜ now (out .exit) ≡ outOf (now (rule .entry)) c p (length (now (ws .entry))) (now (out .entry)) ⌝ }

@@ -2,7 +2,7 @@
 ghost use mathlib.Core.Path.{_≡_};
 ghost use Prim.Native.Nat.{_<_, _≤_};
 ghost use Rattle.refinement.specs.Decode.{weight, kindAt, decodedOf};
-ghost use Rattle.strip.specs.RuleStrip.{variablesOf, countOf, ruleRefusal};
+ghost use Rattle.strip.specs.RuleStrip.{AcceptedRule};
 ghost use Rattle.ws2s.specs.Decoding.{DecodesTo};
 use machine::explore::Kind;
 use machine::records::Decoded;
@@ -64,7 +64,7 @@ fn decoded(n: usize, op: usize, first: usize, second: usize) -> Decoded
 
 // All records of the strip; entries past them are of no account. The strip is accepted, so no record is refused here.
 pub fn decode(s: &[u8], n: usize, m: usize) -> [Decoded; 128]
-    requires { ⌜ (ruleRefusal (now s) ≡ 0) × (n ≡ variablesOf (now s)) × (m ≡ countOf (now s)) ⌝ }
+    requires { ⌜ AcceptedRule (now s) n m ⌝ }
     ensures { λ r. ⌜ DecodesTo (now (s .entry)) m r ⌝ }
 {
     let mut records = [decoded(0, 0, 0, 0); 128];

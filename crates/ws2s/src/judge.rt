@@ -1,10 +1,9 @@
 // Judge: whether the sets of a tree satisfy a rule.
 ghost use mathlib.Core.Path.{_≡_};
-ghost use Prim.Native.Nat.{_<_, _≤_};
 ghost use lib.ListN.{length};
 ghost use Rattle.solver.specs.Solve.{judgementOf};
-ghost use Rattle.strip.specs.RuleStrip.{variablesOf, countOf, ruleRefusal};
-ghost use Rattle.ws2s.specs.Room.{roomFor, cleared};
+ghost use Rattle.strip.specs.RuleStrip.{AcceptedRule};
+ghost use Rattle.ws2s.specs.Room.{roomFor, cleared, Roomy};
 ghost use Rattle.ws2s.specs.Judge.{Readable, judgedOf, tell, judgementFor, workspaceFor, JudgeClaim};
 use crate::decode::decode;
 use machine::records::Ending;
@@ -39,8 +38,8 @@ fn ruled(v: Ruling) -> Judgement
 
 // Build over the strip's own records, and the last record's machine run on the tree; the workspace is cleared behind them.
 fn judge_rule(rule: &[u8], n: usize, m: usize, c: usize, ws: &mut [u8], tree: &[u8]) -> Ruling
-    requires { ⌜ (ruleRefusal (now rule) ≡ 0) × (n ≡ variablesOf (now rule)) × (m ≡ countOf (now rule)) ⌝ }
-    requires { ⌜ (1 ≤ c) × (c ≤ 64) × (roomFor n m c ≤ length (now ws)) ⌝ }
+    requires { ⌜ AcceptedRule (now rule) n m ⌝ }
+    requires { ⌜ Roomy n m c (length (now ws)) ⌝ }
     requires { ⌜ Readable (now tree) n ⌝ }
     ensures { λ r. ⌜ judgementOf r ≡ judgedOf (now (rule .entry)) c (now (tree .entry)) ⌝ }
     ensures { λ _. ⌜ now (ws .exit) ≡ cleared (roomFor n m c) (now (ws .entry)) ⌝ }
@@ -53,7 +52,7 @@ fn judge_rule(rule: &[u8], n: usize, m: usize, c: usize, ws: &mut [u8], tree: &[
 
 // Judge, of an accepted rule strip of m records over n variables.
 fn judge_accepted(rule: &[u8], n: usize, m: usize, c: u64, ws: &mut [u8], tree: &[u8]) -> Judgement
-    requires { ⌜ (ruleRefusal (now rule) ≡ 0) × (n ≡ variablesOf (now rule)) × (m ≡ countOf (now rule)) ⌝ }
+    requires { ⌜ AcceptedRule (now rule) n m ⌝ }
     ensures { λ r. ⌜ r ≡ judgementFor (now (rule .entry)) c (length (now (ws .entry))) (now (tree .entry)) ⌝ }
     ensures { λ _. ⌜ now (ws .exit) ≡ workspaceFor (now (rule .entry)) c (now (ws .entry)) (now (tree .entry)) ⌝ }
 {

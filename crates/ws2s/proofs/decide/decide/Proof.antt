@@ -5,28 +5,25 @@ use Rattle.ws2s.proofs.Verdicts.{ends-refused, claim}
 use borrow.Author.Needs.{needs}
 use Rattle.ws2s.proofs.decide.decide.Statement.{statement}
 use Rattle.ws2s.proofs.decide.decide.Tie as tie
-use Rattle.ws2s.proofs.decide.decide.Reads as reads
-use Rattle.ws2s.proofs.decide.decide.Lts as lts
-use Rattle.strip.proofs.rule.check_rule.Reads as check-rule-reads
-use Rattle.ws2s.proofs.decide.decide_accepted.Reads as decide-accepted-reads
 
 decide-accepted-requires : tie.Need-decide-accepted-requires
 decide-accepted-requires c κs =
     let a = c .before .before .before .before .before .before .before .before .before .args in
-    checked-accepted (a .rule .now) _ _ (sym (c .before .before .before .before .before .check-rule .ensures) ∙ c .before .before .before .variables .given .1)
+    checked-accepted (a .rule .now) _ _
+    (sym (c .before .before .before .before .before .check-rule .ensures) ∙ c .before .before .before .variables .given .1)
 
 returns : tie.Need-returns
 returns c =
     let a = c .before .before .before .before .before .before .before .args in
     let w = checked-refused (a .rule .now) _ (sym (c .before .before .before .check-rule .ensures) ∙ c .before .k .given .1) in
     let e = ends-refused (a .rule .now) (a .c) (a .p) (a .ws .now) (a .out .now) _ (w .0) (w .1) in
-    (e .0, (e .1, (e .2, claim (a .rule .now) (a .c) (a .p) (a .ws .now) (a .out .now) _ (e .0) _ (e .2))))
+    (e .0, (e .1 .0, (e .1 .1, claim (a .rule .now) (a .c) (a .p) (a .ws .now) (a .out .now) (e .0) (e .1 .1))))
 
 returns-2 : tie.Need-returns-2
 returns-2 c =
     let a = c .before .before .before .before .before .before .before .before .before .before .before .before .before .before .args in
     let e = c .before .before .before .before .decide-accepted .ensures in
-    (e .0, (e .1 .0, (e .1 .1, claim (a .rule .now) (a .c) (a .p) (a .ws .now) (a .out .now) _ (e .0) _ (e .1 .1))))
+    (e .0, (e .1 .0, (e .1 .1, claim (a .rule .now) (a .c) (a .p) (a .ws .now) (a .out .now) (e .0) (e .1 .1))))
 
 pub decide-spec : {M : Type 1} → statement M
 decide-spec =

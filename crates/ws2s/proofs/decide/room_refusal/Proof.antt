@@ -4,10 +4,6 @@ use Rattle.ws2s.proofs.Rooms.{room-places, room-work, room-short, room-
 use borrow.Author.Needs.{needs}
 use Rattle.ws2s.proofs.decide.room_refusal.Statement.{statement}
 use Rattle.ws2s.proofs.decide.room_refusal.Tie as tie
-use Rattle.ws2s.proofs.decide.room_refusal.Reads as reads
-use Rattle.ws2s.proofs.decide.room_refusal.Lts as lts
-use Rattle.ws2s.proofs.room.strip_bytes.Reads as strip-bytes-reads
-use Rattle.ws2s.proofs.room.work_refusal.Reads as work-refusal-reads
 
 returns : tie.Need-returns
 returns c = room-places _ _ _ _ _ _ (c .if1 .taken)
@@ -16,10 +12,12 @@ returns-2 : tie.Need-returns-2
 returns-2 c = room-work _ _ _ _ _ _ (search needs) _ (c .before .work-refusal .ensures) (c .if2 .taken)
 
 returns-3 : tie.Need-returns-3
-returns-3 c = room-short _ _ _ _ _ _ (search needs) _ (c .before .before .before .work-refusal .ensures) (search needs) (omega (arith, c .before .strip-bytes .ensures, c .if3 .taken))
+returns-3 c = room-short _ _ _ _ _ _ (search needs) _ (c .before .before .before .work-refusal .ensures) (search needs)
+    (omega arith)
 
 returns-4 : tie.Need-returns-4
-returns-4 c = room-fits _ _ _ _ _ _ (search needs) _ (c .before .before .before .work-refusal .ensures) (search needs) (omega (arith, c .before .strip-bytes .ensures, c .if3 .left))
+returns-4 c = room-fits _ _ _ _ _ _ (search needs) _ (c .before .before .before .work-refusal .ensures) (search needs)
+    (omega arith)
 
 pub room-refusal-spec : {M : Type 1} → statement M
 room-refusal-spec =

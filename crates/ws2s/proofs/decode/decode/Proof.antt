@@ -14,7 +14,7 @@ abbrev μ-loop : tie.MeasureT-loop
 μ-loop s n m records₀ at₀ i₀ records at i = m - i
 
 loop-holds : tie.Need-loop-holds Inv-loop μ-loop
-loop-holds c = decoding-first _ _ _ (c .before .before .pre .0) (c .before .before .pre .1) (c .before .before .pre .2) _ refl
+loop-holds c = decoding-first (c .before .before .pre) _ refl
 
 decoded-requires-2 : tie.Need-decoded-requires-2 Inv-loop μ-loop
 decoded-requires-2 c κs =
@@ -25,12 +25,10 @@ loop-again : tie.Need-loop-again Inv-loop μ-loop
 loop-again c =
     let b = c .before .before .before in
     let a = b .before .before .before in
-    decoding-next _ _ _ (a .pre .0) (a .pre .1) (a .pre .2) _ _ _ (b .loop .inv) (search needs) _ (c .before .fields-at .ensures) _ (c .decoded2 .ensures)
+    decoding-next (a .pre) (b .loop .inv) (search needs) (c .before .fields-at .ensures) (c .decoded2 .ensures)
 
 returns : tie.Need-returns Inv-loop μ-loop
-returns c =
-    let a = c .before .before .before .before in
-    decoding-last _ _ _ (a .pre .0) (a .pre .1) (a .pre .2) _ _ _ (c .before .loop .inv) (search needs)
+returns c = decoding-last (c .before .loop .inv) (search needs)
 
 pub decode-spec : {M : Type 1} → statement M
 decode-spec =

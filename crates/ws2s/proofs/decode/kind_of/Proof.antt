@@ -6,8 +6,6 @@ use Rattle.refinement.specs.Decode.{kindAt}
 use borrow.Author.Needs.{needs}
 use Rattle.ws2s.proofs.decode.kind_of.Statement.{statement}
 use Rattle.ws2s.proofs.decode.kind_of.Tie as tie
-use Rattle.ws2s.proofs.decode.kind_of.Reads as reads
-use Rattle.ws2s.proofs.decode.kind_of.Lts as lts
 
 -- the ops that have no arm of their own
 other : (op : ℕ) → (op ≡ 1 → ⊥) → (op ≡ 2 → ⊥) → (op ≡ 3 → ⊥) → (op ≡ 4 → ⊥) → (op ≡ 5 → ⊥) → (op ≡ 6 → ⊥) → (op ≡ 7 → ⊥) → (op ≡ 8 → ⊥) → Subset ≡ kindAt op

@@ -3,8 +3,6 @@ use mathlib.Core.Path.{refl}
 use borrow.Author.Needs.{needs}
 use Rattle.ws2s.proofs.exports.rule_numbers.Statement.{statement}
 use Rattle.ws2s.proofs.exports.rule_numbers.Tie as tie
-use Rattle.ws2s.proofs.exports.rule_numbers.Reads as reads
-use Rattle.ws2s.proofs.exports.rule_numbers.Lts as lts
 
 returns : tie.Need-returns
 returns c = rw (c .before .r .given .1) refl

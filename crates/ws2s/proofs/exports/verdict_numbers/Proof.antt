@@ -3,9 +3,6 @@ use mathlib.Core.Path.{refl, _∙_}
 use borrow.Author.Needs.{needs}
 use Rattle.ws2s.proofs.exports.verdict_numbers.Statement.{statement}
 use Rattle.ws2s.proofs.exports.verdict_numbers.Tie as tie
-use Rattle.ws2s.proofs.exports.verdict_numbers.Reads as reads
-use Rattle.ws2s.proofs.exports.verdict_numbers.Lts as lts
-use Rattle.ws2s.proofs.exports.plain.Reads as plain-reads
 
 returns : tie.Need-returns
 returns c = rw (c .before .v .given .1) refl

@@ -4,10 +4,6 @@ use Rattle.ws2s.specs.Numbers.{ruleNumbers}
 use borrow.Author.Needs.{needs}
 use Rattle.ws2s.proofs.exports.ws2s_check_rule.Statement.{statement}
 use Rattle.ws2s.proofs.exports.ws2s_check_rule.Tie as tie
-use Rattle.ws2s.proofs.exports.ws2s_check_rule.Reads as reads
-use Rattle.ws2s.proofs.exports.ws2s_check_rule.Lts as lts
-use Rattle.strip.proofs.rule.check_rule.Reads as check-rule-reads
-use Rattle.ws2s.proofs.exports.rule_numbers.Reads as rule-numbers-reads
 
 returns : tie.Need-returns
 returns c = c .rule-numbers .ensures ∙ ap ruleNumbers (c .before .check-rule .ensures)

@@ -4,10 +4,6 @@ use Rattle.ws2s.specs.Numbers.{treeNumbers}
 use borrow.Author.Needs.{needs}
 use Rattle.ws2s.proofs.exports.ws2s_check_tree.Statement.{statement}
 use Rattle.ws2s.proofs.exports.ws2s_check_tree.Tie as tie
-use Rattle.ws2s.proofs.exports.ws2s_check_tree.Reads as reads
-use Rattle.ws2s.proofs.exports.ws2s_check_tree.Lts as lts
-use Rattle.strip.proofs.tree.check_tree.Reads as check-tree-reads
-use Rattle.ws2s.proofs.exports.tree_numbers.Reads as tree-numbers-reads
 
 returns : tie.Need-returns
 returns c = c .tree-numbers .ensures ∙ ap treeNumbers (c .before .check-tree .ensures)

@@ -4,17 +4,13 @@ use Rattle.ws2s.specs.Numbers.{verdictNumbers}
 use borrow.Author.Needs.{needs}
 use Rattle.ws2s.proofs.exports.ws2s_decide.Statement.{statement}
 use Rattle.ws2s.proofs.exports.ws2s_decide.Tie as tie
-use Rattle.ws2s.proofs.exports.ws2s_decide.Reads as reads
-use Rattle.ws2s.proofs.exports.ws2s_decide.Lts as lts
-use Rattle.ws2s.proofs.decide.decide.Reads as decide-reads
-use Rattle.ws2s.proofs.exports.verdict_numbers.Reads as verdict-numbers-reads
 
 returns : tie.Need-returns
 returns c =
     let d = c .before .before .before .before .before .decide in
     let e = d .ensures in
     let n = c .verdict-numbers .ensures in
-    (n ∙ ap verdictNumbers (e .0), (e .1 .0, (e .1 .1 .0, (d .result, e .1 .1 .1, n))))
+    (n ∙ ap verdictNumbers (e .0), (e .1 .0, (e .1 .1 .0, record { answer = d .result; claim = e .1 .1 .1; numbers = n })))
 
 pub ws2s-decide-spec : {M : Type 1} → statement M
 ws2s-decide-spec =

@@ -5,10 +5,6 @@ use Rattle.ws2s.proofs.Judging.{ends-refused, claim}
 use borrow.Author.Needs.{needs}
 use Rattle.ws2s.proofs.judge.judge.Statement.{statement}
 use Rattle.ws2s.proofs.judge.judge.Tie as tie
-use Rattle.ws2s.proofs.judge.judge.Reads as reads
-use Rattle.ws2s.proofs.judge.judge.Lts as lts
-use Rattle.strip.proofs.rule.check_rule.Reads as check-rule-reads
-use Rattle.ws2s.proofs.judge.judge_accepted.Reads as judge-accepted-reads
 
 judge-accepted-requires : tie.Need-judge-accepted-requires
 judge-accepted-requires c κs =
@@ -20,13 +16,13 @@ returns c =
     let a = c .before .before .before .before .before .before .before .args in
     let w = checked-refused (a .rule .now) _ (sym (c .before .before .before .check-rule .ensures) ∙ c .before .k .given .1) in
     let e = ends-refused (a .rule .now) (a .c) (a .ws .now) (a .tree .now) _ (w .0) (w .1) in
-    (e .0, (e .1, claim (a .rule .now) (a .c) (a .ws .now) (a .tree .now) _ (e .0)))
+    (e .0, (e .1, claim (a .rule .now) (a .c) (a .ws .now) (a .tree .now) (e .0)))
 
 returns-2 : tie.Need-returns-2
 returns-2 c =
     let a = c .before .before .before .before .before .before .before .before .before .before .before .args in
     let e = c .before .before .judge-accepted .ensures in
-    (e .0, (e .1, claim (a .rule .now) (a .c) (a .ws .now) (a .tree .now) _ (e .0)))
+    (e .0, (e .1, claim (a .rule .now) (a .c) (a .ws .now) (a .tree .now) (e .0)))
 
 pub judge-spec : {M : Type 1} → statement M
 judge-spec =

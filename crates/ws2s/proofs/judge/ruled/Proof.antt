@@ -3,8 +3,6 @@ use borrow.Author.Needs.{needs}
 use Rattle.ws2s.proofs.Judging.{ruled-over, ruled-yes, ruled-no}
 use Rattle.ws2s.proofs.judge.ruled.Statement.{statement}
 use Rattle.ws2s.proofs.judge.ruled.Tie as tie
-use Rattle.ws2s.proofs.judge.ruled.Reads as reads
-use Rattle.ws2s.proofs.judge.ruled.Lts as lts
 
 returns : tie.Need-returns
 returns c = ruled-yes (c .before .before .before .args .v) (c .before .enum-told .given .1) (c .if1 .taken)

@@ -5,8 +5,6 @@ use Rattle.ws2s.proofs.Rooms.{row-few, share-few, room-few}
 use borrow.Author.Needs.{needs}
 use Rattle.ws2s.proofs.room.needed.Statement.{statement}
 use Rattle.ws2s.proofs.room.needed.Tie as tie
-use Rattle.ws2s.proofs.room.needed.Reads as reads
-use Rattle.ws2s.proofs.room.needed.Lts as lts
 
 mul-result : tie.Need-mul-result
 mul-result c =

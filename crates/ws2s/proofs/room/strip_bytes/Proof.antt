@@ -4,8 +4,6 @@ use Rattle.ws2s.proofs.Rooms.{strip-few}
 use borrow.Author.Needs.{needs}
 use Rattle.ws2s.proofs.room.strip_bytes.Statement.{statement}
 use Rattle.ws2s.proofs.room.strip_bytes.Tie as tie
-use Rattle.ws2s.proofs.room.strip_bytes.Reads as reads
-use Rattle.ws2s.proofs.room.strip_bytes.Lts as lts
 
 mul-result : tie.Need-mul-result
 mul-result c = record { fits = omega (arith, strip-few (c .args .n) (c .args .p) (c .pre .0) (c .pre .1)) }

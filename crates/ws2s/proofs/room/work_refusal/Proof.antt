@@ -4,9 +4,6 @@ use Rattle.ws2s.proofs.Rooms.{work-none, work-many, work-short, work-fi
 use borrow.Author.Needs.{needs}
 use Rattle.ws2s.proofs.room.work_refusal.Statement.{statement}
 use Rattle.ws2s.proofs.room.work_refusal.Tie as tie
-use Rattle.ws2s.proofs.room.work_refusal.Reads as reads
-use Rattle.ws2s.proofs.room.work_refusal.Lts as lts
-use Rattle.ws2s.proofs.room.needed.Reads as needed-reads
 
 returns : tie.Need-returns
 returns c = work-none _ _ _ _ (c .if1 .taken)
@@ -15,10 +12,10 @@ returns-2 : tie.Need-returns-2
 returns-2 c = work-many _ _ _ _ (search needs) (c .if2 .taken)
 
 returns-3 : tie.Need-returns-3
-returns-3 c = work-short _ _ _ _ (search needs) (search needs) (omega (arith, c .before .needed .ensures .0, c .if3 .taken))
+returns-3 c = work-short _ _ _ _ (search needs) (search needs) (omega arith)
 
 returns-4 : tie.Need-returns-4
-returns-4 c = work-fits _ _ _ _ (search needs) (search needs) (omega (arith, c .before .needed .ensures .0, c .if3 .left))
+returns-4 c = work-fits _ _ _ _ (search needs) (search needs) (omega arith)
 
 pub work-refusal-spec : {M : Type 1} → statement M
 work-refusal-spec = tie.close (tie.spec returns returns-2 (λ c κs. search needs) returns-3 returns-4)
