@@ -40,7 +40,11 @@ outputs =
     ∷ []
 
 pub outputs-right : map verdictLine inputs ≡ outputs
-unfolding verdictLine inputs outputs lineOf decimal hex bits anySet recordAt recordsFrom recordsOf firstUse secondUse recordRefusal recordsRefusal ruleRefusal roomRefusal earlyRefusal tell outAfter verdictOf outOf low bit downFrom allOf anyOf sumOf positions successorAt kindOf setLow withBit run elem below flat select outcomes successors add closure reach position numbered wordOf members projection table codedProduct build productTable projectionTable complementTable tableOf admit buildAll settled view lighter choose consider loop tuples pick verdict next rounds anyBelow begin search report conclude decideOf digits pack treeBits treeStrip decLt
+unfolding verdictLine inputs outputs lineOf decimal hex bits anySet recordAt recordsFrom recordsOf firstUse secondUse recordRefusal recordsRefusal ruleRefusal
+    roomRefusal earlyRefusal tell outAfter verdictOf outOf low bit downFrom allOf anyOf sumOf positions successorAt kindOf setLow withBit run elem below
+    flat select outcomes successors add closure reach position numbered wordOf members projection table codedProduct build productTable projectionTable
+    complementTable tableOf admit buildAll settled view lighter choose consider loop tuples pick verdict next rounds anyBelow begin search report
+    conclude decideOf digits pack treeBits treeStrip decLt
 outputs-right = refl
 
 -- one verdict of each kind, over a buffer with a byte after the strip

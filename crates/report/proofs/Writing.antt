@@ -8,7 +8,7 @@ use native.Mathlib.Numerals.{add-one}
 use native.Mathlib.Omega.{arith}
 use borrow.Author.Tests.{lt-ltb, le-ltb}
 use lib.ListN.{length, set, take, drop, getD, length-append, length-set}
-use lib.Seq.{sets, length-sets, sets-eq, take-at, drop-cons, drop-length, length-take-le}
+use lib.Seq.{sets, length-sets, sets-eq, take-at, drop-cons, drop-length}
 use Rattle.report.specs.Text.{glyph, decimal, hex, Put}
 
 -- a text after another
@@ -28,10 +28,6 @@ then {a} {b} {c} {xs} {ys} {i} {j} {k} p q = record {
   line = q .line ∙ ap (λ (l : List ℕ). sets l j ys) (p .line) ∙ ap (λ (n : ℕ). sets (sets a i xs) n ys) (p .place) ∙ sets-append xs ys a i;
 }
 
--- what was written, up to the place after it, as a part of the line
-pub front : {a b xs : List ℕ} {i j : ℕ} → Put a i xs j b → j ≡ length (take j b)
-front {a} {b} {xs} {i} {j} p = sym (length-take-le j b (p .fits))
-
 -- a line keeps its length
 pub size : {a b xs : List ℕ} {i j : ℕ} → Put a i xs j b → length b ≡ length a
 size {a} {b} {xs} {i} p = ap length (p .line) ∙ length-sets a i xs
@@ -39,7 +35,7 @@ size {a} {b} {xs} {i} p = ap length (p .line) ∙ length-sets a i xs
 -- a text written at the front of a line is what stands there
 pub whole : {a b xs : List ℕ} {j : ℕ} → Put a 0 xs j b → take j b ≡ xs
 whole {a} {b} {xs} {j} p =
-    let n : j ≡ length xs = omega (arith, p .place) in
+    let n : j ≡ length xs = omega arith in
     let f : 0 + length xs ≤ length a = omega (arith, p .fits, p .place, size p) in
     rw (p .line, n, sets-eq xs a 0 f, take-at xs (drop (0 + length xs) a) (length xs) refl) refl
 
@@ -82,7 +78,8 @@ pub decimal-one : (l : List ℕ) (at d n g : ℕ) → at < length l → (d ≡ 0
 decimal-one l at zero n g f e h q = absurd (e refl)
 decimal-one l at (suc d) n g f e h q = rw (decimal-last d n h, ← q) (byte l at g f)
 
-pub decimal-more : (l l′ : List ℕ) (at d n next g : ℕ) → next < length l′ → (d ≡ 0 → ⊥) → 10 ≤ n → Put l at (decimal (d - 1) (n / 10)) next l′ → g ≡ glyph (n % 10)
+pub decimal-more : (l l′ : List ℕ) (at d n next g : ℕ) → next < length l′ → (d ≡ 0 → ⊥) → 10 ≤ n → Put l at (decimal (d - 1) (n / 10)) next l′
+    → g ≡ glyph (n % 10)
     → Put l at (decimal d n) (next + 1) (set l′ next g)
 decimal-more l l′ at zero n next g f e h p q = absurd (e refl)
 decimal-more l l′ at (suc d) n next g f e h p q =
@@ -107,4 +104,9 @@ pub hex-end : (l₀ l : List ℕ) (at next i : ℕ) (s : List ℕ) → length s 
 unfolding hex
 hex-end l₀ l at next i s p q f r e =
     let n : i ≡ length s = omega arith in
-    record { place = omega (arith, length-hex s); fits = f; line = sym (ap (λ (t : List ℕ). sets l next (hex t)) (ap (λ (k : ℕ). drop k s) n ∙ drop-length s)) ∙ e }
+    record {
+      place = omega (arith, length-hex s);
+      fits = f;
+      line = sym (ap (λ (t : List ℕ). sets l next (hex t)) (ap (λ (k : ℕ). drop k s) n ∙ drop-length s))
+          ∙ e;
+    }

@@ -1,4 +1,4 @@
 // The text of an answer: one line of ASCII for each verdict.
-pub mod text; // words, decimal numbers and hex, written at a place of a line
-pub mod line; // the line of a verdict
+mod text; // words, decimal numbers and hex, written at a place of a line
+mod line; // the line of a verdict
 pub mod program; // the verdict program, but for reading and writing

@@ -10,7 +10,7 @@ use crate::text::put_hex;
 use ws2s::decide::Verdict;
 
 // A word with a number after it.
-pub fn put_counted(line: &mut [u8], at: usize, word: &[u8], n: u64) -> usize
+fn put_counted(line: &mut [u8], at: usize, word: &[u8], n: u64) -> usize
     requires { ⌜ at + length (now word) + 20 ≤ length (now line) ⌝ }
     ensures { λ r. ⌜ Put (now (line .entry)) at (counted (now (word .entry)) n) r (now (line .exit)) ⌝ }
     ensures { λ r. ⌜ r ≤ at + length (now (word .entry)) + 20 ⌝ }
@@ -20,7 +20,7 @@ pub fn put_counted(line: &mut [u8], at: usize, word: &[u8], n: u64) -> usize
 }
 
 // A line of a word and a number.
-pub fn put_count(line: &mut [u8], word: &[u8], n: u64) -> usize
+fn put_count(line: &mut [u8], word: &[u8], n: u64) -> usize
     requires { ⌜ length (now word) + 21 ≤ length (now line) ⌝ }
     ensures { λ r. ⌜ Put (now (line .entry)) 0 (counted (now (word .entry)) n ++ lineEnd) r (now (line .exit)) ⌝ }
 {

@@ -7,15 +7,21 @@ use Rattle.report.proofs.line.put_front.Statement.{statement}
 use Rattle.report.proofs.line.put_front.Tie as tie
 
 slice-aggregate-put-shown : tie.Need-slice-aggregate-put-shown
-slice-aggregate-put-shown c = sym (length-take-le (c .before .before .before .before .before .args .size) (c .before .before .before .before .before .args .out .now) (search needs))
+slice-aggregate-put-shown c =
+    let a = c .before .before .before .before .before .args in
+    sym (length-take-le (a .size) (a .out .now) (search needs))
 
 put-shown-requires : tie.Need-put-shown-requires
 put-shown-requires c κs =
-    let e = length-take-le (c .before .before .before .before .before .args .size) (c .before .before .before .before .before .args .out .now) (search needs) in
-    omega (arith, e)
+    let a = c .before .before .before .before .before .args in
+    let e = length-take-le (a .size) (a .out .now) (search needs) in
+    omega arith
 
 returns-2 : tie.Need-returns-2
-returns-2 c = rw (take-all (c .before .before .before .before .before .before .before .args .size) (c .before .before .before .before .before .before .before .args .out .now) (c .before .before .before .before .if1 .left)) (c .before .before .put-shown2 .ensures)
+returns-2 c =
+    let b = c .before .before .before .before in
+    let a = b .before .before .before .args in
+    rw (take-all (a .size) (a .out .now) (b .if1 .left)) (c .before .before .put-shown2 .ensures)
 
 pub put-front-spec : {M : Type 1} → statement M
 put-front-spec =

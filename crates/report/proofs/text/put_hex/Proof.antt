@@ -11,7 +11,8 @@ use Rattle.report.proofs.text.put_hex.Statement.{statement}
 use Rattle.report.proofs.text.put_hex.Tie as tie
 
 abbrev Inv-loop : tie.InvT-loop
-Inv-loop line₀ at s next₀ i₀ line next i = (i ≤ length s) × (next ≡ at + 2 * i) × (length line ≡ length line₀) × (sets line next (hex (drop i s)) ≡ sets line₀ at (hex s))
+Inv-loop line₀ at s next₀ i₀ line next i =
+    (i ≤ length s) × (next ≡ at + 2 * i) × (length line ≡ length line₀) × (sets line next (hex (drop i s)) ≡ sets line₀ at (hex s))
 
 abbrev μ-loop : tie.MeasureT-loop
 μ-loop line₀ at s next₀ i₀ line next i = length s - i
@@ -29,7 +30,8 @@ loop-again c =
       omega arith,
       omega arith,
       simp length-set (h .inv .2),
-      hex-turn (h .line) (h .next) (h .i) _ _ _ (a .s .now) (search needs) (c .before .before .wide .ensures) (c .before .glyph .ensures) (c .glyph2 .ensures) ∙ h .inv .3,
+      hex-turn (h .line) (h .next) (h .i) _ _ _ (a .s .now) (search needs) (c .before .before .wide .ensures) (c .before .glyph .ensures) (c .glyph2 .ensures)
+          ∙ h .inv .3,
     )
 
 returns : tie.Need-returns Inv-loop μ-loop
