@@ -2,7 +2,7 @@
 -- before the rest. Assumes nothing.
 use mathlib.Core.Path.{_≡_, refl, sym, ap, _∙_}
 use mathlib.Core.Logic.{_⊎_, inl, inr, ⊎-elim}
-use mathlib.Core.Bool.{Bool, true, false, not, _&&_, _||_, true≢false}
+use mathlib.Core.Bool.{Bool, true, false, not, _&&_, _||_, true≢false, cond}
 use mathlib.Core.List.{List, [], _∷_}
 use Prim.Native.Nat.{ℕ, zero, suc, _+_, _-_, _*_, _≤_, _<_}
 use native.Mathlib.Nat.{not-suc-le-zero, le-of-suc-le-suc}
@@ -14,7 +14,7 @@ use lib.Seq.{drop-cons}
 use borrow.Author.Tests.{lt-leb, leb-true, eqb-true, ne-eqb, not-false}
 use Rattle.logic.specs.Rule.{Record as RuleRecord}
 use Rattle.strip.specs.Bits.{bits, anySet}
-use Rattle.strip.specs.RuleStrip.{orElse, between, versionOf, variablesOf, countOf, recordAt, recordsFrom, recordsOf, ruleBytes, firstUse, secondUse}
+use Rattle.strip.specs.RuleStrip.{between, versionOf, variablesOf, countOf, recordAt, recordsFrom, recordsOf, ruleBytes, firstUse, secondUse}
 use Rattle.strip.specs.RuleStrip.{badVariable, badEarlier, badUnused, recordRefusal, recordsRefusal, ruleRefusal}
 use Rattle.strip.specs.RuleAnswers.{useRefusal, fieldRefusal, fieldsOf, recordOr, readRecord, readRecords, headRefusal, checkedRule}
 use Rattle.strip.specs.declared.rule.Fields.{Fields}
@@ -34,18 +34,18 @@ entry-there (u ∷ us) (suc op) d e h = entry-there us op d e (le-of-suc-le-suc 
 
 -- the first number, where it is not 0, else the second
 abbrev pub firstOf : ℕ → ℕ → ℕ
-firstOf k l = orElse (eqb k 0) l k
+firstOf k l = cond (eqb k 0) l k
 
 -- the refusals of two fields, in order: the three tests of `recordRefusal`
 abbrev ladder : Bool → Bool → Bool → ℕ
-ladder v e u = orElse v 8 (orElse e 9 (orElse u 10 0))
+ladder v e u = cond v 8 (cond e 9 (cond u 10 0))
 
 above-zero : (v : ℕ) → not (eqb v 0) ≡ leb 1 v
 above-zero zero = refl
 above-zero (suc v) = rw (eqb·suc-zero, leb·suc-suc, leb·zero) refl
 
 -- a ladder whose first test p gives the number suc k, and which is x where p fails
-test-first : (k : ℕ) (p : Bool) (f : Bool → ℕ) (x : ℕ) → f true ≡ suc k → f false ≡ x → f p ≡ firstOf (orElse p (suc k) 0) x
+test-first : (k : ℕ) (p : Bool) (f : Bool → ℕ) (x : ℕ) → f true ≡ suc k → f false ≡ x → f p ≡ firstOf (cond p (suc k) 0) x
 test-first k true f x h m = rw eqb·suc-zero h
 test-first k false f x h m = m
 
@@ -86,9 +86,9 @@ ordered (suc (suc (suc (suc (suc (suc (suc (suc (suc op))))))))) = lit≤ tt
 -- a record's refusal is that of its first field, else that of its second
 pub record-split : (n i op a b : ℕ)
     → recordRefusal n i (record { op = op; first = a; second = b })
-    ≡ orElse (leb 9 op) 7 (firstOf (fieldRefusal n i (firstUse op) a) (fieldRefusal n i (secondUse op) b))
+    ≡ cond (leb 9 op) 7 (firstOf (fieldRefusal n i (firstUse op) a) (fieldRefusal n i (secondUse op) b))
 unfolding recordRefusal
-record-split n i op a b = ap (orElse (leb 9 op) 7) (two-fields n i a b (firstUse op) (secondUse op) (ordered op))
+record-split n i op a b = ap (cond (leb 9 op) 7) (two-fields n i a b (firstUse op) (secondUse op) (ordered op))
 
 module _ (n i op a b : ℕ) (h : op < 9) (use₁ : Use) (u : use₁ ≡ firstUse op) (k : ℕ) (q : k ≡ fieldRefusal n i use₁ a) where
   pub record-first : (k ≡ 0 → ⊥) → k ≡ recordRefusal n i (record { op = op; first = a; second = b })
@@ -101,7 +101,7 @@ module _ (n i op a b : ℕ) (h : op < 9) (use₁ : Use) (u : use₁ ≡ firstUse
 -- ---- one turn of each loop
 
 -- a number is 0 or not, and picks accordingly
-pub zero-or : {A : Type 0} (k : ℕ) (a b : A) → ((k ≡ 0) × (orElse (eqb k 0) a b ≡ a)) ⊎ ((k ≡ 0 → ⊥) × (orElse (eqb k 0) a b ≡ b))
+pub zero-or : {A : Type 0} (k : ℕ) (a b : A) → ((k ≡ 0) × (cond (eqb k 0) a b ≡ a)) ⊎ ((k ≡ 0 → ⊥) × (cond (eqb k 0) a b ≡ b))
 zero-or zero a b = inl (refl, refl)
 zero-or (suc k) a b = inr (λ e. omega arith, rw eqb·suc-zero refl)
 
@@ -240,7 +240,7 @@ in-range low high v e = go (leb low v) (leb v high) refl refl e
 
 -- five tests in order, and x after them
 abbrev tests : Bool → Bool → Bool → Bool → Bool → ℕ → ℕ
-tests a b c d e x = orElse a 1 (orElse b 2 (orElse c 3 (orElse d 4 (orElse e 5 x))))
+tests a b c d e x = cond a 1 (cond b 2 (cond c 3 (cond d 4 (cond e 5 x))))
 
 tests-first : (a b c d e : Bool) (x : ℕ) → tests a b c d e x ≡ firstOf (tests a b c d e 0) x
 tests-first true b c d e x = refl
@@ -260,7 +260,7 @@ tests-passed false false false false false h = (refl, refl, refl, refl)
 
 -- the refusals 6 to 10, or 0
 abbrev pub bodyRefusal : List ℕ → ℕ
-bodyRefusal s = orElse (anySet (drop (16 + 18 * countOf s) (bits s))) 6 (recordsRefusal (variablesOf s) 0 (recordsOf s))
+bodyRefusal s = cond (anySet (drop (16 + 18 * countOf s) (bits s))) 6 (recordsRefusal (variablesOf s) 0 (recordsOf s))
 
 module _ (s : List ℕ) where
   abbrev pub short : Bool
@@ -336,7 +336,7 @@ module _ (s : List ℕ) where
   -- the head is good; n, m and the padding's test t are read
   module _ (h : headRefusal s ≡ 0) (n m : ℕ) (p : n ≡ variablesOf s) (q : m ≡ countOf s)
       (t : Bool) (e : t ≡ anySet (drop (16 + 18 * m) (bits s))) where
-    body : ruleRefusal s ≡ orElse t 6 (recordsRefusal n 0 (recordsFrom s 16 m))
+    body : ruleRefusal s ≡ cond t 6 (recordsRefusal n 0 (recordsFrom s 16 m))
     unfolding recordsOf
     body = rule-split ∙ rw (h, e, p, q) refl
 

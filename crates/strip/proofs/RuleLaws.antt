@@ -1,7 +1,7 @@
 -- What an accepted rule strip gives: its head and its records. Assumes nothing.
 use mathlib.Core.Path.{_≡_, refl, sym, ap, _∙_}
 use mathlib.Core.Logic.{_↔_, _⊎_, ⊎-elim}
-use mathlib.Core.Bool.{Bool, true, false, _&&_}
+use mathlib.Core.Bool.{Bool, true, false, _&&_, cond}
 use mathlib.Core.List.{List, [], _∷_}
 use Prim.Native.Nat.{ℕ, zero, suc, _+_, _-_, _*_, _/_, _%_, _^_, _≤_, _<_}
 use native.Mathlib.Decide.{decLt}
@@ -14,7 +14,7 @@ use lib.Seq.{getD-drop}
 use borrow.Author.Tests.{lt-leb, leb-false, le-ltb}
 use Rattle.logic.specs.Rule.{Record, noRecord, good, goodFrom, Accepted}
 use Rattle.strip.specs.Bits.{bits, number, field, anySet}
-use Rattle.strip.specs.RuleStrip.{orElse, variablesOf, countOf, recordAt, recordsFrom, recordsOf, ruleBytes, firstUse, secondUse, recordRefusal}
+use Rattle.strip.specs.RuleStrip.{variablesOf, countOf, recordAt, recordsFrom, recordsOf, ruleBytes, firstUse, secondUse, recordRefusal}
 use Rattle.strip.specs.RuleStrip.{recordsRefusal, ruleRefusal, AcceptedRule}
 use Rattle.strip.specs.RuleAnswers.{limitOf, fieldRefusal, headRefusal, checkedRule}
 use Rattle.strip.specs.declared.rule.Use.{Use}
@@ -33,7 +33,7 @@ pub record RecordFacts (n i : ℕ) (r : Record) : Type 0 where
   pub second-below : r .second < limitOf n i (secondUse (r .op))
 
 -- a test that gives no refusal was not met
-passed : (t : Bool) (k x : ℕ) → orElse t (suc k) x ≡ 0 → (t ≡ false) × (x ≡ 0)
+passed : (t : Bool) (k x : ℕ) → cond t (suc k) x ≡ 0 → (t ≡ false) × (x ≡ 0)
 passed true k x e = absurd (omega arith)
 passed false k x e = (refl, e)
 

@@ -1,7 +1,7 @@
 -- The tree at a bit place of a strip, by what stands there: each step of the reader. Assumes nothing.
 use Prim.Native.Nat.{ℕ, zero, suc, _+_, _-_, _*_, _^_, _≤_, _<_}
 use mathlib.Core.Path.{_≡_, refl, sym, ap, subst, _∙_}
-use mathlib.Core.Bool.{Bool, true, false, _&&_}
+use mathlib.Core.Bool.{Bool, true, false, _&&_, cond}
 use mathlib.Core.List.{List, _∷_}
 use native.Mathlib.Nat.{mul-le-mul-left}
 use native.Mathlib.Numerals.{add-one}
@@ -14,7 +14,6 @@ use Rattle.logic.specs.Tree.{Tree, empty, node, branches, sumOf, positions}
 use Rattle.logic.specs.Trim.{isEmpty}
 use Rattle.logic.specs.Two.{pairOf}
 use Rattle.strip.specs.Bits.{bits, field}
-use Rattle.strip.specs.RuleStrip.{orElse}
 use Rattle.strip.specs.TreeStrip.{Parsed, parsed, refused, join, andThen, parse, treeBits}
 use Rattle.strip.specs.TreeAnswers.{headAt, closed, told}
 use Rattle.strip.specs.declared.tree.Head.{Head}
@@ -35,7 +34,7 @@ module _ (s : List ℕ) (n : ℕ) where
   -- a node bit's head
   abbrev nodeHead : ℕ → ℕ → Head
   nodeHead met at =
-      orElse (leb 255 met) (head.Refused 20) (orElse (ltb (8 * length s) (at + 1 + n)) (head.Refused 18) (head.Node (field s (at + 1) n) (at + 1 + n)))
+      cond (leb 255 met) (head.Refused 20) (cond (ltb (8 * length s) (at + 1 + n)) (head.Refused 18) (head.Node (field s (at + 1) n) (at + 1 + n)))
 
   cut : (at : ℕ) → at < 8 * length s → ltb (length (drop (suc at) (bits s))) n ≡ ltb (8 * length s) (at + 1 + n)
   cut at h = go (ltb (8 * length s) (at + 1 + n)) refl
@@ -52,8 +51,8 @@ module _ (s : List ℕ) (n : ℕ) where
       rw (cut at h, e) (rw (← (add-one at)) (go (leb 255 met) (ltb (8 * length s) (at + 1 + n))))
     where
       go : (v w : Bool)
-          → orElse v (refused 20) (orElse w (refused 18) (andThen (field s (at + 1) n) (parse d n (suc met) (drop (at + 1 + n) (bits s))) (parse d n)))
-          ≡ follow d met (orElse v (head.Refused 20) (orElse w (head.Refused 18) (head.Node (field s (at + 1) n) (at + 1 + n))))
+          → cond v (refused 20) (cond w (refused 18) (andThen (field s (at + 1) n) (parse d n (suc met) (drop (at + 1 + n) (bits s))) (parse d n)))
+          ≡ follow d met (cond v (head.Refused 20) (cond w (head.Refused 18) (head.Node (field s (at + 1) n) (at + 1 + n))))
       go true w = refl
       go false true = refl
       go false false = refl
@@ -63,13 +62,13 @@ module _ (s : List ℕ) (n : ℕ) where
   parse-head d met at = ends (leb (8 * length s) at) refl
     where
       first-bit : at < 8 * length s → (b : ℕ) → parse (suc d) n met (b ∷ drop (suc at) (bits s))
-          ≡ follow d met (orElse (eqb b 0) (head.Empty (at + 1)) (nodeHead met at))
+          ≡ follow d met (cond (eqb b 0) (head.Empty (at + 1)) (nodeHead met at))
       first-bit h zero = rw (add-one at) refl
       first-bit h (suc b) = rw (eqb·suc-zero b) (parse-node d met at b h)
 
       ends : (v : Bool) → leb (8 * length s) at ≡ v
           → parse (suc d) n met (drop at (bits s)) ≡ follow d met
-          (orElse v (head.Refused 18) (orElse (eqb (getD (bits s) at 0) 0) (head.Empty (at + 1)) (nodeHead met at)))
+          (cond v (head.Refused 18) (cond (eqb (getD (bits s) at 0) 0) (head.Empty (at + 1)) (nodeHead met at)))
       ends true e =
           let h : length (bits s) ≤ at = (let k = leb-true (8 * length s) at e in let l = length-bits s in omega arith) in
           rw (drop-of-length-le (bits s) h) refl
@@ -88,8 +87,8 @@ module _ (s : List ℕ) (n : ℕ) where
   head-within met at = go (leb (8 * length s) at) refl (eqb (getD (bits s) at 0) 0) (leb 255 met) refl (ltb (8 * length s) (at + 1 + n)) refl
     where
       go : (v : Bool) → leb (8 * length s) at ≡ v → (w : Bool) → (x : Bool) → leb 255 met ≡ x → (y : Bool) → ltb (8 * length s) (at + 1 + n) ≡ y
-          → Within met at (orElse v (head.Refused 18)
-          (orElse w (head.Empty (at + 1)) (orElse x (head.Refused 20) (orElse y (head.Refused 18) (head.Node (field s (at + 1) n) (at + 1 + n))))))
+          → Within met at (cond v (head.Refused 18)
+          (cond w (head.Empty (at + 1)) (cond x (head.Refused 20) (cond y (head.Refused 18) (head.Node (field s (at + 1) n) (at + 1 + n))))))
       go true e w x f y g = tt
       go false e true x f y g = let h = leb-false (8 * length s) at e in (refl, omega arith)
       go false e false true f y g = tt
@@ -182,8 +181,8 @@ module _ (s : List ℕ) (n : ℕ) where
   join-closed l met m t rest (refused r) p g = refl
   join-closed l met m t rest (parsed u m′ rest′) p g = rw (none-met met m m′ t u p (g .counted)) (go (eqb l 0 && eqb m′ (met + 1)))
     where
-      go : (v : Bool) → orElse v (read.Refused 19) (told s (parsed (node l (pairOf t u)) m′ rest′))
-          ≡ told s (orElse v (refused 19) (parsed (node l (pairOf t u)) m′ rest′))
+      go : (v : Bool) → cond v (read.Refused 19) (told s (parsed (node l (pairOf t u)) m′ rest′))
+          ≡ told s (cond v (refused 19) (parsed (node l (pairOf t u)) m′ rest′))
       go true = refl
       go false = refl
 

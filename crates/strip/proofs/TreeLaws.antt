@@ -2,7 +2,7 @@
 -- Assumes nothing.
 use Prim.Native.Nat.{ℕ, zero, suc, _+_, _*_, _/_, _≤_, _<_}
 use mathlib.Core.Path.{_≡_, refl, sym, ap, ap₂, subst, _∙_}
-use mathlib.Core.Bool.{Bool, true, false, not, _&&_, _||_}
+use mathlib.Core.Bool.{Bool, true, false, not, _&&_, _||_, cond}
 use mathlib.Core.List.{List, [], _∷_, _++_, append-assoc}
 use native.Mathlib.Nat.{mul-le-mul, zero-add}
 use native.Mathlib.Omega.{arith}
@@ -13,7 +13,7 @@ use lib.Seq.{drop-drop, take-at, drop-at}
 use Rattle.logic.specs.Tree.{Tree, positions, Proper}
 use Rattle.logic.specs.Trim.{Trimmed}
 use Rattle.strip.specs.Bits.{digits, bits, number, field, anySet}
-use Rattle.strip.specs.RuleStrip.{orElse, between}
+use Rattle.strip.specs.RuleStrip.{between}
 use Rattle.strip.specs.TreeStrip.{Parsed, parsed, refused, parse, ended, readTree, treeBits, treeStrip, treeBytes}
 use Rattle.strip.specs.TreeAnswers.{answered, checkedTree}
 use Rattle.strip.specs.declared.tree.TreeCheck.the-variants.{Accepted}
@@ -45,7 +45,7 @@ both true b e = (refl, e)
 both false b e = absurd (let z : _≡_ {A = ℕ} 0 1 = cc in omega arith)
 
 -- a test that refuses did not
-passed : (v : Bool) (r : ℕ) (P : Parsed) (t : Tree 2) (m : ℕ) (rest : List ℕ) → orElse v (refused r) P ≡ parsed t m rest → (v ≡ false) × (P ≡ parsed t m rest)
+passed : (v : Bool) (r : ℕ) (P : Parsed) (t : Tree 2) (m : ℕ) (rest : List ℕ) → cond v (refused r) P ≡ parsed t m rest → (v ≡ false) × (P ≡ parsed t m rest)
 passed true r P t m rest e = absurd (let z : _≡_ {A = ℕ} 0 1 = cc in omega arith)
 passed false r P t m rest e = (refl, e)
 

@@ -16,7 +16,6 @@ use Rattle.logic.specs.Trim.{isEmpty, bare, Trimmed}
 use Rattle.logic.specs.Two.{one, two, pairOf}
 use Rattle.logic.proofs.Places.{true→T, not-T}
 use Rattle.strip.specs.Bits.{digits, number}
-use Rattle.strip.specs.RuleStrip.{orElse}
 use Rattle.strip.specs.TreeStrip.{Parsed, parsed, refused, join, andThen, parse, treeBits}
 use Rattle.strip.proofs.Fields.{length-digits}
 use Rattle.logic.proofs.Two.{two-branches}
@@ -78,7 +77,7 @@ module _ (n : ℕ) where
   join-good met l m bs mid t (refused r) h d p q = tt
   join-good met l m bs mid t (parsed u m′ rest) h d p q = go (eqb l 0 && (isEmpty t && isEmpty u)) refl
     where
-      go : (v : Bool) → (eqb l 0 && (isEmpty t && isEmpty u)) ≡ v → Good n met (1 ∷ bs) (orElse v (refused 19) (parsed (node l (pairOf t u)) m′ rest))
+      go : (v : Bool) → (eqb l 0 && (isEmpty t && isEmpty u)) ≡ v → Good n met (1 ∷ bs) (cond v (refused 19) (parsed (node l (pairOf t u)) m′ rest))
       go true e = tt
       go false e = node-reading met l m m′ bs mid rest t u h d p q e
 
@@ -109,7 +108,7 @@ module _ (n : ℕ) where
       go : (v : Bool) → leb 255 met ≡ v → (w : Bool) → ltb (length bs) n ≡ w
           → (leb 255 met ≡ false → Good n (suc met) (drop n bs) (parse d n (suc met) (drop n bs)))
           → ((m : ℕ) (mid : List ℕ) → m ≤ 255 → AreBits mid → Good n m mid (parse d n m mid))
-          → Good n met (1 ∷ bs) (orElse v (refused 20) (orElse w (refused 18) (andThen (number 0 (take n bs)) (parse d n (suc met) (drop n bs)) (parse d n))))
+          → Good n met (1 ∷ bs) (cond v (refused 20) (cond w (refused 18) (andThen (number 0 (take n bs)) (parse d n (suc met) (drop n bs)) (parse d n))))
       go true e w f p k = tt
       go false e true f p k = tt
       go false e false f p k =
@@ -143,14 +142,14 @@ module _ (n : ℕ) where
   parse-enough (suc d) (suc e) met (suc b ∷ bs) p q h a = go (leb 255 met) refl (λ m mid r f c. parse-enough d e m mid (omega arith) (omega arith) f c)
     where
       go : (v : Bool) → leb 255 met ≡ v → ((m : ℕ) (mid : List ℕ) → length mid ≤ length bs → m ≤ 255 → AreBits mid → parse d n m mid ≡ parse e n m mid)
-          → orElse v (refused 20) (orElse (ltb (length bs) n) (refused 18) (andThen (number 0 (take n bs)) (parse d n (suc met) (drop n bs)) (parse d n)))
-          ≡ orElse v (refused 20) (orElse (ltb (length bs) n) (refused 18) (andThen (number 0 (take n bs)) (parse e n (suc met) (drop n bs)) (parse e n)))
+          → cond v (refused 20) (cond (ltb (length bs) n) (refused 18) (andThen (number 0 (take n bs)) (parse d n (suc met) (drop n bs)) (parse d n)))
+          ≡ cond v (refused 20) (cond (ltb (length bs) n) (refused 18) (andThen (number 0 (take n bs)) (parse e n (suc met) (drop n bs)) (parse e n)))
       go true f k = refl
       go false f k =
           let l = leb-false 255 met f in
           let c : AreBits (drop n bs) = bits-drop n bs (λ j. a (suc j)) in
           let r = length-drop n bs in
-          ap (orElse (ltb (length bs) n) (refused 18))
+          ap (cond (ltb (length bs) n) (refused 18))
           (then-same (number 0 (take n bs)) (parse d n (suc met) (drop n bs)) (parse e n (suc met) (drop n bs)) (parse d n) (parse e n)
           (k (suc met) (drop n bs) (omega arith) (omega arith) c)
           (λ t m mid w. let g = parse-reading e (suc met) (drop n bs) t m mid (omega arith) c w in

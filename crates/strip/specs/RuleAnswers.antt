@@ -1,11 +1,11 @@
 -- What the functions on rule strips answer. Assumes nothing.
 use Prim.Native.Nat.{ℕ, _+_, _-_, _*_}
-use mathlib.Core.Bool.{not}
+use mathlib.Core.Bool.{not, cond}
 use mathlib.Core.List.{List}
 use lib.Dec.{ltb, leb, eqb}
 use lib.ListN.{length}
 use Rattle.logic.specs.Rule.{Record as RuleRecord}
-use Rattle.strip.specs.RuleStrip.{orElse, between, versionOf, variablesOf, countOf, ruleBytes, recordAt, recordsFrom, recordRefusal, recordsRefusal}
+use Rattle.strip.specs.RuleStrip.{between, versionOf, variablesOf, countOf, ruleBytes, recordAt, recordsFrom, recordRefusal, recordsRefusal}
 use Rattle.strip.specs.RuleStrip.{ruleRefusal}
 use Rattle.strip.specs.declared.rule.Fields.{Fields}
 use Rattle.strip.specs.declared.rule.Use.{Use}
@@ -30,7 +30,7 @@ limitOf n i Unused = 1
 
 -- the refusal of a field v of that use, or 0
 abbrev pub fieldRefusal : ℕ → ℕ → Use → ℕ → ℕ
-fieldRefusal n i u v = orElse (leb (limitOf n i u) v) (useRefusal u) 0
+fieldRefusal n i u v = cond (leb (limitOf n i u) v) (useRefusal u) 0
 
 -- a record, as the code holds it
 abbrev pub fieldsOf : RuleRecord → Fields
@@ -38,7 +38,7 @@ fieldsOf r = record { op = r .op; first = r .first; second = r .second }
 
 -- "the reader answers either a record with the next bit place or a refusal number": the refusal, where it is not 0
 abbrev pub recordOr : ℕ → RuleRecord → ℕ → Read
-recordOr refusal r next = orElse (eqb refusal 0) (Record (r .op) (r .first) (r .second) next) (Refused refusal)
+recordOr refusal r next = cond (eqb refusal 0) (Record (r .op) (r .first) (r .second) next) (Refused refusal)
 
 -- record number i, at bit place at, in a strip of n variables
 unfoldable pub readRecord : List ℕ → ℕ → ℕ → ℕ → Read
@@ -51,12 +51,12 @@ readRecords s n m = recordOr (recordsRefusal n 0 (recordsFrom s 16 m)) (recordAt
 -- the refusals 1 to 5, or 0
 unfoldable pub headRefusal : List ℕ → ℕ
 headRefusal s =
-    orElse (ltb (length s) 2) 1
-    (orElse (not (eqb (versionOf s) 1)) 2
-    (orElse (not (between 1 8 (variablesOf s))) 3
-    (orElse (not (between 1 128 (countOf s))) 4
-    (orElse (not (eqb (length s) (ruleBytes (countOf s)))) 5 0))))
+    cond (ltb (length s) 2) 1
+    (cond (not (eqb (versionOf s) 1)) 2
+    (cond (not (between 1 8 (variablesOf s))) 3
+    (cond (not (between 1 128 (countOf s))) 4
+    (cond (not (eqb (length s) (ruleBytes (countOf s)))) 5 0))))
 
 -- "Check a rule strip": a refusal's number; "Otherwise it returns n and m"
 unfoldable pub checkedRule : List ℕ → RuleCheck
-checkedRule s = orElse (eqb (ruleRefusal s) 0) (accepted (variablesOf s) (countOf s)) (turnedDown (ruleRefusal s))
+checkedRule s = cond (eqb (ruleRefusal s) 0) (accepted (variablesOf s) (countOf s)) (turnedDown (ruleRefusal s))

@@ -1,7 +1,7 @@
 -- Rule strips: document 01, "Strips" and "Check a rule strip". Assumes nothing.
 use Prim.Native.Nat.{ℕ, zero, suc, _+_, _*_, _/_}
 use mathlib.Core.Path.{_≡_}
-use mathlib.Core.Bool.{Bool, true, false, not, _&&_, _||_}
+use mathlib.Core.Bool.{Bool, false, not, _&&_, _||_, cond}
 use mathlib.Core.List.{List, [], _∷_}
 use lib.Dec.{ltb, leb, eqb}
 use lib.ListN.{length, getD, drop}
@@ -9,11 +9,6 @@ use Rattle.logic.specs.Rule.{Record}
 use Rattle.strip.specs.Bits.{bits, field, anySet}
 use Rattle.strip.specs.declared.rule.Use.{Use}
 use Rattle.strip.specs.declared.rule.Use.the-variants.{Variable, Earlier, Unused}
-
--- the first of two results, where its test holds
-abbrev pub orElse : {A : Type 0} → Bool → A → A → A
-orElse true a b = a
-orElse false a b = b
 
 abbrev pub between : ℕ → ℕ → ℕ → Bool
 between low high v = leb low v && leb v high
@@ -81,26 +76,26 @@ badUnused Unused v = not (eqb v 0)
 -- of record number i: "7 op 9 to 15; 8 a variable not below n; 9 a record number not below its own; 10 an unused field not 0"; else 0
 unfoldable pub recordRefusal : ℕ → ℕ → Record → ℕ
 recordRefusal n i r =
-    orElse (leb 9 (r .op)) 7
-    (orElse (badVariable n (firstUse (r .op)) (r .first) || badVariable n (secondUse (r .op)) (r .second)) 8
-    (orElse (badEarlier i (firstUse (r .op)) (r .first) || badEarlier i (secondUse (r .op)) (r .second)) 9
-    (orElse (badUnused (firstUse (r .op)) (r .first) || badUnused (secondUse (r .op)) (r .second)) 10 0)))
+    cond (leb 9 (r .op)) 7
+    (cond (badVariable n (firstUse (r .op)) (r .first) || badVariable n (secondUse (r .op)) (r .second)) 8
+    (cond (badEarlier i (firstUse (r .op)) (r .first) || badEarlier i (secondUse (r .op)) (r .second)) 9
+    (cond (badUnused (firstUse (r .op)) (r .first) || badUnused (secondUse (r .op)) (r .second)) 10 0)))
 
 -- "for the earliest bad record": of records number i on
 unfoldable pub recordsRefusal : ℕ → ℕ → List Record → ℕ
 recordsRefusal n i [] = 0
-recordsRefusal n i (r ∷ rs) = orElse (eqb (recordRefusal n i r) 0) (recordsRefusal n (suc i) rs) (recordRefusal n i r)
+recordsRefusal n i (r ∷ rs) = cond (eqb (recordRefusal n i r) 0) (recordsRefusal n (suc i) rs) (recordRefusal n i r)
 
 -- "in order: 1 fewer than two bytes; 2 version not 1; 3 n not 1 to 8; 4 m not 1 to 128; 5 length not as above; 6 a padding bit set; then,
 -- for the earliest bad record", 7 to 10; 0 where the strip is accepted
 unfoldable pub ruleRefusal : List ℕ → ℕ
 ruleRefusal s =
-    orElse (ltb (length s) 2) 1
-    (orElse (not (eqb (versionOf s) 1)) 2
-    (orElse (not (between 1 8 (variablesOf s))) 3
-    (orElse (not (between 1 128 (countOf s))) 4
-    (orElse (not (eqb (length s) (ruleBytes (countOf s)))) 5
-    (orElse (anySet (drop (16 + 18 * countOf s) (bits s))) 6
+    cond (ltb (length s) 2) 1
+    (cond (not (eqb (versionOf s) 1)) 2
+    (cond (not (between 1 8 (variablesOf s))) 3
+    (cond (not (between 1 128 (countOf s))) 4
+    (cond (not (eqb (length s) (ruleBytes (countOf s)))) 5
+    (cond (anySet (drop (16 + 18 * countOf s) (bits s))) 6
     (recordsRefusal (variablesOf s) 0 (recordsOf s)))))))
 
 -- an accepted strip of m records over n variables

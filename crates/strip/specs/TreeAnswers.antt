@@ -1,11 +1,10 @@
 -- What the readers of tree strips answer, of the definitions of TreeStrip. Assumes nothing.
 use Prim.Native.Nat.{ℕ, _+_, _-_, _*_}
-use mathlib.Core.Bool.{_&&_}
+use mathlib.Core.Bool.{_&&_, cond}
 use mathlib.Core.List.{List}
 use lib.Dec.{ltb, leb, eqb}
 use lib.ListN.{length, getD}
 use Rattle.strip.specs.Bits.{bits, field}
-use Rattle.strip.specs.RuleStrip.{orElse}
 use Rattle.strip.specs.TreeStrip.{Parsed, parsed, refused, readTree}
 use Rattle.strip.specs.declared.tree.Head.{Head}
 use Rattle.strip.specs.declared.tree.Head.the-variants as head
@@ -18,17 +17,17 @@ use Rattle.strip.specs.declared.tree.TreeCheck.the-variants as check
 -- node bit 1, the label"
 unfoldable pub headAt : List ℕ → ℕ → ℕ → ℕ → Head
 headAt s n met at =
-    orElse (leb (8 * length s) at) (head.Refused 18)
-    (orElse (eqb (getD (bits s) at 0) 0) (head.Empty (at + 1))
-    (orElse (leb 255 met) (head.Refused 20)
-    (orElse (ltb (8 * length s) (at + 1 + n)) (head.Refused 18)
+    cond (leb (8 * length s) at) (head.Refused 18)
+    (cond (eqb (getD (bits s) at 0) 0) (head.Empty (at + 1))
+    (cond (leb 255 met) (head.Refused 20)
+    (cond (ltb (8 * length s) (at + 1 + n)) (head.Refused 18)
     (head.Node (field s (at + 1) n) (at + 1 + n)))))
 
 -- a node's answer from that of its second branch, where `met` positions were met up to the node: 19, "once both branches are read, a node
 -- with label 0 and two empty branches"
 abbrev pub closed : ℕ → ℕ → TreeRead → TreeRead
 closed label met (read.Refused r) = read.Refused r
-closed label met (read.Tree all next) = orElse (eqb label 0 && eqb all met) (read.Refused 19) (read.Tree all next)
+closed label met (read.Tree all next) = cond (eqb label 0 && eqb all met) (read.Refused 19) (read.Tree all next)
 
 -- a tree read of the strip s is told by the positions met and the place where its bits end
 abbrev pub told : List ℕ → Parsed → TreeRead

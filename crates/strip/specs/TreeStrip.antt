@@ -1,6 +1,6 @@
 -- Tree strips: document 01, "Strips" and "Check a tree strip". Assumes nothing.
 use Prim.Native.Nat.{ℕ, zero, suc, _+_, _*_, _/_}
-use mathlib.Core.Bool.{not, _&&_, _||_}
+use mathlib.Core.Bool.{not, _&&_, _||_, cond}
 use mathlib.Core.List.{List, [], _∷_, _++_}
 use lib.Dec.{ltb, leb, eqb}
 use lib.ListN.{length, take, drop}
@@ -8,7 +8,7 @@ use Rattle.logic.specs.Tree.{Tree, empty, node}
 use Rattle.logic.specs.Trim.{isEmpty}
 use Rattle.logic.specs.Two.{one, two, pairOf}
 use Rattle.strip.specs.Bits.{digits, bits, number, field, anySet, pack}
-use Rattle.strip.specs.RuleStrip.{orElse, between}
+use Rattle.strip.specs.RuleStrip.{between}
 
 -- "bit 0 for empty; for a node bit 1, the label, first branch, second branch"
 unfoldable pub treeBits : ℕ → Tree 2 → List ℕ
@@ -31,7 +31,7 @@ pub data Parsed : Type 0 where
 -- the label l over the branches t and u; 19, "once both branches are read, a node with label 0 and two empty branches"
 unfoldable pub join : ℕ → Tree 2 → Parsed → Parsed
 join l t (refused r) = refused r
-join l t (parsed u met rest) = orElse (eqb l 0 && (isEmpty t && isEmpty u)) (refused 19) (parsed (node l (pairOf t u)) met rest)
+join l t (parsed u met rest) = cond (eqb l 0 && (isEmpty t && isEmpty u)) (refused 19) (parsed (node l (pairOf t u)) met rest)
 
 -- the second branch is read, by go, where the first one ended
 unfoldable pub andThen : ℕ → Parsed → (ℕ → List ℕ → Parsed) → Parsed
@@ -45,19 +45,19 @@ parse zero n met bs = refused 18
 parse (suc d) n met [] = refused 18
 parse (suc d) n met (zero ∷ bs) = parsed empty met bs
 parse (suc d) n met (suc b ∷ bs) =
-    orElse (leb 255 met) (refused 20)
-    (orElse (ltb (length bs) n) (refused 18)
+    cond (leb 255 met) (refused 20)
+    (cond (ltb (length bs) n) (refused 18)
     (andThen (number 0 (take n bs)) (parse d n (suc met) (drop n bs)) (parse d n)))
 
 -- "last, 21 a padding bit set or a byte left over"
 unfoldable pub ended : Parsed → Parsed
 ended (refused r) = refused r
-ended (parsed t met rest) = orElse (leb 8 (length rest) || anySet rest) (refused 21) (parsed t met rest)
+ended (parsed t met rest) = cond (leb 8 (length rest) || anySet rest) (refused 21) (parsed t met rest)
 
 -- "In order: 15 no bytes; 16 version not 1; 17 n not 1 to 8; then, as the bits are met", 18 to 20; "last, 21"
 unfoldable pub readTree : List ℕ → Parsed
 readTree s =
-    orElse (eqb (length s) 0) (refused 15)
-    (orElse (not (eqb (field s 0 4) 1)) (refused 16)
-    (orElse (not (between 1 8 (field s 4 4))) (refused 17)
+    cond (eqb (length s) 0) (refused 15)
+    (cond (not (eqb (field s 0 4) 1)) (refused 16)
+    (cond (not (between 1 8 (field s 4 4))) (refused 17)
     (ended (parse (suc (8 * length s)) (field s 4 4) 0 (drop 8 (bits s))))))

@@ -137,7 +137,7 @@ pub fn fields_at(s: &[u8], at: usize) -> Fields
 }
 
 // Record number i, at a bit place.
-pub fn read_record(s: &[u8], n: usize, i: usize, at: usize) -> Read
+fn read_record(s: &[u8], n: usize, i: usize, at: usize) -> Read
     requires { ⌜ length (now s) ≤ 4096 ⌝ }
     requires { ⌜ at + 18 ≤ 8 * length (now s) ⌝ }
     ensures { λ r. ⌜ r ≡ readRecord (now (s .entry)) n i at ⌝ }

@@ -62,7 +62,7 @@ fn close_node(label: usize, met: usize, second: TreeRead) -> TreeRead
 }
 
 // The tree at a place of s, after `met` positions.
-pub fn read_tree(s: &[u8], n: usize, met: usize, at: usize) -> TreeRead
+fn read_tree(s: &[u8], n: usize, met: usize, at: usize) -> TreeRead
     requires { ⌜ (1 ≤ n) × (n ≤ 8) × (met ≤ 255) × (at ≤ 8 + 10 * met) ⌝ }
     ensures { λ r. ⌜ r ≡ told (now (s .entry)) (parse (suc (8 * length (now (s .entry)))) n met (drop at (bits (now (s .entry))))) ⌝ }
 {

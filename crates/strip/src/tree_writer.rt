@@ -20,7 +20,7 @@ fn put_node(d: &mut [u8], at: usize, n: usize, label: usize)
 }
 
 // The bits of the tree of rank r, at a place that holds zeros; the place after them.
-pub fn write_tree(
+fn write_tree(
     d: &mut [u8],
     at: usize,
     n: usize,

@@ -1,7 +1,7 @@
 -- From an accepted rule strip and an accepted tree strip to judge's answer, and its claim. Assumes nothing.
 use Prim.Native.Nat.{ℕ, zero, suc, _-_, _*_, _≤_, _<_}
 use mathlib.Core.Path.{_≡_, refl, sym, ap, _∙_, subst}
-use mathlib.Core.Bool.{Bool, true, false, not, _&&_, _||_}
+use mathlib.Core.Bool.{Bool, true, false, not, _&&_, _||_, cond}
 use mathlib.Core.List.{List, [], _∷_}
 use native.Mathlib.Omega.{arith}
 use borrow.Author.Tests.{eq-eqb, ne-eqb, eqb-true}
@@ -17,7 +17,7 @@ use Rattle.machine.specs.declared.records.Ending.the-variants.{Over, Ready}
 use Rattle.solver.specs.Solve.{judgementAfter, judgementOf, Judged}
 use Rattle.solver.specs.declared.Ruling.{Ruling}
 use Rattle.strip.specs.Bits.{bits, number, field, anySet}
-use Rattle.strip.specs.RuleStrip.{orElse, between, variablesOf, countOf, recordsOf, ruleRefusal, AcceptedRule}
+use Rattle.strip.specs.RuleStrip.{between, variablesOf, countOf, recordsOf, ruleRefusal, AcceptedRule}
 use Rattle.strip.specs.TreeStrip.{Parsed, parsed, refused, join, andThen, parse, ended, readTree}
 use Rattle.strip.specs.TreeAnswers.{answered, checkedTree}
 use Rattle.strip.specs.declared.tree.TreeCheck.the-variants.{Accepted as treeAccepted, Refused as treeRefused}
@@ -35,7 +35,7 @@ abbrev Numbered : Parsed → Type 0
 Numbered (parsed t met rest) = Unit {0}
 Numbered (refused r) = 0 < r
 
-either-way : (v : Bool) (p q : Parsed) → Numbered p → Numbered q → Numbered (orElse v p q)
+either-way : (v : Bool) (p q : Parsed) → Numbered p → Numbered q → Numbered (cond v p q)
 either-way true p q a b = a
 either-way false p q a b = b
 
@@ -56,7 +56,7 @@ parse-numbered (suc d) n met [] = omega arith
 parse-numbered (suc d) n met (zero ∷ bs) = tt
 parse-numbered (suc d) n met (suc b ∷ bs) =
     let a : Parsed = andThen (number 0 (take n bs)) (parse d n (suc met) (drop n bs)) (parse d n) in
-    either-way (leb 255 met) (refused 20) (orElse (ltb (length bs) n) (refused 18) a) (omega arith)
+    either-way (leb 255 met) (refused 20) (cond (ltb (length bs) n) (refused 18) a) (omega arith)
     (either-way (ltb (length bs) n) (refused 18) a (omega arith)
     (then-numbered (number 0 (take n bs)) (parse d n (suc met) (drop n bs)) (parse d n) (parse-numbered d n (suc met) (drop n bs)) (parse-numbered d n)))
 
@@ -71,8 +71,8 @@ read-numbered s =
     let p : Parsed = ended (parse (suc (8 * length s)) (field s 4 4) 0 (drop 8 (bits s))) in
     let n = ended-numbered (parse (suc (8 * length s)) (field s 4 4) 0 (drop 8 (bits s)))
     (parse-numbered (suc (8 * length s)) (field s 4 4) 0 (drop 8 (bits s))) in
-    let x : Parsed = orElse (not (between 1 8 (field s 4 4))) (refused 17) p in
-    let y : Parsed = orElse (not (eqb (field s 0 4) 1)) (refused 16) x in
+    let x : Parsed = cond (not (between 1 8 (field s 4 4))) (refused 17) p in
+    let y : Parsed = cond (not (eqb (field s 0 4) 1)) (refused 16) x in
     either-way (eqb (length s) 0) (refused 15) y (omega arith)
     (either-way (not (eqb (field s 0 4) 1)) (refused 16) x (omega arith)
     (either-way (not (between 1 8 (field s 4 4))) (refused 17) p (omega arith) n))
@@ -182,11 +182,11 @@ pub claim : (rule : List ℕ) (c : ℕ) (ws tree : List ℕ) {x : Judgement} →
 unfolding refusalBefore judgementFor lateRefusal treeRefusal judgedOf
 claim rule c ws tree {x} ex = record { judged = λ e. go (readTree tree) refl (read-numbered tree) e }
   where
-    rule-free : (a b : ℕ) → orElse (eqb a 0) b a ≡ 0 → (a ≡ 0) × (b ≡ 0)
+    rule-free : (a b : ℕ) → cond (eqb a 0) b a ≡ 0 → (a ≡ 0) × (b ≡ 0)
     rule-free zero b f = (refl, f)
     rule-free (suc a) b f = absurd (let g = rw eqb·suc-zero at f in omega arith)
 
-    same-variables : (n : ℕ) (v : Bool) → eqb (field tree 4 4) n ≡ v → _≡_ {A = ℕ} (orElse v 0 22) 0 → field tree 4 4 ≡ n
+    same-variables : (n : ℕ) (v : Bool) → eqb (field tree 4 4) n ≡ v → _≡_ {A = ℕ} (cond v 0 22) 0 → field tree 4 4 ≡ n
     same-variables n true q f = eqb-true (field tree 4 4) n q
     same-variables n false q f = absurd (omega arith)
 

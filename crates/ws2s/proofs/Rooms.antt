@@ -5,10 +5,10 @@ use native.Mathlib.Nat.{one-mul, mul-le-mul}
 use native.Mathlib.Omega.{arith}
 use lib.Dec.{lit<}
 use lib.Pow.{shl-exact, pow-mono}
-use mathlib.Core.Bool.{Bool, true, false, not, _&&_, _||_, or-true}
+use mathlib.Core.Bool.{Bool, true, false, not, _&&_, _||_, or-true, cond}
 use borrow.Author.Tests.{lt-ltb, le-ltb, le-leb, lt-leb, ne-eqb, ltb-true, ltb-false, leb-true}
 use lib.Dec.{ltb, leb, eqb, eqb·suc-zero}
-use Rattle.strip.specs.RuleStrip.{orElse, between}
+use Rattle.strip.specs.RuleStrip.{between}
 use Rattle.strip.specs.TreeStrip.{treeBytes}
 use Rattle.ws2s.specs.Room.{roomFor, workRefusal, roomRefusal, Roomy}
 
@@ -61,7 +61,7 @@ module _ (n m c room : ℕ) where
   work-free e = go (leb 1 c) refl (leb c 64) refl (ltb room (roomFor n m c)) refl e
     where
       go : (x : Bool) → leb 1 c ≡ x → (y : Bool) → leb c 64 ≡ y → (z : Bool) → ltb room (roomFor n m c) ≡ z
-          → _≡_ {A = ℕ} (orElse (not (x && y)) 11 (orElse z 12 0)) 0 → Roomy n m c room
+          → _≡_ {A = ℕ} (cond (not (x && y)) 11 (cond z 12 0)) 0 → Roomy n m c room
       go true p true q false r e =
           record { some-state = leb-true 1 c p; few-states = leb-true c 64 q; long = ltb-false room (roomFor n m c) r }
       go true p true q true r e = absurd (omega arith)
@@ -70,14 +70,14 @@ module _ (n m c room : ℕ) where
 
   module _ (P outRoom : ℕ) where
     split : (x y z : Bool)
-        → _≡_ {A = ℕ} (orElse (not x || false) 11 (orElse y 12 (orElse z 13 0)))
-        (orElse (eqb (orElse (not x) 11 (orElse y 12 0)) 0) (orElse z 13 0) (orElse (not x) 11 (orElse y 12 0)))
+        → _≡_ {A = ℕ} (cond (not x || false) 11 (cond y 12 (cond z 13 0)))
+        (cond (eqb (cond (not x) 11 (cond y 12 0)) 0) (cond z 13 0) (cond (not x) 11 (cond y 12 0)))
     split true true z = refl
     split true false z = refl
     split false y z = refl
 
     room-is : P ≤ 255
-        → roomRefusal n m c P room outRoom ≡ orElse (eqb (workRefusal n m c room) 0) (orElse (ltb outRoom (treeBytes n P)) 13 0) (workRefusal n m c room)
+        → roomRefusal n m c P room outRoom ≡ cond (eqb (workRefusal n m c room) 0) (cond (ltb outRoom (treeBytes n P)) 13 0) (workRefusal n m c room)
     unfolding roomRefusal workRefusal
     room-is h = rw (le-ltb 255 P h) (split (between 1 64 c) (ltb room (roomFor n m c)) (ltb outRoom (treeBytes n P)))
 
@@ -100,7 +100,7 @@ module _ (n m c room : ℕ) where
     room-free e = go (ltb 255 P) refl
       where
         rest : P ≤ 255 → (v : ℕ) → workRefusal n m c room ≡ v → (z : Bool) → ltb outRoom (treeBytes n P) ≡ z
-            → orElse (eqb v 0) (orElse z 13 0) v ≡ 0 → Unrefused n m c P room outRoom
+            → cond (eqb v 0) (cond z 13 0) v ≡ 0 → Unrefused n m c P room outRoom
         rest h zero p true q f = absurd (omega arith)
         rest h zero p false q f = record { roomy = work-free p; few-places = h; out-long = ltb-false outRoom (treeBytes n P) q }
         rest h (suc v) p z q f = absurd (let g = rw eqb·suc-zero at f in omega arith)

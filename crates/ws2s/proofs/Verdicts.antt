@@ -2,6 +2,7 @@
 use Prim.Native.Nat.{ℕ, zero, suc, _+_, _-_, _≤_}
 use mathlib.Core.Path.{_≡_, refl, sym, _∙_}
 use mathlib.Core.List.{List}
+use mathlib.Core.Bool.{cond}
 use native.Mathlib.Nat.{mul-le-mul-right}
 use native.Mathlib.Omega.{arith}
 use borrow.Author.Tests.{ne-eqb}
@@ -12,7 +13,7 @@ use Rattle.logic.specs.Tree.{positions}
 use Rattle.logic.proofs.Answers.{decide-answers, shown-fits}
 use Rattle.solver.specs.Solve.{outcomeOf}
 use Rattle.solver.specs.declared.Solution.{Solution}
-use Rattle.strip.specs.RuleStrip.{orElse, variablesOf, countOf, recordsOf, ruleRefusal, AcceptedRule}
+use Rattle.strip.specs.RuleStrip.{variablesOf, countOf, recordsOf, ruleRefusal, AcceptedRule}
 use Rattle.strip.specs.TreeStrip.{treeStrip, treeBytes}
 use Rattle.strip.proofs.RuleLaws.{rule-accepted}
 use Rattle.ws2s.specs.Room.{roomFor, cleared, roomRefusal, Roomy}
@@ -88,7 +89,7 @@ claim rule c P ws out ex eo = record {
     accepted : earlyRefusal rule c P (length ws) (length out) ≡ 0 → ruleRefusal rule ≡ 0
     accepted e = go (ruleRefusal rule) refl e
       where
-        go : (k : ℕ) → ruleRefusal rule ≡ k → orElse (eqb k 0) (roomRefusal (variablesOf rule) (countOf rule) c P (length ws) (length out)) k ≡ 0
+        go : (k : ℕ) → ruleRefusal rule ≡ k → cond (eqb k 0) (roomRefusal (variablesOf rule) (countOf rule) c P (length ws) (length out)) k ≡ 0
             → ruleRefusal rule ≡ 0
         go zero p f = p
         go (suc k) p f = absurd (let g = rw eqb·suc-zero at f in omega arith)

@@ -2,12 +2,13 @@
 use Prim.Native.Nat.{ℕ, _+_, _≤_}
 use mathlib.Core.Path.{_≡_}
 use mathlib.Core.List.{List, _++_}
+use mathlib.Core.Bool.{cond}
 use lib.Dec.{eqb}
 use lib.ListN.{length, take, drop}
 use Rattle.logic.specs.Tree.{Tree, positions}
 use Rattle.logic.specs.Claims.{Outcome, refused14, shown, none, larger, Answers}
 use Rattle.logic.specs.Decide.{decideOf}
-use Rattle.strip.specs.RuleStrip.{orElse, variablesOf, countOf, recordsOf, ruleRefusal}
+use Rattle.strip.specs.RuleStrip.{variablesOf, countOf, recordsOf, ruleRefusal}
 use Rattle.strip.specs.TreeStrip.{treeStrip, treeBytes}
 use Rattle.ws2s.specs.Room.{roomFor, cleared, roomRefusal}
 use Rattle.ws2s.specs.declared.decide.Verdict.{Verdict}
@@ -16,7 +17,7 @@ use Rattle.ws2s.specs.declared.decide.Verdict.the-variants.{Shown, None,
 -- the refusals tested before any machine is built: 1 to 10, then 11 to 13; else 0
 unfoldable pub earlyRefusal : List ℕ → ℕ → ℕ → ℕ → ℕ → ℕ
 earlyRefusal rule c P room outRoom =
-    orElse (eqb (ruleRefusal rule) 0) (roomRefusal (variablesOf rule) (countOf rule) c P room outRoom) (ruleRefusal rule)
+    cond (eqb (ruleRefusal rule) 0) (roomRefusal (variablesOf rule) (countOf rule) c P room outRoom) (ruleRefusal rule)
 
 -- this paper's answers for the outcome of a rule over n variables
 unfoldable pub tell : ℕ → Outcome 2 → Verdict
@@ -42,17 +43,17 @@ Spacious n o space = (places states : ℕ) (t : Tree 2) → o ≡ shown places s
 -- decide's result
 unfoldable pub verdictOf : List ℕ → ℕ → ℕ → ℕ → ℕ → Verdict
 verdictOf rule c P room outRoom =
-    orElse (eqb (earlyRefusal rule c P room outRoom) 0) (tell (variablesOf rule) (decidedOf rule c P)) (Refused (earlyRefusal rule c P room outRoom))
+    cond (eqb (earlyRefusal rule c P room outRoom) 0) (tell (variablesOf rule) (decidedOf rule c P)) (Refused (earlyRefusal rule c P room outRoom))
 
 -- out at the end
 unfoldable pub outOf : List ℕ → ℕ → ℕ → ℕ → List ℕ → List ℕ
 outOf rule c P room out =
-    orElse (eqb (earlyRefusal rule c P room (length out)) 0) (outAfter (variablesOf rule) (decidedOf rule c P) out) out
+    cond (eqb (earlyRefusal rule c P room (length out)) 0) (outAfter (variablesOf rule) (decidedOf rule c P) out) out
 
 -- the workspace at the end
 unfoldable pub workspaceOf : List ℕ → ℕ → ℕ → List ℕ → ℕ → List ℕ
 workspaceOf rule c P ws outRoom =
-    orElse (eqb (earlyRefusal rule c P (length ws) outRoom) 0) (cleared (roomFor (variablesOf rule) (countOf rule) c) ws) ws
+    cond (eqb (earlyRefusal rule c P (length ws) outRoom) 0) (cleared (roomFor (variablesOf rule) (countOf rule) c) ws) ws
 
 -- DEMANDS 2 AND 3, of decide's result v and the bytes that out holds at the end: where no refusal before the build applies, they tell an
 -- outcome that answers the rule

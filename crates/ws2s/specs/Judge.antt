@@ -2,6 +2,7 @@
 use Prim.Native.Nat.{ℕ}
 use mathlib.Core.Path.{_≡_}
 use mathlib.Core.List.{List}
+use mathlib.Core.Bool.{cond}
 use lib.Dec.{eqb}
 use lib.ListN.{length}
 use Rattle.logic.specs.Meaning.{Assignment}
@@ -9,7 +10,7 @@ use Rattle.logic.specs.Tree.{Tree, empty, TreeOf}
 use Rattle.logic.specs.Claims.{Judgement as Ruled, unbuilt, yes, no, Judges}
 use Rattle.logic.specs.Decide.{judgeOf}
 use Rattle.strip.specs.Bits.{field}
-use Rattle.strip.specs.RuleStrip.{orElse, variablesOf, countOf, recordsOf, ruleRefusal}
+use Rattle.strip.specs.RuleStrip.{variablesOf, countOf, recordsOf, ruleRefusal}
 use Rattle.strip.specs.TreeStrip.{Parsed, parsed, refused, readTree}
 use Rattle.ws2s.specs.Room.{roomFor, cleared, workRefusal}
 use Rattle.ws2s.specs.declared.judge.Judgement.{Judgement}
@@ -38,12 +39,12 @@ pub record Readable (strip : List ℕ) (n : ℕ) : Type 0 where
 
 -- "In order: 1 to 10; 11 for c alone; 12; 15 to 21 in that operation's order; 22 the two n differ"; else 0
 unfoldable pub lateRefusal : List ℕ → ℕ → ℕ
-lateRefusal tree n = orElse (eqb (treeRefusal tree) 0) (orElse (eqb (field tree 4 4) n) 0 22) (treeRefusal tree)
+lateRefusal tree n = cond (eqb (treeRefusal tree) 0) (cond (eqb (field tree 4 4) n) 0 22) (treeRefusal tree)
 
 unfoldable pub refusalBefore : List ℕ → ℕ → ℕ → List ℕ → ℕ
 refusalBefore rule c room tree =
-    orElse (eqb (ruleRefusal rule) 0)
-    (orElse (eqb (workRefusal (variablesOf rule) (countOf rule) c room) 0) (lateRefusal tree (variablesOf rule))
+    cond (eqb (ruleRefusal rule) 0)
+    (cond (eqb (workRefusal (variablesOf rule) (countOf rule) c room) 0) (lateRefusal tree (variablesOf rule))
     (workRefusal (variablesOf rule) (countOf rule) c room))
     (ruleRefusal rule)
 
@@ -58,11 +59,11 @@ judgedOf rule c tree = judgeOf (variablesOf rule) (recordsOf rule) c (treeIn (re
 
 -- judge's result
 unfoldable pub judgementFor : List ℕ → ℕ → ℕ → List ℕ → Judgement
-judgementFor rule c room tree = orElse (eqb (refusalBefore rule c room tree) 0) (tell (judgedOf rule c tree)) (Refused (refusalBefore rule c room tree))
+judgementFor rule c room tree = cond (eqb (refusalBefore rule c room tree) 0) (tell (judgedOf rule c tree)) (Refused (refusalBefore rule c room tree))
 
 -- the workspace at the end
 unfoldable pub workspaceFor : List ℕ → ℕ → List ℕ → List ℕ → List ℕ
-workspaceFor rule c ws tree = orElse (eqb (refusalBefore rule c (length ws) tree) 0) (cleared (roomFor (variablesOf rule) (countOf rule) c) ws) ws
+workspaceFor rule c ws tree = cond (eqb (refusalBefore rule c (length ws) tree) 0) (cleared (roomFor (variablesOf rule) (countOf rule) c) ws) ws
 
 -- the strip holds the tree of an assignment, and v tells a judgement of the tree
 pub record JudgedTree (rule : List ℕ) (c : ℕ) (strip : List ℕ) (v : Judgement) : Type 0 where
