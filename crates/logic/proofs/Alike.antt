@@ -20,7 +20,7 @@ use Rattle.logic.proofs.Bits.{low-ext, put-lt}
 use Rattle.logic.proofs.Connectives.{run-complement, run-product, run-simulates}
 use Rattle.logic.proofs.Rounds.{reach-start, reach-closed}
 use Rattle.logic.proofs.Numbered.{bound, numbered-simulates}
-use Rattle.logic.proofs.Projection.{In, projection-bounded, projection-projects}
+use Rattle.logic.proofs.Projection.{In, projection-projects}
 use Rattle.logic.proofs.Tables.{Codes, product-simulates}
 
 module _ {k : ℕ} (n : ℕ) where
@@ -82,34 +82,30 @@ module _ {k : ℕ} (n : ℕ) where
           λ w. x .2 ∙ ap₂ (λ (p q : ℕ). p * d + q) (w .0) (w .1) ∙ sym (y .2),
         )
 
-  pub product-alike : (op op′ : Bool → Bool → Bool) (c d c′ d′ : ℕ) (M N M′ N′ : Machine k ℕ) → Bounded n c M → Bounded n d N → Bounded n c′ M′ → Bounded n d′ N′
-      → Alike n M M′ → Alike n N N′ → Alike n (codedProduct op d M N) (codedProduct op′ d′ M′ N′)
-  product-alike op op′ c d c′ d′ M N M′ N′ BM BN BM′ BN′ a b t u o o′ =
-      let i = product-kernel op c d M N BM BN t u o o′ in
-      let j = product-kernel op′ c′ d′ M′ N′ BM′ BN′ t u o o′ in
-      ((λ e. j .1 ((a t u o o′) .0 ((i .0 e) .0), (b t u o o′) .0 ((i .0 e) .1))), λ e. i .1 ((a t u o o′) .1 ((j .0 e) .0), (b t u o o′) .1 ((j .0 e) .1)))
-
-  -- sets of states
-  module _ (x c : ℕ) (hx : x < n) (M : Machine k ℕ) (B : Bounded n c M) where
-    abbrev E : Machine k ℕ
-    E = projection n x c M
-
-    abbrev Pr : Projects n x M E (λ w. Unit {0}) (In n x c hx M B)
-    Pr = projection-projects n x c hx M B
-
+  -- sets of states: E runs the sets of M's states, in whatever form it keeps them
+  module _ (x : ℕ) (hx : x < n) (M E : Machine k ℕ) (Ok : ℕ → Type 0) (Has : ℕ → ℕ → Type 0) (Pr : Projects n x M E Ok Has) where
     blank-variant : (q : ℕ) → Blank n x M q → Comes n x M empty q
     unfolding Varies run Proper
     blank-variant q none = (empty, tt, tt, refl)
     blank-variant q (grown b s h) =
-        let us : (c : Branch k) → Comes n x M empty (s c) = λ c. blank-variant (s c) (h c) in
-        (node (withBit n x b 0) (λ c. (us c) .0), ((b, refl), λ c. (us c) .1), (put-lt n x b 0 hx (pow-pos n), λ c. (us c) .2), ap (M .step (withBit n x b 0)) (fun-ext (λ c. (us c) .3)))
+        let us : (c : Branch k) → Comes n x M empty (s c) = λ c. blank-variant (s c) (h c) in (
+          node (withBit n x b 0) (λ c. (us c) .0),
+          ((b, refl), λ c. (us c) .1),
+          (put-lt n x b 0 hx (pow-pos n), λ c. (us c) .2),
+          ap (M .step (withBit n x b 0)) (fun-ext (λ c. (us c) .3)),
+        )
 
-    pub set-only : (t : Tree k) → Proper n t → (q : ℕ) → In n x c hx M B (run E t) q → Comes n x M t q
+    pub sets-ok : (t : Tree k) → Proper n t → Ok (run E t)
+    unfolding run Proper
+    sets-ok empty o = Pr .start-ok
+    sets-ok (node l f) o = Pr .step-ok l (o .0) (λ b. run E (f b)) (λ b. sets-ok (f b) (o .1 b))
+
+    sets-only : (t : Tree k) → Proper n t → (q : ℕ) → Has (run E t) q → Comes n x M t q
     unfolding Varies run Proper
-    set-only empty o q h = blank-variant q (Pr .start-only q h)
-    set-only (node l f) o q h =
-        let w = Pr .step-only l (o .0) (λ b. run E (f b)) (λ b. tt) q h in
-        let us : (b : Branch k) → Comes n x M (f b) (w .1 b) = λ b. set-only (f b) (o .1 b) (w .1 b) (w .2 b) in (
+    sets-only empty o q h = blank-variant q (Pr .start-only q h)
+    sets-only (node l f) o q h =
+        let w = Pr .step-only l (o .0) (λ b. run E (f b)) (λ b. sets-ok (f b) (o .1 b)) q h in
+        let us : (b : Branch k) → Comes n x M (f b) (w .1 b) = λ b. sets-only (f b) (o .1 b) (w .1 b) (w .2 b) in (
           node (withBit n x (w .0) l) (λ b. (us b) .0),
           ((w .0, refl), λ b. (us b) .1),
           (put-lt n x (w .0) l hx (o .0), λ b. (us b) .2),
@@ -119,51 +115,52 @@ module _ {k : ℕ} (n : ℕ) where
     varied-blank : (v : Tree k) → Varies n x empty v → Blank n x M (run M v)
     unfolding Varies run
     varied-blank empty h = none
-    varied-blank (node m g) h = subst (λ (l : ℕ). Blank n x M (M .step l (λ b. run M (g b)))) (sym (h .0 .1)) (grown (h .0 .0) (λ b. run M (g b)) (λ b. varied-blank (g b) (h .1 b)))
+    varied-blank (node m g) h =
+        subst (λ (l : ℕ). Blank n x M (M .step l (λ b. run M (g b)))) (sym (h .0 .1))
+        (grown (h .0 .0) (λ b. run M (g b)) (λ b. varied-blank (g b) (h .1 b)))
 
-    pub set-all : (v t : Tree k) → Proper n t → Varies n x t v → In n x c hx M B (run E t) (run M v)
+    varied-in : (v t : Tree k) → Proper n t → Varies n x t v → Has (run E t) (run M v)
     unfolding Varies run Proper
-    set-all v empty o h = Pr .start-all (run M v) (varied-blank v h)
-    set-all empty (node l f) o h = absurd h
-    set-all (node m g) (node l f) o h =
-        subst (λ (z : ℕ). In n x c hx M B (run E (node l f)) (M .step z (λ b. run M (g b)))) (sym (h .0 .1))
-        (Pr .step-all l (o .0) (λ b. run E (f b)) (λ b. tt) (h .0 .0) (λ b. run M (g b)) (λ b. set-all (g b) (f b) (o .1 b) (h .1 b)))
+    varied-in v empty o h = Pr .start-all (run M v) (varied-blank v h)
+    varied-in empty (node l f) o h = absurd h
+    varied-in (node m g) (node l f) o h =
+        subst (λ (z : ℕ). Has (run E (node l f)) (M .step z (λ b. run M (g b)))) (sym (h .0 .1))
+        (Pr .step-all l (o .0) (λ b. run E (f b)) (λ b. sets-ok (f b) (o .1 b)) (h .0 .0) (λ b. run M (g b)) (λ b. varied-in (g b) (f b) (o .1 b) (h .1 b)))
 
-    run-small : (t : Tree k) → Proper n t → run E t < 2 ^ c
-    unfolding run Proper
-    run-small empty o = (projection-bounded n x c hx M B) .0
-    run-small (node l f) o = (projection-bounded n x c hx M B) .1 l (o .0) (λ b. run E (f b)) (λ b. run-small (f b) (o .1 b))
+    sets-all : (t : Tree k) → Proper n t → (q : ℕ) → Comes n x M t q → Has (run E t) q
+    sets-all t o q w = subst (Has (run E t)) (w .3) (varied-in (w .0) t o (w .1))
 
-    -- the set machine's state says to which states M comes on the variants
-    pub projection-kernel : (t u : Tree k) → Proper n t → Proper n u → (run E t ≡ run E u) ↔ ((q : ℕ) → Comes n x M t q ↔ Comes n x M u q)
-    projection-kernel t u o o′ = (
+    -- E accepts where M accepts a variant
+    pub sets-accept : (t : Tree k) → Proper n t → T (E .accepting (run E t)) ↔ ((q : ℕ) × Comes n x M t q × T (M .accepting q))
+    sets-accept t o = (
+      (λ a. let w = Pr .accepts-only (run E t) (sets-ok t o) a in (w .0, sets-only t o (w .0) (w .1), w .2)),
+      λ w. Pr .accepts-all (run E t) (sets-ok t o) (w .0) (sets-all t o (w .0) (w .1)) (w .2),
+    )
+
+    -- E's state says to which states M comes on the variants, where sets with the same members are the same
+    pub sets-kernel : ((s s′ : ℕ) → Ok s → Ok s′ → ((q : ℕ) → Has s q ↔ Has s′ q) → s ≡ s′)
+        → (t u : Tree k) → Proper n t → Proper n u → (run E t ≡ run E u) ↔ ((q : ℕ) → Comes n x M t q ↔ Comes n x M u q)
+    sets-kernel ext t u o o′ = (
       (λ e q. (carry t u o o′ e q, carry u t o′ o (sym e) q)),
-      λ f. low-ext c (run E t) (run E u) (run-small t o) (run-small u o′)
-          (λ q h. T-ext (low (run E t) q) (low (run E u) q) (λ y. (back u o′ q ((f q) .0 (set-only t o q (h, y)))) .1) (λ y. (back t o q ((f q) .1 (set-only u o′ q (h, y)))) .1)),
+      λ f. ext (run E t) (run E u) (sets-ok t o) (sets-ok u o′)
+          (λ q. ((λ h. sets-all u o′ q ((f q) .0 (sets-only t o q h))), λ h. sets-all t o q ((f q) .1 (sets-only u o′ q h)))),
     )
       where
-        back : (u : Tree k) → Proper n u → (q : ℕ) → Comes n x M u q → In n x c hx M B (run E u) q
-        back u o q w = subst (In n x c hx M B (run E u)) (w .3) (set-all (w .0) u o (w .1))
-
         carry : (t u : Tree k) → Proper n t → Proper n u → run E t ≡ run E u → (q : ℕ) → Comes n x M t q → Comes n x M u q
-        carry t u o o′ e q w = set-only u o′ q (subst (λ (z : ℕ). In n x c hx M B z q) e (back t o q w))
+        carry t u o o′ e q w = sets-only u o′ q (subst (λ (z : ℕ). Has z q) e (sets-all t o q w))
 
-    pub projection-accepts : (t : Tree k) → Proper n t → T (E .accepting (run E t)) ↔ ((q : ℕ) × Comes n x M t q × T (M .accepting q))
-    projection-accepts t o = (
-      (λ a. let w = Pr .accepts-only (run E t) tt a in (w .0, set-only t o (w .0) (w .1), w .2)),
-      λ w. Pr .accepts-all (run E t) tt (w .0) (subst (In n x c hx M B (run E t)) (w .1 .3) (set-all (w .1 .0) t o (w .1 .1))) (w .2),
-    )
+  module _ (x c : ℕ) (hx : x < n) (M : Machine k ℕ) (B : Bounded n c M) where
+    abbrev E : Machine k ℕ
+    E = projection n x c M
+
+    same-set : (s s′ : ℕ) → s < 2 ^ c → s′ < 2 ^ c → ((q : ℕ) → In n x c hx M B s q ↔ In n x c hx M B s′ q) → s ≡ s′
+    same-set s s′ b b′ f = low-ext c s s′ b b′ (λ q h. T-ext (low s q) (low s′ q) (λ y. ((f q) .0 (h, y)) .1) (λ y. ((f q) .1 (h, y)) .1))
+
+    pub projection-kernel : (t u : Tree k) → Proper n t → Proper n u → (run E t ≡ run E u) ↔ ((q : ℕ) → Comes n x M t q ↔ Comes n x M u q)
+    projection-kernel = sets-kernel x hx M E (λ w. w < 2 ^ c) (In n x c hx M B) (projection-projects n x c hx M B) same-set
 
   -- machines that are alike come to the same on variants
   pub comes-alike : (x : ℕ) (M N : Machine k ℕ) → Alike n M N → (t u : Tree k) → ((q : ℕ) → Comes n x M t q → Comes n x M u q) → (q : ℕ) → Comes n x N t q → Comes n x N u q
   comes-alike x M N a t u f q w =
       let v = f (run M (w .0)) (w .0, w .1, w .2, refl) in
       (v .0, v .1, v .2, (a (v .0) (w .0) (v .2) (w .2)) .0 (v .3) ∙ w .3)
-
-  pub projection-alike : (x c d : ℕ) → x < n → (M N : Machine k ℕ) → Bounded n c M → Bounded n d N → Alike n M N → Alike n (projection n x c M) (projection n x d N)
-  projection-alike x c d hx M N BM BN a t u o o′ =
-      let i = projection-kernel x c hx M BM t u o o′ in
-      let j = projection-kernel x d hx N BN t u o o′ in (
-        (λ e. j .1 (λ q. (comes-alike x M N a t u (λ r. (i .0 e r) .0) q, comes-alike x M N a u t (λ r. (i .0 e r) .1) q))),
-        λ e. i .1 (λ q. (comes-alike x N M (alike-sym M N a) t u (λ r. (j .0 e r) .0) q, comes-alike x N M (alike-sym M N a) u t (λ r. (j .0 e r) .1) q)),
-      )

@@ -1,9 +1,9 @@
 -- For a builder: its machine of each record, with the states in whatever order it found them, has document 01's count and gives the same answers.
 -- Assumes nothing.
 use Prim.Native.Nat.{ℕ, _*_, _^_, _≤_, _<_}
-use mathlib.Core.Path.{_≡_, refl, sym, ap, subst, _∙_, fun-ext}
+use mathlib.Core.Path.{_≡_, refl, sym, ap, ap₂, subst, _∙_, fun-ext}
 use mathlib.Core.Logic.{_↔_}
-use mathlib.Core.Bool.{Bool, true, false, not, _&&_, _||_}
+use mathlib.Core.Bool.{Bool, true, false, _&&_, _||_}
 use mathlib.Core.List.{List}
 use native.Mathlib.Nat.{le-antisymm}
 use native.Mathlib.Omega.{arith}
@@ -13,27 +13,27 @@ use lib.ListN.{length, getD}
 use Rattle.logic.specs.Meaning.{Branch, Assignment, Formula, subset, singleton, successor, root, negation, disjunction, conjunction, exists, Holds}
 use Rattle.logic.specs.Tree.{Tree, empty, node, Proper, TreeOf}
 use Rattle.logic.specs.Rule.{Record, formulaAt, lastOf, Accepted}
-use Rattle.logic.specs.Machine.{Machine, run, Decides, complement, product}
+use Rattle.logic.specs.Machine.{Machine, run, Decides, complement, product, Simulates, Projects}
 use Rattle.logic.specs.Atom.{subsetMachine, singletonMachine, successorMachine, rootMachine}
 use Rattle.logic.specs.Reach.{elem, below, Reached, started, stepped, position, numbered, projection}
 use Rattle.logic.specs.Table.{Table, codedProduct, build, productTable, projectionTable, complementTable, table}
 use Rattle.logic.specs.Search.{search}
-use Rattle.logic.specs.Alike.{Bounded, Full, Distinct, Lists, Alike, Agrees, MachineOf, Comes}
+use Rattle.logic.specs.Alike.{Bounded, Full, Distinct, Lists, Alike, Agrees, MachineOf}
 use Rattle.logic.specs.Claims.{statesAt, Roomy, Answers, Judges}
 use Rattle.logic.specs.Decide.{report, decideOf, say, judgeOf}
-use Rattle.logic.proofs.Connectives.{or-iff, and-iff, run-complement, decides-simulated, decides-negation, decides-disjunction, decides-conjunction}
+use Rattle.logic.proofs.Connectives.{run-product, run-simulates, decides-simulated, decides-negation, decides-disjunction, decides-conjunction}
 use Rattle.logic.proofs.Atoms.{decides-subset, decides-singleton, decides-successor, decides-root}
 use Rattle.logic.proofs.Exists.{decides-exists}
 use Rattle.logic.proofs.Numbered.{getD-elem, getD-position, numbered-bounded, numbered-decides}
 use Rattle.logic.proofs.Counts.{position-getD}
-use Rattle.logic.proofs.Projection.{In, projection-bounded, projection-projects}
-use Rattle.logic.proofs.Satisfiable.{reached-tree, tree-reached, setsOf, sets-represented}
+use Rattle.logic.proofs.Projection.{projection-bounded}
+use Rattle.logic.proofs.Satisfiable.{reached-tree, tree-reached}
 use Rattle.logic.proofs.Pigeon.{pigeon}
-use Rattle.logic.proofs.Tables.{Valid, Right, table-right, subset-bounded, singleton-bounded, successor-bounded, root-bounded, product-bounded, Codes, product-simulates}
+use Rattle.logic.proofs.Tables.{Valid, Right, table-right, subset-bounded, singleton-bounded, successor-bounded, root-bounded, product-bounded}
 use Rattle.logic.proofs.Rules.{record-right}
 use Rattle.logic.proofs.Settle.{run-below, search-right}
 use Rattle.logic.proofs.Answers.{sought-right, decide-only, judge-judges}
-use Rattle.logic.proofs.Alike.{alike-sym, alike-trans, complement-alike, numbered-alike, build-alike, product-kernel, product-alike, projection-kernel, projection-accepts, comes-alike, projection-alike}
+use Rattle.logic.proofs.Alike.{alike-sym, alike-trans, complement-alike, numbered-alike, build-alike, product-kernel, projection-kernel, sets-kernel, comes-alike}
 
 module _ {k : ℕ} (n : ℕ) where
   -- the machines of the atoms
@@ -65,137 +65,75 @@ module _ {k : ℕ} (n : ℕ) where
         (alike-trans n M ((table n f) .machine) (complement ((table n f) .machine)) (m .alike) (alike-sym n (complement ((table n f) .machine)) ((table n f) .machine) (complement-alike n ((table n f) .machine))));
   }
 
-  -- or, and
-  module _ (f g : Formula k) (vf : Valid n f) (vg : Valid n g) (c d : ℕ) (M N : Machine k ℕ) (BM : Bounded n c M) (BN : Bounded n d N) (m : MachineOf n f M) (m′ : MachineOf n g N) where
-    abbrev F : Table k
-    F = table n f
+  -- a machine that behaves as another does, where R relates one state to one state
+  module _ {S : Type 0} (M : Machine k ℕ) (N : Machine k S) (R : ℕ → S → Type 0) (sim : Simulates n M N R)
+      (one : (q q′ : ℕ) (s s′ : S) → R q s → R q′ s′ → (q ≡ q′) ↔ (s ≡ s′)) where
+    same-states : (t u : Tree k) → Proper n t → Proper n u → (run M t ≡ run M u) ↔ (run N t ≡ run N u)
+    same-states t u o o′ = one (run M t) (run M u) (run N t) (run N u) (run-simulates n M N R sim t o) (run-simulates n M N R sim u o′)
 
-    abbrev G : Table k
-    G = table n g
-
-    pair-alike : (op : Bool → Bool → Bool) → Alike n (codedProduct op d M N) ((productTable n op F G) .machine)
-    unfolding productTable
-    pair-alike op =
-        let P : Machine k ℕ = codedProduct op (G .count) (F .machine) (G .machine) in
-        let B : Bounded n (F .count * G .count) P = product-bounded n op (F .count) (G .count) (F .machine) (G .machine) ((table-right n f vf) .0) ((table-right n g vg) .0) in
-        alike-trans n (codedProduct op d M N) P ((build n (F .count * G .count) P) .machine)
-        (product-alike n op op c d (F .count) (G .count) M N (F .machine) (G .machine) BM BN ((table-right n f vf) .0) ((table-right n g vg) .0) (m .alike) (m′ .alike))
-        (alike-sym n ((build n (F .count * G .count) P) .machine) P (build-alike n (F .count * G .count) P B))
-
-    pair-decides : (op : Bool → Bool → Bool) (h : Formula k) → Decides n (product op M N) h → Decides n (codedProduct op d M N) h
-    pair-decides op h D = decides-simulated n (codedProduct op d M N) (product op M N) (Codes n op c d M N BM BN) (product-simulates n op c d M N BM BN) h D
-
-    pub of-disjunction : MachineOf n (disjunction f g) (codedProduct _||_ d M N)
-    unfolding table
-    of-disjunction = record { decides = pair-decides _||_ (disjunction f g) (decides-disjunction n M f (m .decides) N g (m′ .decides)); alike = pair-alike _||_ }
-
-    pub of-conjunction : MachineOf n (conjunction f g) (codedProduct _&&_ d M N)
-    unfolding table
-    of-conjunction = record { decides = pair-decides _&&_ (conjunction f g) (decides-conjunction n M f (m .decides) N g (m′ .decides)); alike = pair-alike _&&_ }
-
-  -- exists
-  pub of-exists : (x : ℕ) → x < n → (f : Formula k) → Valid n f → (c : ℕ) (M : Machine k ℕ) → Bounded n c M → MachineOf n f M → MachineOf n (exists x f) (projection n x c M)
-  unfolding table projectionTable
-  of-exists x hx f vf c M B m =
-      let F : Table k = table n f in
-      let BF : Bounded n (F .count) (F .machine) = (table-right n f vf) .0 in
-      let E : Machine k ℕ = projection n x (F .count) (F .machine) in
-      record {
-        decides = decides-exists n x hx M (projection n x c M) (λ w. Unit {0}) (In n x c hx M B) (projection-projects n x c hx M B) f (m .decides);
-        alike = alike-trans n (projection n x c M) E ((build n (2 ^ F .count) E) .machine)
-            (projection-alike n x c (F .count) hx M (F .machine) B BF (m .alike))
-            (alike-sym n ((build n (2 ^ F .count) E) .machine) E (build-alike n (2 ^ F .count) E (projection-bounded n x (F .count) hx (F .machine) BF)));
-      }
-
-  -- The same by what a machine does on trees, for codes of other forms than `pairs` and `sets` have.
-  -- a machine that runs as one of f does
-  pub of-runs : (f : Formula k) (M R : Machine k ℕ) → MachineOf n f M → ((t : Tree k) → Proper n t → (run R t ≡ run M t) × (R .accepting (run R t) ≡ M .accepting (run M t))) → MachineOf n f R
-  of-runs f M R m h = record {
-    decides = λ t o A r. subst (λ (x : Bool). T x ↔ Holds f A) (sym ((h t o) .1)) (m .decides t o A r);
-    alike = λ t u o o′. let i = m .alike t u o o′ in ((λ e. i .0 (sym ((h t o) .0) ∙ e ∙ (h u o′) .0)), λ e. (h t o) .0 ∙ i .1 e ∙ sym ((h u o′) .0));
+  pub of-simulated : (f : Formula k) (M N : Machine k ℕ) → MachineOf n f N → (R : ℕ → ℕ → Type 0) → Simulates n M N R
+      → ((q q′ s s′ : ℕ) → R q s → R q′ s′ → (q ≡ q′) ↔ (s ≡ s′)) → MachineOf n f M
+  of-simulated f M N m R sim one = record {
+    decides = decides-simulated n M N R sim f (m .decides);
+    alike = alike-trans n M N ((table n f) .machine) (same-states M N R sim one) (m .alike);
   }
 
-  -- a machine that tells apart what one of f does, and accepts alike
-  pub of-alike : (f : Formula k) (M R : Machine k ℕ) → MachineOf n f M → Alike n R M → ((t : Tree k) → Proper n t → R .accepting (run R t) ≡ M .accepting (run M t)) → MachineOf n f R
-  of-alike f M R m a h = record {
-    decides = λ t o A r. subst (λ (x : Bool). T x ↔ Holds f A) (sym (h t o)) (m .decides t o A r);
-    alike = alike-trans n R M ((table n f) .machine) a (m .alike);
-  }
-
-  pub of-negation-alike : (f : Formula k) (M R : Machine k ℕ) → MachineOf n f M → Alike n R M → ((t : Tree k) → Proper n t → R .accepting (run R t) ≡ not (M .accepting (run M t))) → MachineOf n (negation f) R
-  of-negation-alike f M R m a h = of-alike (negation f) (complement M) R (of-negation f M m) (alike-trans n R M (complement M) a (alike-sym n (complement M) M (complement-alike n M)))
-      (λ t o. h t o ∙ ap (λ (q : ℕ). not (M .accepting q)) (sym (run-complement M t)))
-
-  module _ (f g : Formula k) (vf : Valid n f) (vg : Valid n g) (M N : Machine k ℕ) (m : MachineOf n f M) (m′ : MachineOf n g N) (R : Machine k ℕ)
-      (same : (t u : Tree k) → Proper n t → Proper n u → (run R t ≡ run R u) ↔ ((run M t ≡ run M u) × (run N t ≡ run N u))) where
-    pair-runs : (op : Bool → Bool → Bool) → Alike n R ((productTable n op (table n f) (table n g)) .machine)
+  -- or, and: P runs the pairs of states of M and N, in whatever form it keeps them
+  module _ (f g : Formula k) (vf : Valid n f) (vg : Valid n g) (M N : Machine k ℕ) (m : MachineOf n f M) (m′ : MachineOf n g N) (P : Machine k ℕ)
+      (R : ℕ → ℕ × ℕ → Type 0) (one : (q q′ : ℕ) (s s′ : ℕ × ℕ) → R q s → R q′ s′ → (q ≡ q′) ↔ (s ≡ s′)) where
+    pairs-alike : (op : Bool → Bool → Bool) → Simulates n P (product op M N) R → Alike n P ((productTable n op (table n f) (table n g)) .machine)
     unfolding productTable
-    pair-runs op t u o o′ =
-        let F : Table k = table n f in let G : Table k = table n g in
-        let BF : Bounded n (F .count) (F .machine) = (table-right n f vf) .0 in let BG : Bounded n (G .count) (G .machine) = (table-right n g vg) .0 in
-        let P : Machine k ℕ = codedProduct op (G .count) (F .machine) (G .machine) in
-        let b = build-alike n (F .count * G .count) P (product-bounded n op (F .count) (G .count) (F .machine) (G .machine) BF BG) t u o o′ in
+    pairs-alike op sim t u o o′ =
+        let F : Table k = table n f in
+        let G : Table k = table n g in
+        let BF : Bounded n (F .count) (F .machine) = (table-right n f vf) .0 in
+        let BG : Bounded n (G .count) (G .machine) = (table-right n g vg) .0 in
+        let C : Machine k ℕ = codedProduct op (G .count) (F .machine) (G .machine) in
+        let b = build-alike n (F .count * G .count) C (product-bounded n op (F .count) (G .count) (F .machine) (G .machine) BF BG) t u o o′ in
         let i = product-kernel n op (F .count) (G .count) (F .machine) (G .machine) BF BG t u o o′ in
-        let j = same t u o o′ in let p = m .alike t u o o′ in let q = m′ .alike t u o o′ in
-        ((λ e. b .1 (i .1 (p .0 ((j .0 e) .0), q .0 ((j .0 e) .1)))), λ e. j .1 (p .1 ((i .0 (b .0 e)) .0), q .1 ((i .0 (b .0 e)) .1)))
-
-    pub of-disjunction-runs : ((t : Tree k) → Proper n t → R .accepting (run R t) ≡ (M .accepting (run M t) || N .accepting (run N t))) → MachineOf n (disjunction f g) R
-    unfolding table Holds
-    of-disjunction-runs h = record {
-      decides = λ t o A r. subst (λ (x : Bool). T x ↔ Holds (disjunction f g) A) (sym (h t o)) (or-iff (M .accepting (run M t)) (N .accepting (run N t)) (m .decides t o A r) (m′ .decides t o A r));
-      alike = pair-runs _||_;
-    }
-
-    pub of-conjunction-runs : ((t : Tree k) → Proper n t → R .accepting (run R t) ≡ (M .accepting (run M t) && N .accepting (run N t))) → MachineOf n (conjunction f g) R
-    unfolding table Holds
-    of-conjunction-runs h = record {
-      decides = λ t o A r. subst (λ (x : Bool). T x ↔ Holds (conjunction f g) A) (sym (h t o)) (and-iff (M .accepting (run M t)) (N .accepting (run N t)) (m .decides t o A r) (m′ .decides t o A r));
-      alike = pair-runs _&&_;
-    }
-
-  module _ (x : ℕ) (hx : x < n) (f : Formula k) (vf : Valid n f) (M : Machine k ℕ) (m : MachineOf n f M) (R : Machine k ℕ)
-      (same : (t u : Tree k) → Proper n t → Proper n u → (run R t ≡ run R u) ↔ ((q : ℕ) → Comes n x M t q ↔ Comes n x M u q))
-      (acc : (t : Tree k) → Proper n t → T (R .accepting (run R t)) ↔ ((q : ℕ) × Comes n x M t q × T (M .accepting q))) where
-    abbrev FT : Table k
-    FT = table n f
-
-    abbrev BT : Bounded n (FT .count) (FT .machine)
-    BT = (table-right n f vf) .0
-
-    abbrev ET : Machine k ℕ
-    ET = projection n x (FT .count) (FT .machine)
-
-    -- M and the table accept the same trees
-    both-accept : (v : Tree k) → Proper n v → T (M .accepting (run M v)) ↔ T (FT .machine .accepting (run (FT .machine) v))
-    both-accept v o =
-        let i = m .decides v o (setsOf n v) (sets-represented n v) in
-        let j = (table-right n f vf) .1 v o (setsOf n v) (sets-represented n v) in
-        ((λ t. j .1 (i .0 t)), λ t. i .1 (j .0 t))
-
-    set-decides : Decides n R (exists x f)
-    set-decides t o A r =
-        let i = acc t o in
-        let j = projection-accepts n x (FT .count) hx (FT .machine) BT t o in
-        let d = decides-exists n x hx (FT .machine) ET (λ w. Unit {0}) (In n x (FT .count) hx (FT .machine) BT) (projection-projects n x (FT .count) hx (FT .machine) BT) f ((table-right n f vf) .1) t o A r in (
-          (λ y. let w = i .0 y in let v = w .1 in
-              d .0 (j .1 (run (FT .machine) (v .0), (v .0, v .1, v .2, refl), (both-accept (v .0) (v .2)) .0 (subst (λ (q : ℕ). T (M .accepting q)) (sym (v .3)) (w .2))))),
-          λ h. let w = j .0 (d .1 h) in let v = w .1 in
-              i .1 (run M (v .0), (v .0, v .1, v .2, refl), (both-accept (v .0) (v .2)) .1 (subst (λ (q : ℕ). T (FT .machine .accepting q)) (sym (v .3)) (w .2))),
+        let j = same-states P (product op M N) R sim one t u o o′ in
+        let rt = run-product op M N t in
+        let ru = run-product op M N u in
+        let p = m .alike t u o o′ in
+        let q = m′ .alike t u o o′ in (
+          (λ e. let z = sym rt ∙ j .0 e ∙ ru in
+              b .1 (i .1 (p .0 (ap (λ (s : ℕ × ℕ). s .0) z), q .0 (ap (λ (s : ℕ × ℕ). s .1) z)))),
+          λ e. let w = i .0 (b .0 e) in j .1 (rt ∙ ap₂ (λ (x y : ℕ). (x, y)) (p .1 (w .0)) (q .1 (w .1)) ∙ sym ru),
         )
 
-    pub of-exists-runs : MachineOf n (exists x f) R
-    unfolding table projectionTable
-    of-exists-runs = record {
-      decides = set-decides;
-      alike = λ t u o o′.
-          let b = build-alike n (2 ^ FT .count) ET (projection-bounded n x (FT .count) hx (FT .machine) BT) t u o o′ in
-          let i = projection-kernel n x (FT .count) hx (FT .machine) BT t u o o′ in
-          let j = same t u o o′ in
-          let N = FT .machine in let a = m .alike in let a′ = alike-sym n M N (m .alike) in (
-            (λ e. b .1 (i .1 (λ q. (comes-alike n x M N a t u (λ r. (j .0 e r) .0) q, comes-alike n x M N a u t (λ r. (j .0 e r) .1) q)))),
-            λ e. j .1 (λ q. (comes-alike n x N M a′ t u (λ r. (i .0 (b .0 e) r) .0) q, comes-alike n x N M a′ u t (λ r. (i .0 (b .0 e) r) .1) q)),
-          );
+    pub of-disjunction : Simulates n P (product _||_ M N) R → MachineOf n (disjunction f g) P
+    unfolding table
+    of-disjunction sim = record {
+      decides = decides-simulated n P (product _||_ M N) R sim (disjunction f g) (decides-disjunction n M f (m .decides) N g (m′ .decides));
+      alike = pairs-alike _||_ sim;
     }
+
+    pub of-conjunction : Simulates n P (product _&&_ M N) R → MachineOf n (conjunction f g) P
+    unfolding table
+    of-conjunction sim = record {
+      decides = decides-simulated n P (product _&&_ M N) R sim (conjunction f g) (decides-conjunction n M f (m .decides) N g (m′ .decides));
+      alike = pairs-alike _&&_ sim;
+    }
+
+  -- exists: E runs the sets of M's states, in whatever form it keeps them
+  pub of-exists : (x : ℕ) → x < n → (f : Formula k) → Valid n f → (M E : Machine k ℕ) → MachineOf n f M → (Ok : ℕ → Type 0) (Has : ℕ → ℕ → Type 0)
+      → Projects n x M E Ok Has → ((s s′ : ℕ) → Ok s → Ok s′ → ((q : ℕ) → Has s q ↔ Has s′ q) → s ≡ s′) → MachineOf n (exists x f) E
+  unfolding table projectionTable
+  of-exists x hx f vf M E m Ok Has Pr ext = record {
+    decides = decides-exists n x hx M E Ok Has Pr f (m .decides);
+    alike = λ t u o o′.
+        let F : Table k = table n f in
+        let N : Machine k ℕ = F .machine in
+        let B : Bounded n (F .count) N = (table-right n f vf) .0 in
+        let b = build-alike n (2 ^ F .count) (projection n x (F .count) N) (projection-bounded n x (F .count) hx N B) t u o o′ in
+        let i = projection-kernel n x (F .count) hx N B t u o o′ in
+        let j = sets-kernel n x hx M E Ok Has Pr ext t u o o′ in
+        let a = m .alike in
+        let a′ = alike-sym n M N a in (
+          (λ e. b .1 (i .1 (λ q. (comes-alike n x M N a t u (λ r. (j .0 e r) .0) q, comes-alike n x M N a u t (λ r. (j .0 e r) .1) q)))),
+          λ e. j .1 (λ q. (comes-alike n x N M a′ t u (λ r. (i .0 (b .0 e) r) .0) q, comes-alike n x N M a′ u t (λ r. (i .0 (b .0 e) r) .1) q)),
+        );
+  }
 
   -- the states found, numbered in the order found
   module _ (M : Machine k ℕ) (L : List ℕ) (v : Lists n M L) where

@@ -1,22 +1,23 @@
 -- The states of a built machine are exactly those that it reaches; and a count of states does not depend on the order in which they are found.
 -- Assumes nothing.
-use Prim.Native.Nat.{ℕ, zero, suc, _^_, _≤_, _<_}
+use Prim.Native.Nat.{ℕ, zero, suc, _^_, _≤_, _<_, suc-le-suc}
 use mathlib.Core.Path.{_≡_, refl, ap, sym, subst, fun-ext}
 use mathlib.Core.Logic.{_↔_, _⊎_, inl, inr, ⊎-elim}
-use mathlib.Core.Bool.{Bool, true, false, cond, not}
+use mathlib.Core.Bool.{Bool, true, false, cond, not, _||_}
 use mathlib.Core.List.{List, [], _∷_}
 use native.Mathlib.Nat.{not-suc-le-zero, le-of-suc-le-suc, le-antisymm}
 use native.Mathlib.Omega.{arith}
 use lib.Dec.{T, not-T, eqb, eqb→eq, eqb-refl}
 use lib.ListN.{length, getD}
 use Rattle.logic.specs.Machine.{Machine}
+use Rattle.logic.specs.Meaning.{Branch}
 use Rattle.logic.specs.Reach.{elem, below, select, Reached, started, stepped, reach, position, numbered}
 use Rattle.logic.specs.Table.{build}
 use Rattle.logic.proofs.Places.{T→true, not-T as false-of, neqb}
 use Rattle.logic.proofs.Reach.{elem-cons, elem-below, elem-select}
 use Rattle.logic.proofs.Rounds.{without, reach-only, reach-all, reach-distinct}
-use Rattle.logic.specs.Alike.{Bounded, Distinct, Closed}
-use Rattle.logic.proofs.Numbered.{bound, build-bounded, getD-position, getD-elem, reached-bound}
+use Rattle.logic.specs.Alike.{Bounded, Distinct, Closed, Lists}
+use Rattle.logic.proofs.Numbered.{bound, build-bounded, position-lt, getD-position, getD-elem, reached-bound}
 
 pub position-getD : (L : List ℕ) → Distinct L → (i : ℕ) → i < length L → position (getD L i 0) L ≡ i
 unfolding Distinct position
@@ -25,6 +26,39 @@ position-getD (r ∷ L) d zero h = rw (T→true (eqb r r) (eqb-refl r)) refl
 position-getD (r ∷ L) d (suc i) h =
     let e : eqb (getD L i 0) r ≡ false = false-of (eqb (getD L i 0) r) (λ t. d .0 (subst (λ (z : ℕ). T (elem z L)) (eqb→eq (getD L i 0) r t) (getD-elem L i (le-of-suc-le-suc h)))) in
     rw e (ap suc (position-getD L (d .1) i (le-of-suc-le-suc h)))
+
+-- ---- lists by index
+pub elem-position : (q : ℕ) (L : List ℕ) → position q L < length L → T (elem q L)
+unfolding position elem
+elem-position q [] h = not-suc-le-zero h
+elem-position q (r ∷ L) h = go (eqb q r) h (elem-position q L)
+  where
+    go : (v : Bool) → cond v 0 (suc (position q L)) < suc (length L) → (position q L < length L → T (elem q L)) → T (v || elem q L)
+    go true h ih = tt
+    go false h ih = ih (le-of-suc-le-suc h)
+
+pub distinct-index : (L : List ℕ) → ((i j : ℕ) → i < length L → j < length L → getD L i 0 ≡ getD L j 0 → i ≡ j) → Distinct L
+unfolding Distinct
+distinct-index [] one = tt
+distinct-index (q ∷ L) one = (
+  (λ t. let z : 0 ≡ suc (position q L) = one 0 (suc (position q L)) (omega arith) (suc-le-suc (position-lt q L t)) (sym (getD-position q L t)) in omega arith),
+  distinct-index L (λ i j hi hj e. let z : suc i ≡ suc j = one (suc i) (suc j) (suc-le-suc hi) (suc-le-suc hj) e in omega arith),
+)
+
+-- the states of a machine, by index: each once, reached, the start first, and closed under its steps
+module _ {k : ℕ} (n : ℕ) (M : Machine k ℕ) (L : List ℕ) (one : (i j : ℕ) → i < length L → j < length L → getD L i 0 ≡ getD L j 0 → i ≡ j)
+    (reached : (i : ℕ) → i < length L → Reached M (below (2 ^ n)) (getD L i 0)) (first : (0 < length L) × (getD L 0 0 ≡ M .start))
+    (closed : (l : ℕ) → l < 2 ^ n → (s : Branch k → ℕ) → ((b : Branch k) → s b < length L) → position (M .step l (λ b. getD L (s b) 0)) L < length L) where
+  pub lists-index : Lists n M L
+  lists-index = record {
+    distinct = distinct-index L one;
+    only = λ q t. subst (Reached M (below (2 ^ n))) (getD-position q L t) (reached (position q L) (position-lt q L t));
+    begins = subst (λ (q : ℕ). T (elem q L)) (first .1) (getD-elem L 0 (first .0));
+    closed = λ l t s h.
+        let e : M .step l (λ b. getD L (position (s b) L) 0) ≡ M .step l s = ap (M .step l) (fun-ext (λ b. getD-position (s b) L (h b))) in
+        elem-position (M .step l s) L (subst (λ (q : ℕ). position q L < length L) e
+        (closed l ((elem-below l (2 ^ n)) .0 t) (λ b. position (s b) L) (λ b. position-lt (s b) L (h b))));
+  }
 
 module _ {k : ℕ} (n d : ℕ) (M : Machine k ℕ) (B : Bounded n d M) where
   abbrev L : List ℕ

@@ -34,7 +34,7 @@ any-elem g (r ∷ L) =
     )
 
 -- one of two labels
-one-of : (n x l l′ : ℕ) → T (elem l′ (withBit n x false l ∷ withBit n x true l ∷ [])) → (v : Bool) × (l′ ≡ withBit n x v l)
+pub one-of : (n x l l′ : ℕ) → T (elem l′ (withBit n x false l ∷ withBit n x true l ∷ [])) → (v : Bool) × (l′ ≡ withBit n x v l)
 unfolding elem
 one-of n x l l′ t =
     ⊎-elim (λ e. (false, e)) (λ u. ⊎-elim (λ e. (true, e)) (λ z. absurd z) ((elem-cons l′ (withBit n x true l) []) .0 u)) ((elem-cons l′ (withBit n x false l) (withBit n x true l ∷ [])) .0 t)
@@ -44,23 +44,20 @@ in-two n x l true = (elem-cons (withBit n x true l) (withBit n x false l) (withB
 in-two n x l false = (elem-cons (withBit n x false l) (withBit n x false l) (withBit n x true l ∷ [])) .1 (inl refl)
 
 module _ {k : ℕ} (n x c : ℕ) (hx : x < n) (M : Machine k ℕ) (B : Bounded n c M) where
-  blanks : List ℕ
+  abbrev blanks : List ℕ
   blanks = withBit n x false 0 ∷ withBit n x true 0 ∷ []
 
   to-blank : (q : ℕ) → Reached M blanks q → Blank n x M q
-  unfolding blanks
   to-blank q started = none
   to-blank q (stepped l t s h) =
       let w = one-of n x 0 l t in
       subst (λ (z : ℕ). Blank n x M (M .step z s)) (sym (w .1)) (grown (w .0) s (λ b. to-blank (s b) (h b)))
 
-  of-blank : (q : ℕ) → Blank n x M q → Reached M blanks q
-  unfolding blanks
+  pub of-blank : (q : ℕ) → Blank n x M q → Reached M blanks q
   of-blank q none = started
   of-blank q (grown v s h) = stepped (withBit n x v 0) (in-two n x 0 v) s (λ b. of-blank (s b) (h b))
 
-  blank-bound : (q : ℕ) → Reached M blanks q → q < c
-  unfolding blanks
+  pub blank-bound : (q : ℕ) → Reached M blanks q → q < c
   blank-bound q r = reached-bound n c M blanks B (λ l t. let w = one-of n x 0 l t in subst (λ (z : ℕ). z < 2 ^ n) (sym (w .1)) (put-lt n x (w .0) 0 hx (pow-pos n))) q r
 
   abbrev pub In : ℕ → ℕ → Type 0
@@ -71,7 +68,7 @@ module _ {k : ℕ} (n x c : ℕ) (hx : x < n) (M : Machine k ℕ) (B : Bounded n
 
   -- the start has every state that M comes to on trees that are blank but for x, not its start alone
   start-all : (q : ℕ) → Blank n x M q → In ((projection n x c M) .start) q
-  unfolding projection blanks
+  unfolding projection
   start-all q u = (in-word (λ z. elem z (reach M blanks c)) q) .1 (blank-bound q (of-blank q u), reach-all M blanks c blank-bound q (of-blank q u))
 
   pub projection-bounded : Bounded n (2 ^ c) (projection n x c M)
@@ -81,11 +78,11 @@ module _ {k : ℕ} (n x c : ℕ) (hx : x < n) (M : Machine k ℕ) (B : Bounded n
     λ l h s u. word-lt c (λ q. elem q (successors M (withBit n x false l ∷ withBit n x true l ∷ []) (λ b. members c (s b)))),
   )
 
-  pub projection-projects : Projects n x M (projection n x c M) (λ w. Unit {0}) In
-  unfolding projection blanks
+  pub projection-projects : Projects n x M (projection n x c M) (λ w. w < 2 ^ c) In
+  unfolding projection
   projection-projects = record {
-    start-ok = tt;
-    step-ok = λ l h s u. tt;
+    start-ok = projection-bounded .0;
+    step-ok = λ l h s u. projection-bounded .1 l h s u;
     start-only = λ q u. to-blank q (reach-only M blanks c blank-bound q (((in-word (λ z. elem z (reach M blanks c)) q) .0 u) .1));
     start-all = start-all;
     step-only = λ l h s u q v.

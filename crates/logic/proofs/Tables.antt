@@ -113,7 +113,7 @@ module _ {k : ℕ} (n : ℕ) where
   unfolding projectionTable
   projection-right x f a hx r =
       build-right (exists x f) (2 ^ a .count) (projection n x (a .count) (a .machine)) (projection-bounded n x (a .count) hx (a .machine) (r .0))
-      (decides-exists n x hx (a .machine) (projection n x (a .count) (a .machine)) (λ w. Unit {0}) (In n x (a .count) hx (a .machine) (r .0)) (projection-projects n x (a .count) hx (a .machine) (r .0)) f (r .1))
+      (decides-exists n x hx (a .machine) (projection n x (a .count) (a .machine)) (λ w. w < 2 ^ a .count) (In n x (a .count) hx (a .machine) (r .0)) (projection-projects n x (a .count) hx (a .machine) (r .0)) f (r .1))
 
   -- THE THEOREM: the machine of a formula accepts a tree exactly if the formula holds for the assignment
   pub table-right : (f : Formula k) → Valid n f → Right f (table n f)

@@ -1,8 +1,8 @@
 -- Two branches: what they have is all that there is; a test of every member of a list. Assumes nothing.
 use Prim.Native.Nat.{ℕ}
-use mathlib.Core.Path.{_≡_, refl, ap, sym, subst, fun-ext}
+use mathlib.Core.Path.{_≡_, refl, sym, subst, fun-ext}
 use mathlib.Core.Logic.{⊎-elim}
-use mathlib.Core.Bool.{Bool, true, false, cond}
+use mathlib.Core.Bool.{Bool, true, false}
 use mathlib.Core.List.{List, [], _∷_}
 use native.Mathlib.Omega.{arith}
 use lib.Dec.{T, eqb}
@@ -15,13 +15,17 @@ use Rattle.logic.proofs.Connectives.{and-iff}
 use Rattle.logic.proofs.Branches.{branch-same}
 use Rattle.logic.proofs.Reach.{elem-cons}
 
+-- what holds of both branches holds of each
+pub each : (Q : Branch 2 → Type 0) → Q one → Q two → (c : Branch 2) → Q c
+each Q p q c = go (eqb (c .number) 0) refl
+  where
+    go : (v : Bool) → eqb (c .number) 0 ≡ v → Q c
+    go true e = subst Q (sym (branch-eq c one (true→T e))) p
+    go false e = let d = neqb (c .number) 0 e in let h = c .below in subst Q (sym (branch-same c two (omega arith))) q
+
 -- what two branches have is all that there is
 pub two-branches : {A : Type 0} (s : Branch 2 → A) → pairOf (s one) (s two) ≡ s
-two-branches {A} s = fun-ext (λ c. go c (eqb (c .number) 0) refl)
-  where
-    go : (c : Branch 2) (v : Bool) → eqb (c .number) 0 ≡ v → cond v (s one) (s two) ≡ s c
-    go c true e = ap s (sym (branch-eq c one (true→T e)))
-    go c false e = let d = neqb (c .number) 0 e in let h = c .below in ap s (sym (branch-same c two (omega arith)))
+two-branches {A} s = fun-ext (each (λ c. pairOf (s one) (s two) c ≡ s c) refl refl)
 
 pub all-elem : (g : ℕ → Bool) (L : List ℕ) → T (allOf g L) → (q : ℕ) → T (elem q L) → T (g q)
 unfolding allOf elem

@@ -15,6 +15,10 @@ two = record { number = 1; below = lit< tt }
 abbrev pub pairOf : {A : Type 0} → A → A → Branch 2 → A
 pairOf a b c = cond (eqb (c .number) 0) a b
 
--- the machine of a step function over two states
+-- the machine of a start and a step function over two states
+abbrev pub branching : ℕ → (ℕ → ℕ → ℕ → ℕ) → (ℕ → Bool) → Machine 2 ℕ
+branching q g acc = record { start = q; step = λ l s. g l (s one) (s two); accepting = acc }
+
+-- the same with state 0 at the start
 abbrev pub binary : (ℕ → ℕ → ℕ → ℕ) → (ℕ → Bool) → Machine 2 ℕ
-binary g acc = record { start = 0; step = λ l s. g l (s one) (s two); accepting = acc }
+binary g acc = branching 0 g acc

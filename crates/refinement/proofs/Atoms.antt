@@ -1,28 +1,28 @@
--- The builder's atoms run as the logic's.
+-- The builder's atoms, from their tables, are machines of the atoms.
 -- Assumes nothing.
-use Prim.Native.Nat.{ℕ, zero, suc, _/_, _%_, _<_}
-use mathlib.Core.Path.{_≡_, refl, sym, ap, ap₂, _∙_}
+use Prim.Native.Nat.{ℕ, zero, suc, _/_, _%_, _≤_, _<_}
+use mathlib.Core.Path.{_≡_, refl, sym, ap, ap₂, subst, _∙_, fun-ext}
 use mathlib.Core.Bool.{Bool, true, false}
 use native.Mathlib.Omega.{arith}
 use lib.Dec.{T, eqb, eqb→eq}
-use Rattle.logic.specs.Meaning.{Branch}
-use Rattle.logic.specs.Tree.{downFrom, sumOf, Tree, empty, node, Proper, bit}
-use Rattle.logic.specs.Machine.{Machine, run, bitOf, allOf, anyOf}
-use Rattle.logic.specs.Atom.{subsetStep, singletonStep, successorStep, rootStep, subsetMachine, singletonMachine, successorMachine, rootMachine}
+use Rattle.logic.specs.Meaning.{Branch, Formula, subset, singleton, successor, root}
+use Rattle.logic.specs.Tree.{downFrom, sumOf, bit}
+use Rattle.logic.specs.Machine.{Machine, bitOf, allOf, anyOf}
+use Rattle.logic.specs.Atom.{subsetStep, singletonStep, successorStep, rootStep}
 use Rattle.logic.specs.Reach.{below}
-use Rattle.logic.specs.Alike.{Bounded}
-use Rattle.logic.specs.Two.{one, two, pairOf}
+use Rattle.logic.specs.Alike.{Bounded, MachineOf}
+use Rattle.logic.specs.Two.{one, two, pairOf, branching}
 use Rattle.logic.proofs.Reach.{elem-below}
 use Rattle.logic.proofs.Tables.{subset-bounded, singleton-bounded, successor-bounded, root-bounded}
 use Rattle.logic.proofs.Two.{two-branches, all-elem}
-use Rattle.machine.specs.Succ.{subsetRule, singleRule, child1Rule, child2Rule, rootRule}
-use Rattle.machine.proofs.AtomRuns.{atomState}
-use Rattle.refinement.proofs.Trees.{back}
+use Rattle.table.specs.Succ.{atomIndex, ruleAt, subsetRule, singleRule, child1Rule, child2Rule, rootRule}
+use Rattle.logic.proofs.Builders.{of-simulated, of-subset, of-singleton, of-successor, of-root}
+use Rattle.table.proofs.Masks.{rule-bits}
 use Rattle.refinement.specs.Decode.{weight}
 use Rattle.refinement.proofs.Weights.{bit-is}
 
 -- whether a rule says what a step says, at states below m
-agrees : ℕ → (ℕ → ℕ → ℕ → ℕ → ℕ) → (Bool → Bool → (Branch 2 → ℕ) → ℕ) → Bool → Bool → Bool
+unfoldable pub agrees : ℕ → (ℕ → ℕ → ℕ → ℕ → ℕ) → (Bool → Bool → (Branch 2 → ℕ) → ℕ) → Bool → Bool → Bool
 agrees m rule f x y = allOf (λ a. allOf (λ b. eqb (rule (bitOf x) (bitOf y) a b) (f x y (pairOf a b))) (below m)) (below m)
 
 digit : (a : ℕ) → a < 2 → bitOf (eqb a 1) ≡ a
@@ -31,9 +31,13 @@ digit (suc zero) h = refl
 digit (suc (suc a)) h = absurd (omega arith)
 
 -- a machine that steps by f on the bits of x and y
-module _ (n x y m : ℕ) (rule : ℕ → ℕ → ℕ → ℕ → ℕ) (f : Bool → Bool → (Branch 2 → ℕ) → ℕ) (acc : ℕ → Bool) (test : (v w : Bool) → T (agrees m rule f v w)) where
+module _ (n x y m : ℕ) (rule : ℕ → ℕ → ℕ → ℕ → ℕ) (f : Bool → Bool → (Branch 2 → ℕ) → ℕ) (acc : ℕ → Bool) (few : m ≤ 4) (test : (v w : Bool) → T (agrees m rule f v w)) where
   abbrev M : Machine 2 ℕ
   M = record { start = 0; step = λ l s. f (bit n l x) (bit n l y) s; accepting = acc }
+
+  -- the builder's, from the place in the atom's table
+  abbrev A : Machine 2 ℕ
+  A = branching 0 (λ l i j. ruleAt rule (atomIndex (weight n x) (weight n y) l i j)) acc
 
   rule-is : (v w : Bool) (s : Branch 2 → ℕ) → s one < m → s two < m → f v w s ≡ rule (bitOf v) (bitOf w) (s one) (s two)
   unfolding agrees
@@ -46,17 +50,28 @@ module _ (n x y m : ℕ) (rule : ℕ → ℕ → ℕ → ℕ → ℕ) (f : Bool 
   bit-digit : (l z : ℕ) → bitOf (bit n l z) ≡ l / weight n z % 2
   bit-digit l z = ap bitOf (bit-is n l z) ∙ digit (l / weight n z % 2) (omega arith)
 
-  atom-same : Bounded n m M → (t : Tree 2) → Proper n t → (run M t ≡ atomState rule (weight n x) (weight n y) (back t)) × (run M t < m)
-  unfolding run atomState back Proper
-  atom-same B empty o = (refl, B .0)
-  atom-same B (node l g) o =
-      let p = atom-same B (g one) (o .1 one) in let q = atom-same B (g two) (o .1 two) in
-      let all : (b : Branch 2) → run M (g b) < m = λ b. (atom-same B (g b) (o .1 b)) .1 in (
-        rule-is (bit n l x) (bit n l y) (λ b. run M (g b)) (p .1) (q .1)
-            ∙ ap₂ (λ (a b : ℕ). rule a b (run M (g one)) (run M (g two))) (bit-digit l x) (bit-digit l y)
-            ∙ ap₂ (rule (l / weight n x % 2) (l / weight n y % 2)) (p .0) (q .0),
-        B .1 l (o .0) (λ b. run M (g b)) all,
-      )
+  -- it runs as the logic's: the same states, below m
+  abbrev Runs : ℕ → ℕ → Type 0
+  Runs q r = (q ≡ r) × (q < m)
+
+  step-is : (l : ℕ) (s : Branch 2 → ℕ) → s one < m → s two < m → A .step l s ≡ M .step l s
+  step-is l s h k =
+      let e : s one % 4 ≡ s one = omega arith in
+      let d : s two % 4 ≡ s two = omega arith in
+      rule-bits rule (weight n x) (weight n y) l (s one) (s two)
+      ∙ ap₂ (rule (l / weight n x % 2) (l / weight n y % 2)) e d
+      ∙ ap₂ (λ (a b : ℕ). rule a b (s one) (s two)) (sym (bit-digit l x)) (sym (bit-digit l y))
+      ∙ sym (rule-is (bit n l x) (bit n l y) s h k)
+
+  pub of-atom : Bounded n m M → (F : Formula 2) → MachineOf n F M → MachineOf n F A
+  of-atom B F o = of-simulated n F A M o Runs (record {
+    at-start = (refl, B .0);
+    at-step = λ l h s r u.
+        let e : s ≡ r = fun-ext (λ b. (u b) .0) in
+        let i = step-is l s ((u one) .1) ((u two) .1) in
+        (i ∙ ap (M .step l) e, subst (λ (z : ℕ). z < m) (sym i) (B .1 l h s (λ b. (u b) .1)));
+    at-end = λ q r u. ap acc (u .0);
+  }) (λ q q′ s s′ u u′. ((λ e. sym (u .0) ∙ e ∙ u′ .0), λ e. u .0 ∙ e ∙ sym (u′ .0)))
 
 subset-test : (v w : Bool) → T (agrees 2 subsetRule subsetStep v w)
 unfolding agrees allOf anyOf sumOf below downFrom
@@ -93,18 +108,25 @@ second-test true false = tt
 second-test false true = tt
 second-test false false = tt
 
-module _ (n x y : ℕ) (t : Tree 2) (o : Proper n t) where
-  pub subset-same : run (subsetMachine n x y) t ≡ atomState subsetRule (weight n x) (weight n y) (back t)
-  subset-same = (atom-same n x y 2 subsetRule subsetStep (λ q. eqb q 0) subset-test (subset-bounded n x y) t o) .0
+-- the builder's atoms are machines of the atoms
+module _ (n x y : ℕ) (hx : x < n) where
+  abbrev atomOf : (ℕ → ℕ → ℕ → ℕ → ℕ) → (ℕ → Bool) → Machine 2 ℕ
+  atomOf rule acc = branching 0 (λ l i j. ruleAt rule (atomIndex (weight n x) (weight n y) l i j)) acc
 
-  pub single-same : run (singletonMachine n x) t ≡ atomState singleRule (weight n x) (weight n y) (back t)
-  single-same = (atom-same n x y 3 singleRule (λ v w. singletonStep v) (λ q. eqb q 1) single-test (singleton-bounded n x) t o) .0
+  pub atom-single : MachineOf n (singleton x) (atomOf singleRule (λ q. eqb q 1))
+  atom-single = of-atom n x y 3 singleRule (λ v w. singletonStep v) (λ q. eqb q 1) (omega arith) single-test (singleton-bounded n x) (singleton x) (of-singleton n x hx)
 
-  pub root-same : run (rootMachine n x) t ≡ atomState rootRule (weight n x) (weight n y) (back t)
-  root-same = (atom-same n x y 3 rootRule (λ v w. rootStep v) (λ q. eqb q 1) root-test (root-bounded n x) t o) .0
+  pub atom-root : MachineOf n (root x) (atomOf rootRule (λ q. eqb q 1))
+  atom-root = of-atom n x y 3 rootRule (λ v w. rootStep v) (λ q. eqb q 1) (omega arith) root-test (root-bounded n x) (root x) (of-root n x hx)
 
-  pub first-same : run (successorMachine n one x y) t ≡ atomState child1Rule (weight n x) (weight n y) (back t)
-  first-same = (atom-same n x y 4 child1Rule (successorStep one) (λ q. eqb q 2) first-test (successor-bounded n one x y) t o) .0
+  module _ (hy : y < n) where
+    pub atom-subset : MachineOf n (subset x y) (atomOf subsetRule (λ q. eqb q 0))
+    atom-subset = of-atom n x y 2 subsetRule subsetStep (λ q. eqb q 0) (omega arith) subset-test (subset-bounded n x y) (subset x y) (of-subset n x y hx hy)
 
-  pub second-same : run (successorMachine n two x y) t ≡ atomState child2Rule (weight n x) (weight n y) (back t)
-  second-same = (atom-same n x y 4 child2Rule (successorStep two) (λ q. eqb q 2) second-test (successor-bounded n two x y) t o) .0
+    pub atom-first : MachineOf n (successor one x y) (atomOf child1Rule (λ q. eqb q 2))
+    atom-first =
+        of-atom n x y 4 child1Rule (successorStep one) (λ q. eqb q 2) (omega arith) first-test (successor-bounded n one x y) (successor one x y) (of-successor n one x y hx hy)
+
+    pub atom-second : MachineOf n (successor two x y) (atomOf child2Rule (λ q. eqb q 2))
+    atom-second =
+        of-atom n x y 4 child2Rule (successorStep two) (λ q. eqb q 2) (omega arith) second-test (successor-bounded n two x y) (successor two x y) (of-successor n two x y hx hy)

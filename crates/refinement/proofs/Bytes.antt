@@ -16,12 +16,11 @@ use Rattle.logic.specs.Alike.{Bounded, Full, Agrees, MachineOf}
 use Rattle.logic.specs.Two.{one, two, binary}
 use Rattle.logic.specs.Decide.{report, decideOf, say, judgeOf}
 use Rattle.logic.proofs.Builders.{of-agrees, full-agrees, decide-any, judge-any}
-use Rattle.machine.specs.Word.{mem}
-use Rattle.machine.specs.Table.{addr, seen}
-use Rattle.machine.specs.Succ.{entry}
-use Rattle.machine.specs.Rule.{Mach, noMach, built, At, Made, noDecoded, upto}
-use Rattle.machine.specs.declared.records.Decoded.{Decoded}
-use Rattle.machine.specs.declared.records.Machines.{Machines}
+use Rattle.words.specs.Word.{mem}
+use Rattle.table.specs.Entry.{addr, seen, entry}
+use Rattle.records.specs.Rule.{Mach, noMach, built, Stored, entryOf, Made, noDecoded, upto}
+use Rattle.records.specs.declared.Decoded.{Decoded}
+use Rattle.records.specs.declared.Machines.{Machines}
 use Rattle.search.specs.Scan.{stepIn}
 use Rattle.search.specs.Arrays.{acceptsOf, machineIn, tableIn, Whole}
 use Rattle.refinement.proofs.Records.{machOf, Good}
@@ -50,7 +49,7 @@ module _ (n c : ℕ) (pos : 0 < c) (top : c ≤ 64) (rs : List Record) (acc : Ac
     m : Mach
     m = getD ms last noMach
 
-    at-last : At c (2 ^ n) last m s ws
+    at-last : Stored c (2 ^ n) (last * share) m (entryOf s last) ws
     unfolding m
     at-last = made .2 last (let h = acc .0 in omega arith)
 

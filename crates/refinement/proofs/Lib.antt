@@ -1,7 +1,7 @@
 pub mod Atoms
 pub mod Bytes
 pub mod Records
-pub mod Trees
+pub mod Sets
 pub mod Upto
 pub mod Weights
 pub mod Ready

@@ -9,8 +9,8 @@ use lib.Dec.{T, eqb, ltb, ltb→lt}
 use lib.ListN.{length, getD}
 use lib.Pow.{pow-pos, pow-mono}
 use Rattle.logic.specs.Rule.{Record, noRecord, good, Accepted}
-use Rattle.machine.specs.Rule.{Fits, Before, Sound}
-use Rattle.machine.proofs.Labels.{bit-of}
+use Rattle.records.specs.Rule.{Fits, OfParts, Sound}
+use Rattle.table.proofs.Labels.{bit-of}
 use Rattle.refinement.specs.Decode.{weight, decodedOf}
 use Rattle.refinement.proofs.Upto.{both-of, good-here}
 
@@ -33,7 +33,7 @@ module _ (n : ℕ) (some : 1 ≤ n) (few : n ≤ 8) where
   sound-at r op a b t = record { before = parts op t; bit = bit-of n (n - suc a) (omega arith) }
     where
       parts : (o : ℕ) → T (good 2 n r (record { op = o; first = a; second = b }))
-          → Before (decodedOf n (record { op = o; first = a; second = b }) .kind) (decodedOf n (record { op = o; first = a; second = b }) .first) b r
+          → OfParts (decodedOf n (record { op = o; first = a; second = b }) .kind) (decodedOf n (record { op = o; first = a; second = b }) .first < r) (b < r)
       parts zero t = tt
       parts (suc zero) t = tt
       parts (suc (suc zero)) t = tt

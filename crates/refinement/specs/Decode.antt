@@ -5,9 +5,9 @@ use mathlib.Core.List.{[], _∷_}
 use lib.Dec.{eqb}
 use lib.ListN.{getD}
 use Rattle.logic.specs.Rule.{Record}
-use Rattle.machine.specs.declared.explore.Kind.{Kind}
-use Rattle.machine.specs.declared.explore.Kind.the-variants.{Subset, Single, Child1, Child2, Root, Not, Or, And, Exists}
-use Rattle.machine.specs.declared.records.Decoded.{Decoded}
+use Rattle.table.specs.declared.plan.Kind.{Kind}
+use Rattle.table.specs.declared.plan.Kind.the-variants.{Subset, Single, Child1, Child2, Root, Not, Or, And, Exists}
+use Rattle.records.specs.declared.Decoded.{Decoded}
 
 -- "variable 0 most significant": the weight of variable x's bit in an n-bit label; 1 for a number that is no variable
 abbrev pub weight : ℕ → ℕ → ℕ

@@ -21,14 +21,13 @@ use Rattle.solver.specs.declared.run.Ran.{Ran}
 use Rattle.solver.specs.Run.{walk}
 use Rattle.solver.proofs.Walks.{walk-tree}
 use Rattle.logic.specs.Decide.{report, decideOf, say, judgeOf}
-use Rattle.machine.specs.Word.{mem}
-use Rattle.machine.specs.Succ.{entry}
-use Rattle.machine.specs.Table.{addr, seen}
-use Rattle.machine.specs.Rule.{Mach, noMach, Outcome as Made-outcome, built, over, At, Made, noDecoded, upto}
-use Rattle.machine.specs.declared.records.Ending.the-variants.{Over, Ready}
-use Rattle.machine.specs.declared.records.Machines.{Machines}
-use Rattle.machine.proofs.Shares.{not-both}
-use Rattle.machine.specs.declared.records.Decoded.{Decoded}
+use Rattle.words.specs.Word.{mem}
+use Rattle.table.specs.Entry.{entry, addr, seen}
+use Rattle.records.specs.Rule.{Mach, noMach, Outcome as Made-outcome, built, over, Stored, entryOf, Made, noDecoded, upto}
+use Rattle.records.specs.declared.Ending.the-variants.{Over, Ready}
+use Rattle.records.specs.declared.Machines.{Machines}
+use Rattle.records.specs.declared.Ending.{Ending}
+use Rattle.records.specs.declared.Decoded.{Decoded}
 use Rattle.search.specs.Scan.{stepIn}
 use Rattle.search.specs.Arrays.{tableIn, Whole, Ended}
 use Rattle.search.specs.declared.Found.{Found}
@@ -75,6 +74,10 @@ marking-off a w q h v e = record {
 pub marking-done : (a : List ℕ) (w q n : ℕ) → n ≤ q → Marking a w q → Marked a w n
 marking-done a w q n h v i l = v .done i (omega arith)
 
+-- building does not end in both ways
+not-both : {x : Ending} {k : ℕ} → x ≡ Ready → x ≡ Over k → ⊥
+not-both {x} {k} e f = let z : Ready ≡ Over k = sym e ∙ f in let y : _≡_ {A = ℕ} 0 1 = cc in omega arith
+
 -- what the builder's outcome says where no record has too many states
 no-over : (o : Made-outcome) (c labels m : ℕ) (s : Machines) (ws : List ℕ) → Made o c labels m s ws → s .ending ≡ Ready
     → (ms : List Mach) × (o ≡ built ms) × Made (built ms) c labels m s ws
@@ -90,7 +93,7 @@ module _ (o : Made-outcome) (c labels m : ℕ) (s : Machines) (ws : List ℕ) (h
   pub last-few : getD (s .counts) (m - 1) 0 ≤ c
   last-few =
       let w = no-over o c labels m s ws h no in
-      let a : At c labels (m - 1) (getD (w .0) (m - 1) noMach) s ws = w .2 .2 (m - 1) (omega arith) in
+      let a : Stored c labels ((m - 1) * (labels * c * c)) (getD (w .0) (m - 1) noMach) (entryOf s (m - 1)) ws = w .2 .2 (m - 1) (omega arith) in
       omega (arith, a .count, a .few)
 
   -- the search may be called on the last record's share
@@ -98,7 +101,7 @@ module _ (o : Made-outcome) (c labels m : ℕ) (s : Machines) (ws : List ℕ) (h
   unfolding entry addr seen
   solve-whole P hp table et hl =
       let w = no-over o c labels m s ws h no in
-      let a : At c labels (m - 1) (getD (w .0) (m - 1) noMach) s ws = w .2 .2 (m - 1) (omega arith) in
+      let a : Stored c labels ((m - 1) * (labels * c * c)) (getD (w .0) (m - 1) noMach) (entryOf s (m - 1)) ws = w .2 .2 (m - 1) (omega arith) in
       let k = a .count in
       record {
         few = top;
@@ -148,7 +151,7 @@ module _ (records : List Decoded) (c P : ℕ) (s : Machines) (ws : List ℕ) (po
     solve-at : (n : ℕ) (rs : List Record) → Accepted 2 n rs → ((r : ℕ) → r < length rs → getD records r noDecoded ≡ decodedOf n (getD rs r noRecord)) → All n rs (length rs) (2 ^ n)
     solve-at n rs acc dec h et marks e =
         let w = no-over (upto records c (2 ^ n) (length rs)) c (2 ^ n) (length rs) s ws h no in
-        let a : At c (2 ^ n) (lastOf rs) (getD (w .0) (lastOf rs) noMach) s ws = w .2 .2 (lastOf rs) (let z = acc .0 in omega arith) in
+        let a : Stored c (2 ^ n) (lastOf rs * (2 ^ n * c * c)) (getD (w .0) (lastOf rs) noMach) (entryOf s (lastOf rs)) ws = w .2 .2 (lastOf rs) (let z = acc .0 in omega arith) in
         let d = decide-bytes n c pos top rs acc records dec s ws (w .0) (w .1) (w .2) accept (λ q l. marks q (let x = a .count in let y = a .few in omega arith)) P in
         ap (report (getD (s .counts) (lastOf rs) 0)) (e .answer ∙ ap (λ (t : List ℕ). search (2 ^ n) (tableIn (getD (s .looks) (lastOf rs) 0) t c accept (getD (s .counts) (lastOf rs) 0)) P) et) ∙ d
 

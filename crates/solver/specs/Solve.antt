@@ -9,11 +9,11 @@ use Rattle.logic.specs.Tree.{Tree, positions}
 use Rattle.logic.specs.Claims.{Outcome, refused14, shown, Judgement, unbuilt}
 use Rattle.logic.specs.Decide.{report, decideOf, say, judgeOf}
 use Rattle.logic.specs.Search.{Sought}
-use Rattle.machine.specs.Word.{mem}
-use Rattle.machine.specs.Rule.{noDecoded}
-use Rattle.machine.specs.declared.records.Decoded.{Decoded}
-use Rattle.machine.specs.declared.records.Ending.{Ending}
-use Rattle.machine.specs.declared.records.Ending.the-variants.{Over, Ready}
+use Rattle.words.specs.Word.{mem}
+use Rattle.records.specs.Rule.{noDecoded}
+use Rattle.records.specs.declared.Decoded.{Decoded}
+use Rattle.records.specs.declared.Ending.{Ending}
+use Rattle.records.specs.declared.Ending.the-variants.{Over, Ready}
 use Rattle.search.specs.Arrays.{acceptsOf, answerOf}
 use Rattle.strip.specs.Ranks.{Backs}
 use Rattle.search.specs.declared.Found.{Found}

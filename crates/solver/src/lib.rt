@@ -4,10 +4,10 @@ pub mod run; // a machine run over the tree in a strip
 ghost use mathlib.Core.Path.{_≡_};
 ghost use Prim.Native.Nat.{ℕ, _+_, _-_, _*_, _^_, _<_, _≤_};
 ghost use lib.ListN.{length, getD, drop};
-ghost use Rattle.machine.specs.Rule.{Fits, Sound, noDecoded};
+ghost use Rattle.records.specs.Rule.{Fits, Sound, noDecoded};
 ghost use Rattle.solver.specs.Solve.{Marked, Solved, Judged};
-use machine::records::Decoded;
-use machine::records::Ending;
+use records::Decoded;
+use records::Ending;
 use search::Finding;
 use search::Found;
 
@@ -19,7 +19,7 @@ fn marks(w: u64, n: usize) -> [u8; 64]
     let mut a = [0u8; 64];
     let mut q: usize = 0;
     while q < n {
-        if machine::words::has(w, q) {
+        if words::has(w, q) {
             a[q] = 1;
         }
         q += 1;
@@ -56,7 +56,7 @@ pub fn solve(
     ensures { λ r. ⌜ Solved records m c labels p r ⌝ }
     ensures { λ r. ⌜ drop (m * (labels * c * c)) (now (ws .exit)) ≡ drop (m * (labels * c * c)) (now (ws .entry)) ⌝ }
 {
-    let t = machine::records::build_all(ws, records, m, c, labels);
+    let t = records::build_all(ws, records, m, c, labels);
     let last = m - 1;
     let ending = t.ending;
     match ending {
@@ -113,7 +113,7 @@ pub fn judge(
     ensures { λ r. ⌜ Judged records m c n (now (tree .entry)) r ⌝ }
     ensures { λ r. ⌜ drop (m * (labels * c * c)) (now (ws .exit)) ≡ drop (m * (labels * c * c)) (now (ws .entry)) ⌝ }
 {
-    let t = machine::records::build_all(ws, records, m, c, labels);
+    let t = records::build_all(ws, records, m, c, labels);
     let last = m - 1;
     let ending = t.ending;
     match ending {
@@ -130,7 +130,7 @@ pub fn judge(
             let state = r.state;
             Ruling {
                 ending: Ending::Ready,
-                yes: machine::words::has(accept, state),
+                yes: words::has(accept, state),
             }
         }
     }

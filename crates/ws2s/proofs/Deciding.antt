@@ -7,9 +7,9 @@ use lib.ListN.{length, getD, take, drop, replicate}
 use lib.Seq.{length-take-le}
 use Rattle.logic.specs.Rule.{Record, noRecord}
 use Rattle.logic.specs.Tree.{positions}
-use Rattle.machine.specs.Rule.{Fits, Sound, noDecoded}
-use Rattle.machine.specs.declared.records.Decoded.{Decoded}
-use Rattle.machine.specs.declared.records.Ending.the-variants.{Over, Ready}
+use Rattle.records.specs.Rule.{Fits, Sound, noDecoded}
+use Rattle.records.specs.declared.Decoded.{Decoded}
+use Rattle.records.specs.declared.Ending.the-variants.{Over, Ready}
 use Rattle.search.specs.declared.Finding.the-variants.{None as Nothing, Larger as Beyond, Shown as Found}
 use Rattle.refinement.proofs.Ready.{ready}
 use Rattle.solver.specs.Solve.{outcomeOf, Ranked, Solved}

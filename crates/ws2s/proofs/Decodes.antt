@@ -7,8 +7,8 @@ use native.Mathlib.Omega.{arith}
 use lib.ListN.{length, set, length-set}
 use lib.Pow.{pow-mono}
 use lib.Seq.{getD-set-same, getD-set-other}
-use Rattle.machine.specs.declared.records.Decoded.{Decoded}
-use Rattle.machine.specs.Rule.{noDecoded}
+use Rattle.records.specs.declared.Decoded.{Decoded}
+use Rattle.records.specs.Rule.{noDecoded}
 use Rattle.refinement.specs.Decode.{weight, decodedOf}
 use Rattle.strip.specs.RuleStrip.{recordAt, AcceptedRule}
 use Rattle.strip.specs.RuleAnswers.{fieldsOf}

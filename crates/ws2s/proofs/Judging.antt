@@ -12,8 +12,8 @@ use Rattle.logic.specs.Two.{pairOf}
 use Rattle.logic.specs.Trim.{isEmpty}
 use Rattle.logic.specs.Decide.{say, judgeOf}
 use Rattle.logic.proofs.Answers.{judge-judges, trimmed-iff}
-use Rattle.machine.specs.declared.records.Decoded.{Decoded}
-use Rattle.machine.specs.declared.records.Ending.the-variants.{Over, Ready}
+use Rattle.records.specs.declared.Decoded.{Decoded}
+use Rattle.records.specs.declared.Ending.the-variants.{Over, Ready}
 use Rattle.solver.specs.Solve.{judgementAfter, judgementOf, Judged}
 use Rattle.solver.specs.declared.Ruling.{Ruling}
 use Rattle.strip.specs.Bits.{bits, number, field, anySet}

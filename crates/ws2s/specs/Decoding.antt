@@ -4,8 +4,8 @@ use mathlib.Core.Path.{_≡_}
 use mathlib.Core.List.{List}
 use lib.ListN.{getD}
 use Rattle.logic.specs.Rule.{noRecord}
-use Rattle.machine.specs.declared.records.Decoded.{Decoded}
-use Rattle.machine.specs.Rule.{noDecoded}
+use Rattle.records.specs.declared.Decoded.{Decoded}
+use Rattle.records.specs.Rule.{noDecoded}
 use Rattle.refinement.specs.Decode.{decodedOf}
 use Rattle.strip.specs.RuleStrip.{variablesOf, recordsOf}
 

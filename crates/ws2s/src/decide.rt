@@ -7,7 +7,7 @@ ghost use Rattle.strip.specs.RuleStrip.{AcceptedRule};
 ghost use Rattle.ws2s.specs.Room.{roomFor, cleared, roomRefusal, Roomy};
 ghost use Rattle.ws2s.specs.Decide.{decidedOf, tell, outAfter, Spacious, verdictOf, workspaceOf, outOf, Claim};
 use crate::decode::decode;
-use machine::records::Ending;
+use records::Ending;
 use search::Finding;
 use solver::Solution;
 use strip::rule::RuleCheck;

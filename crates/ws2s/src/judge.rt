@@ -6,7 +6,7 @@ ghost use Rattle.strip.specs.RuleStrip.{AcceptedRule};
 ghost use Rattle.ws2s.specs.Room.{roomFor, cleared, Roomy};
 ghost use Rattle.ws2s.specs.Judge.{Readable, judgedOf, tell, judgementFor, workspaceFor, JudgeClaim};
 use crate::decode::decode;
-use machine::records::Ending;
+use records::Ending;
 use solver::Ruling;
 use strip::rule::RuleCheck;
 use strip::tree::TreeCheck;

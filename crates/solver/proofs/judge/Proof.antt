@@ -2,15 +2,15 @@
 use Prim.Native.Nat.{_+_, _*_, _-_, _≤_}
 use native.Mathlib.Omega.{arith}
 use lib.ListN.{length}
-use Rattle.machine.specs.Rule.{upto}
+use Rattle.records.specs.Rule.{upto}
 use Rattle.solver.proofs.Solving.{solve-whole, solve-share, part-at, part-long, judge-refused, judge-ruled}
 use borrow.Author.Needs.{needs}
 use Rattle.solver.proofs.judge.Statement.{statement}
 use Rattle.solver.proofs.judge.Tie as tie
 use Rattle.solver.proofs.judge.Reads as reads
 use Rattle.solver.proofs.judge.Lts as lts
-use Rattle.machine.proofs.records.build_all.Reads as build-all-reads
-use Rattle.machine.proofs.words.has.Reads as has-reads
+use Rattle.records.proofs.build_all.Reads as build-all-reads
+use Rattle.words.proofs.has.Reads as has-reads
 use Rattle.solver.proofs.run.run.Reads as run-reads
 
 sub-run : tie.Need-sub-run

@@ -9,7 +9,7 @@ use Rattle.solver.proofs.marks.Statement.{statement}
 use Rattle.solver.proofs.marks.Tie as tie
 use Rattle.solver.proofs.marks.Reads as reads
 use Rattle.solver.proofs.marks.Lts as lts
-use Rattle.machine.proofs.words.has.Reads as has-reads
+use Rattle.words.proofs.has.Reads as has-reads
 
 abbrev Inv-loop : tie.InvT-loop
 Inv-loop w n a₀ q₀ a q = (q ≤ n) × Marking a w q

@@ -3,7 +3,7 @@ use mathlib.Core.Path.{refl}
 use Prim.Native.Nat.{_+_, _*_, _-_, _≤_}
 use native.Mathlib.Omega.{arith}
 use borrow.Author.Needs.{needs}
-use Rattle.machine.specs.Rule.{upto}
+use Rattle.records.specs.Rule.{upto}
 use lib.ListN.{length}
 use Rattle.solver.proofs.Solving.{last-few, solve-whole, solve-share, solve-refused, solve-decided, part-at, part-long}
 use Rattle.solver.proofs.solve.Statement.{statement}
@@ -11,7 +11,7 @@ use Rattle.solver.proofs.solve.Tie as tie
 use Rattle.solver.proofs.solve.Reads as reads
 use Rattle.solver.proofs.solve.Lts as lts
 use Rattle.solver.proofs.marks.Reads as marks-reads
-use Rattle.machine.proofs.records.build_all.Reads as build-all-reads
+use Rattle.records.proofs.build_all.Reads as build-all-reads
 use Rattle.search.proofs.find.Reads as find-reads
 
 marks-requires : tie.Need-marks-requires

@@ -6,10 +6,6 @@ use Rattle.ws2s.proofs.Deciding.{tells-over, tells-none, tells-larger, 
 use borrow.Author.Needs.{needs}
 use Rattle.ws2s.proofs.decide.conclude.Statement.{statement}
 use Rattle.ws2s.proofs.decide.conclude.Tie as tie
-use Rattle.ws2s.proofs.decide.conclude.Reads as reads
-use Rattle.ws2s.proofs.decide.conclude.Lts as lts
-use Rattle.strip.proofs.tree_writer.write_strip.Reads as write-strip-reads
-use Rattle.ws2s.proofs.room.strip_bytes.Reads as strip-bytes-reads
 
 strip-bytes-requires : tie.Need-strip-bytes-requires
 strip-bytes-requires c κs =
@@ -47,7 +43,7 @@ write-strip-requires c κs =
     record {
       few-variables = st .pre .0;
       few = st .pre .1 .high;
-      settled = omega (arith, st .pre .1 .low);
+      settled = omega arith;
       back = st .pre .1 .back;
       few-positions = k .1;
       size = front;

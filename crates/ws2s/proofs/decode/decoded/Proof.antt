@@ -4,8 +4,8 @@ use Prim.Native.Nat.{ℕ}
 use native.Mathlib.Omega.{arith}
 use borrow.Author.Needs.{needs}
 use borrow.Author.Tests.{eq-eqb, ne-eqb}
-use Rattle.machine.specs.declared.explore.Kind.{Kind}
-use Rattle.machine.specs.declared.records.Decoded.{Decoded}
+use Rattle.table.specs.declared.plan.Kind.{Kind}
+use Rattle.records.specs.declared.Decoded.{Decoded}
 use Rattle.refinement.specs.Decode.{weight, kindAt, decodedOf}
 use Rattle.ws2s.proofs.Decodes.{weight-byte}
 use Rattle.ws2s.proofs.decode.decoded.Statement.{statement}

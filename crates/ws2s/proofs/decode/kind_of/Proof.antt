@@ -1,7 +1,7 @@
 -- `ws2s::decode::kind_of` meets its contract. Assumes nothing.
 use mathlib.Core.Path.{_≡_, refl}
 use Prim.Native.Nat.{ℕ, zero, suc}
-use Rattle.machine.specs.declared.explore.Kind.the-variants.{Subset}
+use Rattle.table.specs.declared.plan.Kind.the-variants.{Subset}
 use Rattle.refinement.specs.Decode.{kindAt}
 use borrow.Author.Needs.{needs}
 use Rattle.ws2s.proofs.decode.kind_of.Statement.{statement}

@@ -1,0 +1,158 @@
+-- What exploration finds: distinct codes, the start first, closed under the successor; and more than c of them where it gives up.
+-- Assumes nothing.
+use Prim.Native.Nat.{ℕ, zero, suc, _≤_, _<_}
+use mathlib.Core.Bool.{Bool, true, false, cond}
+use mathlib.Core.Logic.{⊎-elim}
+use mathlib.Core.Path.{_≡_, refl, sym, ap, _∙_, subst}
+use mathlib.Core.List.{List, [], _∷_, _++_}
+use mathlib.Core.Option.{Option, none, some}
+use native.Mathlib.Nat.{le-of-suc-le-suc, not-suc-le-zero, eq-or-lt-of-le}
+use native.Mathlib.Omega.{arith}
+use borrow.Author.Tests.{ltb-true, ltb-false}
+use lib.ListN.{length, getD, length-append, List·getD-append}
+use lib.Seq.{getD-append-seam}
+use lib.Dec.{ltb}
+use Rattle.exploring.specs.Explore.{Distinct, Has, insert, visit, row, ring, next, grow, explore, found}
+use Rattle.exploring.proofs.Place.{place-in}
+use Rattle.exploring.proofs.Grow.{Grows, Long, long-down, long-grows, row-grows, visit-grows, ring-grows, grow-grows, grow-has}
+use Rattle.logic.specs.Reach.{position}
+
+distinct-last : (x : ℕ) (cs : List ℕ) → Distinct cs → length cs ≤ position x cs → Distinct (cs ++ (x ∷ []))
+distinct-last x cs d h i j hi hj e =
+    let n = length-append cs (x ∷ []) in
+    ⊎-elim
+    (λ (ei : i ≡ length cs). ⊎-elim
+    (λ (ej : j ≡ length cs). ei ∙ sym ej)
+    (λ (lj : j < length cs). let q : getD cs j 0 ≡ x = sym (List·getD-append cs (x ∷ []) 0 j lj) ∙ sym e ∙ last i ei in let p = place-in x cs j lj q in omega arith)
+    (eq-or-lt-of-le (below j hj)))
+    (λ (li : i < length cs). ⊎-elim
+    (λ (ej : j ≡ length cs). let q : getD cs i 0 ≡ x = sym (List·getD-append cs (x ∷ []) 0 i li) ∙ e ∙ last j ej in let p = place-in x cs i li q in omega arith)
+    (λ (lj : j < length cs). d i j li lj (sym (List·getD-append cs (x ∷ []) 0 i li) ∙ e ∙ List·getD-append cs (x ∷ []) 0 j lj))
+    (eq-or-lt-of-le (below j hj)))
+    (eq-or-lt-of-le (below i hi))
+  where
+    below : (k : ℕ) → k < length (cs ++ (x ∷ [])) → k ≤ length cs
+    below k h = omega (arith, length-append cs (x ∷ []))
+
+    last : (k : ℕ) → k ≡ length cs → getD (cs ++ (x ∷ [])) k 0 ≡ x
+    last k e = ap (λ (n : ℕ). getD (cs ++ (x ∷ [])) n 0) e ∙ getD-append-seam cs x [] 0
+
+all-last : (P : ℕ → Type 0) (x : ℕ) (cs : List ℕ) → ((i : ℕ) → i < length cs → P (getD cs i 0)) → P x → (i : ℕ) → i < length (cs ++ (x ∷ [])) → P (getD (cs ++ (x ∷ [])) i 0)
+all-last P x cs all here i h =
+    ⊎-elim
+    (λ (e : i ≡ length cs). subst P (sym (ap (λ (n : ℕ). getD (cs ++ (x ∷ [])) n 0) e ∙ getD-append-seam cs x [] 0)) here)
+    (λ (l : i < length cs). subst P (sym (List·getD-append cs (x ∷ []) 0 i l)) (all i l))
+    (eq-or-lt-of-le (omega (arith, length-append cs (x ∷ []))))
+
+-- distinct codes, of each of which P holds
+pub record Codes (P : ℕ → Type 0) (cs : List ℕ) : Type 0 where
+  pub distinct : Distinct cs
+  pub all : (i : ℕ) → i < length cs → P (getD cs i 0)
+
+-- a list of one code
+pub one-code : (P : ℕ → Type 0) (x : ℕ) → P x → Codes P (x ∷ [])
+one-code P x p = record { distinct = λ i j hi hj e. omega arith; all = one }
+  where
+    one : (i : ℕ) → i < 1 → P (getD (x ∷ []) i 0)
+    one zero h = p
+    one (suc i) h = absurd (not-suc-le-zero (le-of-suc-le-suc h))
+
+module _ (succ : ℕ → ℕ → ℕ → ℕ) (c labels : ℕ) (P : ℕ → Type 0) (closed : (l a b : ℕ) → l < labels → P a → P b → P (succ l a b)) where
+  -- the list so far is good, or there is a list of c + 1 such codes
+  abbrev pub Good : Option (List ℕ) → Type 0
+  Good none = (cs : List ℕ) × Codes P cs × (length cs ≡ suc c)
+  Good (some cs) = Codes P cs × (length cs ≤ c)
+
+  insert-good : (x : ℕ) (cs : List ℕ) → Good (some cs) → P x → Good (insert c x cs)
+  unfolding insert
+  insert-good x cs ok r = go (ltb (position x cs) (length cs)) (ltb (length cs) c) refl refl
+    where
+      more : length cs ≤ position x cs → Codes P (cs ++ (x ∷ []))
+      more h = record { distinct = distinct-last x cs (ok .0 .distinct) h; all = all-last P x cs (ok .0 .all) r }
+
+      go : (a b : Bool) → ltb (position x cs) (length cs) ≡ a → ltb (length cs) c ≡ b → Good (cond a (some cs) (cond b (some (cs ++ (x ∷ []))) none))
+      go true b e f = ok
+      go false true e f =
+          let n = length-append cs (x ∷ []) in
+          let h = ltb-true (length cs) c f in
+          (more (ltb-false _ _ e), omega (arith, ok .1))
+      go false false e f =
+          let h = ltb-false (length cs) c f in
+          (cs ++ (x ∷ []), more (ltb-false _ _ e), omega (arith, length-append cs (x ∷ []), ok .1))
+
+  pub visit-good : (l i j : ℕ) (o : Option (List ℕ)) → l < labels → Long i o → Long j o → Good o → Good (visit succ c l i j o)
+  unfolding visit
+  visit-good l i j none hl hi hj ok = ok
+  visit-good l i j (some cs) hl hi hj ok = insert-good _ cs ok (closed l (getD cs i 0) (getD cs j 0) hl (ok .0 .all i hi) (ok .0 .all j hj))
+
+  pub row-good : (l k m : ℕ) (o : Option (List ℕ)) → l < labels → m ≤ suc k → Long k o → Good o → Good (row succ c l k m o)
+  unfolding row
+  row-good l k zero o hl h hk ok = ok
+  row-good l k (suc m) o hl h hk ok =
+      let r = row succ c l k m o in
+      let s = visit succ c l m k r in
+      let rk : Long k r = long-grows k o r (row-grows succ c l k m o) hk in
+      let rm : Long m r = long-down m k r (le-of-suc-le-suc h) rk in
+      let sk = long-grows k r s (visit-grows succ c l m k r) rk in
+      let sm = long-grows m r s (visit-grows succ c l m k r) rm in
+      visit-good l k m s hl sk sm (visit-good l m k r hl rm rk (row-good l k m o hl (omega arith) hk ok))
+
+  pub ring-good : (k m : ℕ) (o : Option (List ℕ)) → m ≤ labels → Long k o → Good o → Good (ring succ c k m o)
+  unfolding ring
+  ring-good k zero o h hk ok = ok
+  ring-good k (suc l) o h hk ok =
+      row-good l k (suc k) (ring succ c k l o) (omega arith) (omega arith) (long-grows k o (ring succ c k l o) (ring-grows succ c k l o) hk)
+      (ring-good k l o (omega arith) hk ok)
+
+  pub grow-good : (k : ℕ) (o : Option (List ℕ)) → Good o → Good (grow succ c labels k o)
+  unfolding grow next
+  grow-good zero o ok = ok
+  grow-good (suc k) o ok = from (grow succ c labels k o) (grow-good k o ok)
+    where
+      from : (p : Option (List ℕ)) → Good p → Good (next succ c labels k p)
+      from none ok = ok
+      from (some cs) ok = go (ltb k (length cs)) refl
+        where
+          go : (t : Bool) → ltb k (length cs) ≡ t → Good (cond t (ring succ c k labels (some cs)) (some cs))
+          go false e = ok
+          go true e = ring-good k labels (some cs) (omega arith) (ltb-true k (length cs) e) ok
+
+-- ---- what exploration gives, where P holds of the start and of what follows codes of which it holds
+module _ (succ : ℕ → ℕ → ℕ → ℕ) (c labels start : ℕ) (pos : 0 < c) where
+  -- distinct codes with the start first, at most c of them
+  pub record Found (P : ℕ → Type 0) (cs : List ℕ) : Type 0 where
+    pub codes : Codes P cs
+    pub few : length cs ≤ c
+    pub some-code : 0 < length cs
+    pub first : getD cs 0 0 ≡ start
+
+  module _ (P : ℕ → Type 0) (at-start : P start) (closed : (l a b : ℕ) → l < labels → P a → P b → P (succ l a b)) where
+    all-good : Good succ c labels P closed (explore succ c labels start)
+    unfolding explore
+    all-good = grow-good succ c labels P closed c (some (start ∷ [])) (one-code P start at-start, pos)
+
+    pub explore-found : (cs : List ℕ) → explore succ c labels start ≡ some cs → Found P cs
+    unfolding explore
+    explore-found cs e =
+        let ok : Good succ c labels P closed (some cs) = subst (Good succ c labels P closed) e all-good in
+        let g : Grows (some (start ∷ [])) (some cs) = subst (Grows (some (start ∷ []))) e (grow-grows succ c labels c (some (start ∷ []))) in
+        record { codes = ok .0; few = ok .1; some-code = omega (arith, ap length (g .1)); first = ap (λ (l : List ℕ). getD l 0 0) (g .1) }
+
+    -- or c + 1 of them
+    pub explore-many : explore succ c labels start ≡ none → (cs : List ℕ) × Codes P cs × (length cs ≡ suc c)
+    explore-many e = subst (Good succ c labels P closed) e all-good
+
+  -- of any code this asks nothing
+  pub explore-some : (cs : List ℕ) → explore succ c labels start ≡ some cs → Found (λ (x : ℕ). Unit {0}) cs
+  explore-some = explore-found (λ (x : ℕ). Unit {0}) tt (λ l a b h x y. tt)
+
+  -- every successor of codes that were found was found
+  pub explore-closed : (cs : List ℕ) → explore succ c labels start ≡ some cs
+      → (l i j : ℕ) → l < labels → i < length cs → j < length cs → position (succ l (getD cs i 0) (getD cs j 0)) cs < length cs
+  unfolding explore
+  explore-closed cs e l i j hl hi hj =
+      let few = explore-some cs e .few in
+      let found : Has succ l i j (some cs) =
+      subst (Has succ l i j) e
+      (grow-has succ c labels c (some (start ∷ [])) l i j hl (omega arith) (omega arith) (subst (Long i) (sym e) hi) (subst (Long j) (sym e) hj)) in
+      found .2

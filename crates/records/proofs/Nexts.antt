@@ -1,0 +1,149 @@
+-- The machines of the records one after the other: with one more, and after one with too many states. Assumes nothing.
+use Prim.Native.Nat.{ℕ, zero, suc, _+_, _-_, _*_, _^_, _≤_, _<_}
+use mathlib.Core.Logic.{⊎-elim}
+use mathlib.Core.Path.{_≡_, refl, sym, ap, _∙_, subst}
+use mathlib.Core.List.{List, [], _∷_, _++_}
+use mathlib.Core.Option.{Option, none, some}
+use native.Mathlib.Nat.{add-zero, add-suc, eq-or-lt-of-le}
+use native.Mathlib.Numerals.{add-one}
+use native.Mathlib.Omega.{arith}
+use lib.Arith.{digits-lt}
+use lib.Bits.{bitOr, or-lt}
+use lib.ListN.{length, getD, set, length-set, length-append, List·getD-append}
+use lib.Seq.{getD-set-same, getD-set-other, getD-append-seam}
+use Rattle.records.specs.Rule.{Mach, noMach, built, over, machineOf, more, after, upto, noDecoded, Sound, Stored, PartsStored, Placed, Added, Spared, Made, Wide, entryOf}
+use Rattle.table.specs.Entry.{entry, addr, seen}
+use Rattle.table.specs.Succ.{looksOf}
+use Rattle.table.specs.declared.plan.Kind.{Kind}
+use Rattle.table.specs.declared.plan.Kind.the-variants.{Subset, Single, Child1, Child2, Root, Not, Or, And, Exists}
+use Rattle.records.specs.declared.Decoded.{Decoded}
+use Rattle.records.specs.declared.Ending.the-variants.{Over, Ready}
+use Rattle.records.specs.declared.Machines.{Machines}
+use Rattle.records.specs.declared.Summary.{Summary}
+use Rattle.table.proofs.Places.{addr-lt}
+use Rattle.table.proofs.Labels.{off-le}
+use Rattle.table.proofs.Masks.{seen-le}
+use Rattle.records.proofs.Shares.{parts-map}
+
+-- a record looks at bits of a byte
+or-byte : (a b : ℕ) → a ≤ 255 → b ≤ 255 → bitOr a b ≤ 255
+or-byte a b ha hb = let h : bitOr a b < 2 ^ 8 = or-lt 8 a b (omega arith) (omega arith) in omega arith
+
+pub looks-byte : (k : Kind) (wx wy f g : ℕ) → 0 < wx → wx ≤ 128 → wy ≤ 128 → f ≤ 255 → g ≤ 255 → looksOf k wx wy f g ≤ 255
+unfolding looksOf
+looks-byte Subset wx wy f g p hx hy hf hg = or-byte wx wy (omega arith) (omega arith)
+looks-byte Single wx wy f g p hx hy hf hg = omega arith
+looks-byte Child1 wx wy f g p hx hy hf hg = or-byte wx wy (omega arith) (omega arith)
+looks-byte Child2 wx wy f g p hx hy hf hg = or-byte wx wy (omega arith) (omega arith)
+looks-byte Root wx wy f g p hx hy hf hg = omega arith
+looks-byte Not wx wy f g p hx hy hf hg = hf
+looks-byte Or wx wy f g p hx hy hf hg = or-byte f g hf hg
+looks-byte And wx wy f g p hx hy hf hg = or-byte f g hf hg
+looks-byte Exists wx wy f g p hx hy hf hg = omega (arith, off-le wx f p)
+
+-- ---- one record more
+-- s with record r's machine
+abbrev pub withNext : Machines → ℕ → Summary → Machines
+withNext s r k = record { counts = set (s .counts) r (k .count); accepts = set (s .accepts) r (k .accept); looks = set (s .looks) r (k .looks); ending = s .ending }
+
+pub wide-next : (s : Machines) (r : ℕ) (k : Summary) → Wide s → Wide (withNext s r k)
+wide-next s r k w = record { counts = simp length-set (w .counts); accepts = simp length-set (w .accepts); looks = simp length-set (w .looks) }
+
+-- a machine stays stored where only a later share is changed
+stored-spared : (c labels a r : ℕ) (m : Mach) (k : Summary) (ws ws′ : List ℕ) → a < r → Spared c labels r ws ws′
+    → Stored c labels (a * (labels * c * c)) m k ws → Stored c labels (a * (labels * c * c)) m k ws′
+unfolding entry
+stored-spared c labels a r m k ws ws′ h sp s = record {
+  count = s .count;
+  accept = s .accept;
+  holds = λ l i j hl hi hj.
+      let b = seen (k .looks) l in
+      let near = digits-lt h (addr-lt labels c b i j (omega (arith, seen-le (k .looks) l)) (omega (arith, s .few)) (omega (arith, s .few))) in
+      (sp .low (a * (labels * c * c) + addr c b i j) near ∙ s .holds l i j hl hi hj .0, s .holds l i j hl hi hj .1);
+  some-state = s .some-state;
+  few = s .few;
+}
+
+-- the machines of the first r records are stored
+pub record AllStored (xs : List Decoded) (c labels r : ℕ) (t : Machines) (ws : List ℕ) : Type 0 where
+  pub machines : List Mach
+  pub is : upto xs c labels r ≡ built machines
+  pub size : length machines ≡ r
+  pub stored : (a : ℕ) → a < r → Stored c labels (a * (labels * c * c)) (getD machines a noMach) (entryOf t a) ws
+
+pub ready-first : (xs : List Decoded) (c labels : ℕ) (t : Machines) (ws : List ℕ) → AllStored xs c labels 0 t ws
+unfolding upto
+ready-first xs c labels t ws = record { machines = []; is = refl; size = refl; stored = λ a h. absurd (omega arith) }
+
+pub made-ready : (xs : List Decoded) (c labels r : ℕ) (t : Machines) (ws : List ℕ) → t .ending ≡ Ready → AllStored xs c labels r t ws → Made (upto xs c labels r) c labels r t ws
+made-ready xs c labels r t ws e w = rw (w .is) (e, w .size, w .stored)
+
+upto-next : (xs : List Decoded) (c labels r : ℕ) → upto xs c labels (r + 1) ≡ after c labels r (getD xs r noDecoded) (upto xs c labels r)
+unfolding upto
+upto-next xs c labels r = ap (upto xs c labels) (add-one r)
+
+module _ (xs : List Decoded) (c labels r : ℕ) (t : Machines) (ws ws′ : List ℕ) (w : AllStored xs c labels r t ws) where
+  abbrev x : Decoded
+  x = getD xs r noDecoded
+
+  abbrev f : Mach
+  f = getD (w .machines) (x .first) noMach
+
+  abbrev g : Mach
+  g = getD (w .machines) (x .second) noMach
+
+  pub parts-ready : Sound x r labels → PartsStored x c labels (entryOf t (x .first)) (entryOf t (x .second)) ws f g
+  parts-ready sound = parts-map (x .kind) (w .stored (x .first)) (w .stored (x .second)) (sound .before)
+
+  next-is : (o : Option Mach) → machineOf c labels x f g ≡ o → upto xs c labels (r + 1) ≡ more r (w .machines) o
+  unfolding after
+  next-is o e = upto-next xs c labels r ∙ ap (after c labels r x) (w .is) ∙ ap (more r (w .machines)) e
+
+  module _ (k : Summary) (added : Added x c labels r f g k ws ws′) where
+    pub ready-next : Wide t → r < 128 → k .count ≤ c → Spared c labels r ws ws′ → AllStored xs c labels (r + 1) (withNext t r k) ws′
+    ready-next wide hr few sp = record {
+      machines = w .machines ++ (new ∷ []);
+      is = next-is (some new) (made .1);
+      size = length-append (w .machines) (new ∷ []) ∙ omega (arith, w .size);
+      stored = λ a h. ⊎-elim
+          (λ (e : a ≡ r). subst (λ (b : ℕ). Stored c labels (b * (labels * c * c)) (getD (w .machines ++ (new ∷ [])) b noMach) (entryOf (withNext t r k) b) ws′) (sym e) here)
+          (λ (l : a < r). earlier a l)
+          (eq-or-lt-of-le (omega arith));
+    }
+      where
+        made : (m : Mach) × (machineOf c labels x f g ≡ some m) × Placed c labels r m k ws ws′
+        made = added .few few
+
+        new : Mach
+        new = made .0
+
+        last : getD (w .machines ++ (new ∷ [])) r noMach ≡ new
+        last = ap (λ (n : ℕ). getD (w .machines ++ (new ∷ [])) n noMach) (sym (w .size)) ∙ getD-append-seam (w .machines) new [] noMach
+
+        here : Stored c labels (r * (labels * c * c)) (getD (w .machines ++ (new ∷ [])) r noMach) (entryOf (withNext t r k) r) ws′
+        here =
+            rw (last, getD-set-same (t .counts) r (k .count) 0 (omega (arith, wide .counts)), getD-set-same (t .accepts) r (k .accept) 0 (omega (arith, wide .accepts)),
+            getD-set-same (t .looks) r (k .looks) 0 (omega (arith, wide .looks))) (made .2 .stored)
+
+        earlier : (a : ℕ) → a < r → Stored c labels (a * (labels * c * c)) (getD (w .machines ++ (new ∷ [])) a noMach) (entryOf (withNext t r k) a) ws′
+        earlier a l =
+            let no : a ≡ r → ⊥ = λ e. omega arith in
+            rw (List·getD-append (w .machines) (new ∷ []) noMach a (omega (arith, w .size)), getD-set-other (t .counts) r a (k .count) 0 no,
+            getD-set-other (t .accepts) r a (k .accept) 0 no, getD-set-other (t .looks) r a (k .looks) 0 no)
+            (stored-spared c labels a r (getD (w .machines) a noMach) (entryOf t a) ws ws′ l sp (w .stored a l))
+
+    pub over-next : c < k .count → upto xs c labels (r + 1) ≡ over r
+    over-next h = next-is none (added .many h)
+
+-- nothing is made after a record with too many states
+over-rest : (xs : List Decoded) (c labels r k d : ℕ) → upto xs c labels r ≡ over k → upto xs c labels (r + d) ≡ over k
+unfolding after
+over-rest xs c labels r k zero e = ap (upto xs c labels) (add-zero r) ∙ e
+over-rest xs c labels r k (suc d) e =
+    ap (upto xs c labels) (add-suc r d ∙ sym (add-one (r + d))) ∙ upto-next xs c labels (r + d) ∙ ap (after c labels (r + d) (getD xs (r + d) noDecoded)) (over-rest xs c labels r k d e)
+
+pub made-over : (xs : List Decoded) (c labels r m : ℕ) (t : Machines) (ws : List ℕ) → r < m → t .ending ≡ Over r → upto xs c labels (r + 1) ≡ over r
+    → Made (upto xs c labels m) c labels m t ws
+made-over xs c labels r m t ws h e o =
+    let z : r + 1 + (m - (r + 1)) ≡ m = omega arith in
+    rw (ap (upto xs c labels) (sym z) ∙ over-rest xs c labels (r + 1) r (m - (r + 1)) o) e

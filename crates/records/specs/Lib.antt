@@ -1,0 +1,3 @@
+pub mod Machine
+pub mod Complement
+pub mod Rule

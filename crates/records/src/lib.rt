@@ -1,0 +1,268 @@
+// The machines of a rule's records, one after the other, each in its share of the workspace.
+pub mod complement; // the machine of "not" from its part's
+
+ghost use mathlib.Core.Path.{_≡_};
+ghost use Prim.Native.Nat.{ℕ, _+_, _*_, _≤_, _<_};
+ghost use lib.ListN.{length, getD, take, drop};
+ghost use Rattle.records.specs.Machine.{acceptBy, acceptOf};
+ghost use Rattle.records.specs.Rule.{planOf, isNot, Fits, Sound, SomeParts, Adds, Spared, Made, upto, noDecoded};
+ghost use mathlib.Core.Bool.{false};
+ghost use Rattle.table.specs.Succ.{looksOf};
+use crate::complement::copy_table;
+use crate::complement::flipped;
+use table::plan::Kind;
+use table::plan::Plan;
+use exploring::build_plan;
+use table::entries::cleared;
+use words::has;
+use words::meet;
+use words::with_member;
+
+// Does the state with this code accept, where a and b are the accepting states of the parts? A "not" is not explored.
+pub fn accepts(kind: Kind, a: u64, b: u64, x: u64) -> bool
+    ensures { λ r. ⌜ r ≡ acceptBy kind a b x ⌝ }
+{
+    match kind {
+        Kind::Subset => x == 0,
+        Kind::Single => x == 1,
+        Kind::Child1 => x == 2,
+        Kind::Child2 => x == 2,
+        Kind::Root => x == 1,
+        Kind::Not => false,
+        Kind::Or => has(a, (x / 64 % 64) as usize) || has(b, (x % 64) as usize),
+        Kind::And => has(a, (x / 64 % 64) as usize) && has(b, (x % 64) as usize),
+        Kind::Exists => meet(x, a),
+    }
+}
+
+// The set of the accepting states, where the first codes are the states'.
+pub fn accept_word(codes: &[u64; 64], count: usize, kind: Kind, a: u64, b: u64) -> u64
+    requires { ⌜ (count ≤ 64) × (length (now codes) ≡ 64) ⌝ }
+    ensures { λ r. ⌜ r ≡ acceptOf kind a b (take count (now (codes .entry))) ⌝ }
+{
+    let mut r: u64 = 0;
+    let mut i = 0;
+    while i < count {
+        if accepts(kind, a, b, codes[i]) {
+            r = with_member(r, i as u64);
+        }
+        i += 1;
+    }
+    r
+}
+
+// A record of a rule: its kind, the numbers of the records that are its parts, and the weights of its variables' bits.
+pub struct Decoded {
+    pub kind: Kind,
+    pub first: u8,
+    pub second: u8,
+    pub wx: u8,
+    pub wy: u8,
+}
+
+// How building ended: at the first record with too many states, by its number, or with every machine ready.
+pub enum Ending {
+    Over(usize),
+    Ready,
+}
+
+// What is kept of the machines: for each record its number of states, the set of its accepting states and the bits of the labels that it
+// looks at; and how building ended. Bytes are less to set and to copy than words.
+pub struct Machines {
+    pub counts: [u8; 128],
+    pub accepts: [u64; 128],
+    pub looks: [u8; 128],
+    pub ending: Ending,
+}
+
+// What is kept of one record's machine.
+pub struct Summary {
+    pub count: u8,
+    pub accept: u64,
+    pub looks: u8,
+}
+
+// The bits that a record looks at, where its parts look at f and g.
+pub fn looks_of(kind: Kind, wx: usize, wy: usize, f: usize, g: usize) -> usize
+    requires { ⌜ (0 < wx) × (wx ≤ 128) ⌝ }
+    ensures { λ r. ⌜ r ≡ looksOf kind wx wy f g ⌝ }
+{
+    match kind {
+        Kind::Single => wx,
+        Kind::Root => wx,
+        Kind::Not => f,
+        Kind::Or => f | g,
+        Kind::And => f | g,
+        Kind::Exists => cleared(wx, f),
+        _ => wx | wy,
+    }
+}
+
+// The plan of record r, whose parts look at f and g.
+pub fn plan_of(x: Decoded, r: usize, c: usize, labels: usize, f: usize, g: usize) -> Plan
+    requires { ⌜ (x .first < 128) × (x .second < 128) × (r < 128) × (c ≤ 64) × (labels ≤ 256) × (0 < x .wx) × (x .wx ≤ 128) ⌝ }
+    ensures { λ p. ⌜ p ≡ planOf x r c labels f g ⌝ }
+{
+    let share = labels * c * c;
+    let kind = x.kind;
+    let wx = x.wx as usize;
+    let wy = x.wy as usize;
+    let looks = looks_of(kind, wx, wy, f, g);
+    Plan {
+        kind,
+        first: x.first as usize * share,
+        second: x.second as usize * share,
+        wx,
+        wy,
+        c,
+        labels,
+        base: r * share,
+        looks,
+        look1: f,
+        look2: g,
+    }
+}
+
+// The machine of record r by exploring its states, from what is kept of its parts f and g; its count is above c where it has too many.
+pub fn explore_next(
+    ws: &mut [u8],
+    x: Decoded,
+    f: Summary,
+    g: Summary,
+    r: usize,
+    c: usize,
+    labels: usize,
+) -> Summary
+    requires { ⌜ Fits x r c labels (length (now ws)) ⌝ }
+    requires { ⌜ Sound x r labels ⌝ }
+    requires { ⌜ isNot (x .kind) ≡ false ⌝ }
+    requires { ⌜ SomeParts x c labels f g (now ws) ⌝ }
+    ensures { λ k. ⌜ Adds x c labels r f g k (now (ws .entry)) (now (ws .exit)) ⌝ }
+    ensures { λ k. ⌜ Spared c labels r (now (ws .entry)) (now (ws .exit)) ⌝ }
+{
+    let p = plan_of(x, r, c, labels, f.looks as usize, g.looks as usize);
+    let b = build_plan(ws, p);
+    let count = b.count;
+    if c < count {
+        return Summary {
+            count: count as u8,
+            accept: 0,
+            looks: 0,
+        };
+    }
+    let kind = x.kind;
+    let accept = accept_word(&b.codes, count, kind, f.accept, g.accept);
+    Summary {
+        count: count as u8,
+        accept,
+        looks: p.looks as u8,
+    }
+}
+
+// The machine of record r, a "not", from its part's: the table is copied, and the other states accept.
+pub fn complement_next(
+    ws: &mut [u8],
+    x: Decoded,
+    f: Summary,
+    g: Summary,
+    r: usize,
+    c: usize,
+    labels: usize,
+) -> Summary
+    requires { ⌜ Fits x r c labels (length (now ws)) ⌝ }
+    requires { ⌜ Sound x r labels ⌝ }
+    requires { ⌜ x .kind ≡ Kind.Not ⌝ }
+    requires { ⌜ SomeParts x c labels f g (now ws) ⌝ }
+    ensures { λ k. ⌜ Adds x c labels r f g k (now (ws .entry)) (now (ws .exit)) ⌝ }
+    ensures { λ k. ⌜ Spared c labels r (now (ws .entry)) (now (ws .exit)) ⌝ }
+{
+    let first = x.first as usize;
+    let n = f.count as usize;
+    let bits = f.looks as usize;
+    let share = labels * c * c;
+    copy_table(ws, first * share, r * share, c, labels, bits, n);
+    let accept = flipped(f.accept, n);
+    Summary {
+        count: f.count,
+        accept,
+        looks: f.looks,
+    }
+}
+
+// The machine of record r, from what is kept of its parts f and g, into the record's share.
+pub fn build_next(
+    ws: &mut [u8],
+    x: Decoded,
+    f: Summary,
+    g: Summary,
+    r: usize,
+    c: usize,
+    labels: usize,
+) -> Summary
+    requires { ⌜ Fits x r c labels (length (now ws)) ⌝ }
+    requires { ⌜ Sound x r labels ⌝ }
+    requires { ⌜ SomeParts x c labels f g (now ws) ⌝ }
+    ensures { λ k. ⌜ Adds x c labels r f g k (now (ws .entry)) (now (ws .exit)) ⌝ }
+    ensures { λ k. ⌜ Spared c labels r (now (ws .entry)) (now (ws .exit)) ⌝ }
+{
+    let kind = x.kind;
+    match kind {
+        Kind::Not => complement_next(ws, x, f, g, r, c, labels),
+        _ => explore_next(ws, x, f, g, r, c, labels),
+    }
+}
+
+// What is kept of record a's machine.
+pub fn kept(counts: &[u8; 128], accepts: &[u64; 128], looks: &[u8; 128], a: usize) -> Summary
+    requires { ⌜ a < 128 ⌝ }
+    ensures { λ k. ⌜ k ≡ record { count = getD (now (counts .entry)) a 0; accept = getD (now (accepts .entry)) a 0; looks = getD (now (looks .entry)) a 0 } ⌝ }
+{
+    Summary {
+        count: counts[a],
+        accept: accepts[a],
+        looks: looks[a],
+    }
+}
+
+// The machines of the first m records. The arrays are written in place: a copy for each record takes longer than a small machine.
+pub fn build_all(
+    ws: &mut [u8],
+    records: [Decoded; 128],
+    m: usize,
+    c: usize,
+    labels: usize,
+) -> Machines
+    requires { ⌜ (0 < m) × (m ≤ 128) ⌝ }
+    requires { ⌜ ((r : ℕ) → r < m → Fits (getD records r noDecoded) r c labels (length (now ws)) × Sound (getD records r noDecoded) r labels) ⌝ }
+    ensures { λ t. ⌜ Made (upto records c labels m) c labels m t (now (ws .exit)) ⌝ }
+    ensures { λ t. ⌜ drop (m * (labels * c * c)) (now (ws .exit)) ≡ drop (m * (labels * c * c)) (now (ws .entry)) ⌝ }
+{
+    let mut counts = [0u8; 128];
+    let mut accepts = [0u64; 128];
+    let mut looks = [0u8; 128];
+    let mut r = 0;
+    while r < m {
+        let x = records[r];
+        let f = kept(&counts, &accepts, &looks, x.first as usize);
+        let g = kept(&counts, &accepts, &looks, x.second as usize);
+        let k = build_next(ws, x, f, g, r, c, labels);
+        if c < k.count as usize {
+            return Machines {
+                counts,
+                accepts,
+                looks,
+                ending: Ending::Over(r),
+            };
+        }
+        counts[r] = k.count;
+        accepts[r] = k.accept;
+        looks[r] = k.looks;
+        r += 1;
+    }
+    Machines {
+        counts,
+        accepts,
+        looks,
+        ending: Ending::Ready,
+    }
+}

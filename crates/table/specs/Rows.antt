@@ -1,0 +1,48 @@
+-- The successors of a new code and the codes before it, and for "exists" what they are the unions of. Document 01, "Machines": "At a node
+-- it collects all steps with the bound bit 0 or 1."
+-- Assumes nothing.
+use Prim.Native.Nat.{ℕ, _+_, _*_, _≤_, _<_}
+use mathlib.Core.Bool.{Bool, _&&_}
+use mathlib.Core.List.{List}
+use mathlib.Core.Path.{_≡_}
+use lib.ListN.{length, getD}
+use Rattle.table.specs.Entry.{seen, Bit, Step, entry, on}
+use Rattle.table.specs.Succ.{hit, hitRow}
+use Rattle.words.specs.Word.{mem, any, wordOf, Below}
+use Rattle.table.specs.declared.plan.Plan.{Plan}
+use Rattle.table.specs.declared.plan.Kind.the-variants.{Exists}
+
+-- does state q follow an i that is a member of x and state j under the label l or m
+abbrev pub hitColumn : Step → ℕ → ℕ → ℕ → ℕ → ℕ → ℕ → Bool
+hitColumn f l m x q j i = mem i x && hit f l m q i j
+
+-- the union of what a row has at the members of s
+unfoldable pub unionOf : List ℕ → ℕ → ℕ
+unionOf row s = wordOf (λ (q : ℕ). any (λ (t : ℕ). mem t s && mem q (getD row t 0)) 64) 64
+
+-- at state t the left row has the states that follow a member of s and t, and the right row those that follow t and a member of s
+pub record Follows (f : Step) (l m s t : ℕ) (left right : List ℕ) : Type 0 where
+  pub after : (q : ℕ) → mem q (getD left t 0) ≡ any (hitColumn f l m s q t) 64
+  pub before : (q : ℕ) → mem q (getD right t 0) ≡ any (hitRow f l m s q t) 64
+
+-- the rows have the successors of code k and each code up to it, on either side
+abbrev pub Serves : (ℕ → ℕ → ℕ → ℕ) → ℕ → List ℕ → ℕ → List ℕ → List ℕ → Type 0
+Serves succ l codes k left right =
+    (i : ℕ) → i ≤ k → (getD right i 0 ≡ succ l (getD codes i 0) (getD codes k 0)) × (getD left i 0 ≡ succ l (getD codes k 0) (getD codes i 0))
+
+-- the entries that the successors of the sets up to k are taken from lie within `low`
+pub record Ready (low : List ℕ) (c a w l : ℕ) (sets : List ℕ) (k : ℕ) : Type 0 where
+  pub share : a + on w l * c * c + c * c ≤ length low
+  pub states : (i : ℕ) → i ≤ k → Below c (getD sets i 0)
+
+-- the table of the part of an "exists" lies within `low`, and leads from its n states to its states
+pub record Inside (low : List ℕ) (p : Plan) (n : ℕ) : Type 0 where
+  pub some-state : 0 < n
+  pub few : n ≤ p .c
+  pub share : p .first + p .labels * p .c * p .c ≤ length low
+  pub bit : Bit (p .wx) (p .labels)
+  pub stays : (l i j : ℕ) → l < p .labels → i < n → j < n → entry low (p .c) (p .first) (seen (p .look1) l) i j < n
+
+-- the part's table is there, if the record is an "exists"
+abbrev pub Led : List ℕ → Plan → Type 0
+Led low p = p .kind ≡ Exists → (n : ℕ) × Inside low p n

@@ -1,0 +1,162 @@
+-- The successor code of two codes under a label, by the kind of record. Document 01, "Machines": the transition rules of the five atoms,
+-- the pairs of "or" and "and", and of "exists" the start, "the smallest set that contains 0 and is closed under nodes whose label is 0
+-- except, freely, for the bound variable", and the node, where "it collects all steps with the bound bit 0 or 1".
+-- `low` is the workspace before the record's own share. Assumes nothing.
+use Prim.Native.Nat.{ℕ, zero, suc, _+_, _*_, _/_, _%_, _≤_, _<_, min}
+use mathlib.Core.List.{List}
+use mathlib.Core.Bool.{Bool, _&&_, _||_, cond}
+use mathlib.Core.Path.{_≡_}
+use lib.Bits.{bitOr}
+use lib.Dec.{eqb}
+use Rattle.words.specs.Word.{mem, wordOf, any}
+use lib.ListN.{take}
+use Rattle.table.specs.Entry.{seen, Step, off, through, entry, on}
+use Rattle.table.specs.declared.plan.Plan.{Plan}
+use Rattle.table.specs.declared.plan.Kind.{Kind}
+use Rattle.table.specs.declared.plan.Kind.the-variants.{Subset, Single, Child1, Child2, Root, Not, Or, And, Exists}
+
+-- the pair of states of two machines
+unfoldable pub pairCode : Step → Step → ℕ → ℕ → ℕ → ℕ
+pairCode f g l x y = f l (x / 64 % 64) (y / 64 % 64) * 64 + g l (x % 64) (y % 64)
+
+-- does state q follow the states i and j under the label l or m
+unfoldable pub hit : Step → ℕ → ℕ → ℕ → ℕ → ℕ → Bool
+hit f l m q i j = eqb (f l i j % 64) q || eqb (f m i j % 64) q
+
+-- the same of state i and a j that is a member of y
+abbrev pub hitRow : Step → ℕ → ℕ → ℕ → ℕ → ℕ → ℕ → Bool
+hitRow f l m y q i j = mem j y && hit f l m q i j
+
+-- the same of an i that is a member of x and some member of y
+abbrev pub hitSet : Step → ℕ → ℕ → ℕ → ℕ → ℕ → ℕ → Bool
+hitSet f l m x y q i = mem i x && any (hitRow f l m y q i) 64
+
+-- the states that follow a member of x and a member of y, with the bound bit cleared or set
+unfoldable pub existsCode : Step → ℕ → ℕ → ℕ → ℕ → ℕ
+existsCode f w l x y = wordOf (λ (q : ℕ). any (hitSet f (off w l) (on w l) x y q) 64) 64
+
+-- the set s with the states that follow two of its members under label 0, with the bound bit cleared or set
+abbrev pub closer : Step → ℕ → ℕ → ℕ
+closer f w s = bitOr s (existsCode f w 0 s s)
+
+-- and so on, d times
+unfoldable pub closing : Step → ℕ → ℕ → ℕ → ℕ
+closing f w zero s = s
+closing f w (suc d) s = closer f w (closing f w d s)
+
+-- the start of "exists": each time adds a state, of at most 64, or changes nothing
+unfoldable pub existsStart : Step → ℕ → ℕ
+existsStart f w = closing f w 64 1
+
+-- where an atom's table has the entry for a label and two states: the two bits, and the two states
+unfoldable pub atomIndex : ℕ → ℕ → ℕ → ℕ → ℕ → ℕ
+atomIndex wx wy l x y = l / wx % 2 * 32 + l / wy % 2 * 16 + x % 4 * 4 + y % 4
+
+-- the rules of the atoms, from the bits of X and Y and the states of the two branches
+-- subset: 0 good, 1 bad
+abbrev pub subsetRule : ℕ → ℕ → ℕ → ℕ → ℕ
+subsetRule x y i j = cond (eqb (i + j) 0 && (eqb x 0 || eqb y 1)) 0 1
+
+-- one member: none, one, many
+abbrev pub singleRule : ℕ → ℕ → ℕ → ℕ → ℕ
+singleRule x y i j = min 2 (i + j + x)
+
+-- a branch: 0 nothing, 1 x at this node alone, 2 matched, 3 bad. i is the state of the branch meant, and j of the other
+abbrev pub childRule : ℕ → ℕ → ℕ → ℕ → ℕ
+childRule x y i j =
+    cond (eqb (x + y + i + j) 0) 0
+    (cond (eqb (x + y) 0 && (eqb i 2 && eqb j 0 || eqb i 0 && eqb j 2)) 2
+    (cond (eqb x 1 && eqb (y + i + j) 0) 1
+    (cond (eqb x 0 && eqb y 1 && (eqb i 1 && eqb j 0)) 2 3)))
+
+abbrev pub child1Rule : ℕ → ℕ → ℕ → ℕ → ℕ
+child1Rule x y i j = childRule x y i j
+
+abbrev pub child2Rule : ℕ → ℕ → ℕ → ℕ → ℕ
+child2Rule x y i j = childRule x y j i
+
+-- the root: 0 nothing, 1 x here alone, 2 bad
+abbrev pub rootRule : ℕ → ℕ → ℕ → ℕ → ℕ
+rootRule x y i j = cond (eqb (i + j) 0) x 2
+
+-- a rule at a place of its table
+abbrev pub ruleAt : (ℕ → ℕ → ℕ → ℕ → ℕ) → ℕ → ℕ
+ruleAt f k = f (k / 32) (k / 16 % 2) (k / 4 % 4) (k % 4)
+
+-- an atom's successor, from the place in its table; 0 for any other kind
+unfoldable pub atomCode : Kind → ℕ → ℕ
+atomCode Subset k = ruleAt subsetRule k
+atomCode Single k = ruleAt singleRule k
+atomCode Child1 k = ruleAt child1Rule k
+atomCode Child2 k = ruleAt child2Rule k
+atomCode Root k = ruleAt rootRule k
+atomCode Not k = 0
+atomCode Or k = 0
+atomCode And k = 0
+atomCode Exists k = 0
+
+abbrev pub atomStep : Kind → ℕ → ℕ → ℕ → ℕ → ℕ → ℕ
+atomStep k wx wy l x y = atomCode k (atomIndex wx wy l x y)
+
+-- the successor code by the kind of record, from the steps of its parts' machines and the weights of its variables' bits; 0 for "not",
+-- whose machine is not explored
+unfoldable pub kindCode : Kind → Step → Step → ℕ → ℕ → ℕ → ℕ → ℕ → ℕ
+kindCode Subset f g wx wy l x y = ruleAt subsetRule (atomIndex wx wy l x y)
+kindCode Single f g wx wy l x y = ruleAt singleRule (atomIndex wx wy l x y)
+kindCode Child1 f g wx wy l x y = ruleAt child1Rule (atomIndex wx wy l x y)
+kindCode Child2 f g wx wy l x y = ruleAt child2Rule (atomIndex wx wy l x y)
+kindCode Root f g wx wy l x y = ruleAt rootRule (atomIndex wx wy l x y)
+kindCode Not f g wx wy l x y = 0
+kindCode Or f g wx wy l x y = pairCode f g l x y
+kindCode And f g wx wy l x y = pairCode f g l x y
+kindCode Exists f g wx wy l x y = existsCode f wx l x y
+
+-- the bits that a record looks at, where its variables' bits are wx and wy and its parts look at f and g
+unfoldable pub looksOf : Kind → ℕ → ℕ → ℕ → ℕ → ℕ
+looksOf Subset wx wy f g = bitOr wx wy
+looksOf Single wx wy f g = wx
+looksOf Child1 wx wy f g = bitOr wx wy
+looksOf Child2 wx wy f g = bitOr wx wy
+looksOf Root wx wy f g = wx
+looksOf Not wx wy f g = f
+looksOf Or wx wy f g = bitOr f g
+looksOf And wx wy f g = bitOr f g
+looksOf Exists wx wy f g = off wx f
+
+unfoldable pub successorOf : List ℕ → Plan → ℕ → ℕ → ℕ → ℕ
+successorOf low p l x y =
+    kindCode (p .kind) (through (p .look1) (entry low (p .c) (p .first))) (through (p .look2) (entry low (p .c) (p .second))) (p .wx) (p .wy) l x y
+
+-- the successor function of a plan over a workspace: it reads only what lies before the plan's own share
+abbrev pub succIn : List ℕ → Plan → ℕ → ℕ → ℕ → ℕ
+succIn ws p = successorOf (take (p .base) ws) p
+
+-- the start code, from the step of the first part: 0 for all but "exists"
+unfoldable pub startCode : Kind → Step → ℕ → ℕ
+startCode Subset f w = 0
+startCode Single f w = 0
+startCode Child1 f w = 0
+startCode Child2 f w = 0
+startCode Root f w = 0
+startCode Not f w = 0
+startCode Or f w = 0
+startCode And f w = 0
+startCode Exists f w = existsStart f w
+
+abbrev pub startOf : List ℕ → Plan → ℕ
+startOf low p = startCode (p .kind) (through (p .look1) (entry low (p .c) (p .first))) (p .wx)
+
+-- the plan's numbers are in range, its share is within a workspace of n bytes, and two labels that it does not tell apart have the same
+-- successors
+pub record Room (p : Plan) (n : ℕ) : Type 0 where
+  pub ceiling : p .c ≤ 64
+  pub some-state : 0 < p .c
+  pub few : p .labels ≤ 256
+  pub first-small : p .first < 4294967296
+  pub second-small : p .second < 4294967296
+  pub wx-pos : 0 < p .wx
+  pub wx-small : p .wx ≤ 128
+  pub wy-pos : 0 < p .wy
+  pub wy-small : p .wy ≤ 128
+  pub share : p .base + p .labels * p .c * p .c ≤ n
+  pub blind : (low : List ℕ) (l x y : ℕ) → successorOf low p (seen (p .looks) l) x y ≡ successorOf low p l x y

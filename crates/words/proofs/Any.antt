@@ -1,0 +1,117 @@
+-- Laws of `any` and of the Bools that it joins. Assumes nothing.
+use Prim.Native.Nat.{ℕ, zero, suc, _≤_, _<_}
+use mathlib.Core.Bool.{Bool, true, false, _&&_, _||_, or-false, or-true}
+use mathlib.Core.Logic.{⊎-elim, _⊎_, inl, inr}
+use mathlib.Core.Path.{_≡_, refl, sym, ap, ap₂, _∙_}
+use native.Mathlib.Nat.{le-of-suc-le-suc, not-suc-le-zero, eq-or-lt-of-le}
+use native.Mathlib.Omega.{arith}
+use borrow.Author.Tests.{eqb-true, eq-eqb}
+use lib.Dec.{eqb}
+use Rattle.words.specs.Word.{any}
+
+pub or-cases : (a b : Bool) → (a || b) ≡ true → (a ≡ true) ⊎ (b ≡ true)
+or-cases true b e = inl refl
+or-cases false b e = inr e
+
+pub and-both : (a b : Bool) → (a && b) ≡ true → (a ≡ true) × (b ≡ true)
+and-both true b e = (refl, e)
+and-both false b e = let z : _≡_ {A = ℕ} 0 1 = cc in absurd (omega arith)
+
+pub and-cong : (a b c : Bool) → (a ≡ true → b ≡ c) → (a && b) ≡ (a && c)
+and-cong true b c h = h refl
+and-cong false b c h = refl
+
+-- two Bools are one where each is true if the other is
+pub bool-ext : (a b : Bool) → (a ≡ true → b ≡ true) → (b ≡ true → a ≡ true) → a ≡ b
+bool-ext true b f g = sym (f refl)
+bool-ext false true f g = g refl
+bool-ext false false f g = refl
+
+-- the same tests
+pub any-cong : (f g : ℕ → Bool) (n : ℕ) → ((i : ℕ) → i < n → f i ≡ g i) → any f n ≡ any g n
+unfolding any
+any-cong f g zero h = refl
+any-cong f g (suc n) h = ap₂ _||_ (any-cong f g n (λ i l. h i (omega arith))) (h n (omega arith))
+
+-- one that passes
+pub any-true : (f : ℕ → Bool) (n : ℕ) → any f n ≡ true → (i : ℕ) × (i < n) × (f i ≡ true)
+unfolding any
+any-true f zero e = let z : _≡_ {A = ℕ} 0 1 = cc in absurd (omega arith)
+any-true f (suc n) e =
+    ⊎-elim (λ (a : any f n ≡ true). let r = any-true f n a in (r .0, omega (arith, r .1), r .2)) (λ (b : f n ≡ true). (n, omega arith, b)) (or-cases (any f n) (f n) e)
+
+pub any-in : (f : ℕ → Bool) (n i : ℕ) → i < n → f i ≡ true → any f n ≡ true
+unfolding any
+any-in f zero i h t = absurd (not-suc-le-zero h)
+any-in f (suc n) i h t =
+    ⊎-elim (λ (e : i ≡ n). ap (λ (b : Bool). any f n || b) (ap f (sym e) ∙ t) ∙ or-true (any f n)) (λ (l : i < n). ap (λ (b : Bool). b || f n) (any-in f n i l t)) (eq-or-lt-of-le (le-of-suc-le-suc h))
+
+-- numbers that fail the test may be left out
+pub any-skip : (f : ℕ → Bool) (m n : ℕ) → m ≤ n → ((q : ℕ) → m ≤ q → q < n → f q ≡ false) → any f n ≡ any f m
+unfolding any
+any-skip f m zero h no′ = let e : zero ≡ m = omega arith in ap (any f) e
+any-skip f m (suc n) h no′ = ⊎-elim (λ (e : m ≡ suc n). ap (any f) (sym e))
+    (λ (l : m < suc n). ap (λ (b : Bool). any f n || b) (no′ n (le-of-suc-le-suc l) (omega arith)) ∙ or-false (any f n) ∙ any-skip f m n (le-of-suc-le-suc l) (λ q a b. no′ q a (omega arith)))
+    (eq-or-lt-of-le h)
+
+-- the test is passed by i alone, or one of two tests is passed
+pub any-first : (i n : ℕ) (f g h : ℕ → Bool) → i < n → ((t : ℕ) → f t ≡ (eqb i t || g t)) → any (λ (t : ℕ). f t && h t) n ≡ (h i || any (λ (t : ℕ). g t && h t) n)
+any-first i n f g h l e = bool-ext (any both n) (h i || any rest n) there back
+  where
+    both : ℕ → Bool
+    both t = f t && h t
+
+    rest : ℕ → Bool
+    rest t = g t && h t
+
+    there : any both n ≡ true → (h i || any rest n) ≡ true
+    there a =
+        let r = any-true both n a in
+        let b = and-both (f (r .0)) (h (r .0)) (r .2) in
+        ⊎-elim
+        (λ (p : eqb i (r .0) ≡ true). ap (λ (x : Bool). x || any rest n) (ap h (eqb-true i (r .0) p) ∙ b .1))
+        (λ (p : g (r .0) ≡ true). ap (λ (x : Bool). h i || x) (any-in rest n (r .0) (r .1) (ap₂ _&&_ p (b .1))) ∙ or-true (h i))
+        (or-cases (eqb i (r .0)) (g (r .0)) (sym (e (r .0)) ∙ b .0))
+
+    back : (h i || any rest n) ≡ true → any both n ≡ true
+    back a =
+        ⊎-elim
+        (λ (p : h i ≡ true). any-in both n i l (ap₂ _&&_ (e i ∙ ap (λ (x : Bool). x || g i) (eq-eqb i i refl)) p))
+        (λ (p : any rest n ≡ true).
+        let r = any-true rest n p in
+        let b = and-both (g (r .0)) (h (r .0)) (r .2) in
+        any-in both n (r .0) (r .1) (ap₂ _&&_ (e (r .0) ∙ ap (λ (x : Bool). eqb i (r .0) || x) (b .0) ∙ or-true (eqb i (r .0))) (b .1)))
+        (or-cases (h i) (any rest n) a)
+
+-- two walks may change places
+pub any-swap : (n m : ℕ) (f g : ℕ → Bool) (h : ℕ → ℕ → Bool)
+    → any (λ (i : ℕ). f i && any (λ (j : ℕ). g j && h i j) m) n ≡ any (λ (j : ℕ). g j && any (λ (i : ℕ). f i && h i j) n) m
+any-swap n m f g h = bool-ext (any rows n) (any columns m) there back
+  where
+    row : ℕ → ℕ → Bool
+    row i j = g j && h i j
+
+    column : ℕ → ℕ → Bool
+    column j i = f i && h i j
+
+    rows : ℕ → Bool
+    rows i = f i && any (row i) m
+
+    columns : ℕ → Bool
+    columns j = g j && any (column j) n
+
+    there : any rows n ≡ true → any columns m ≡ true
+    there a =
+        let i = any-true rows n a in
+        let p = and-both (f (i .0)) (any (row (i .0)) m) (i .2) in
+        let j = any-true (row (i .0)) m (p .1) in
+        let q = and-both (g (j .0)) (h (i .0) (j .0)) (j .2) in
+        any-in columns m (j .0) (j .1) (ap₂ _&&_ (q .0) (any-in (column (j .0)) n (i .0) (i .1) (ap₂ _&&_ (p .0) (q .1))))
+
+    back : any columns m ≡ true → any rows n ≡ true
+    back a =
+        let j = any-true columns m a in
+        let p = and-both (g (j .0)) (any (column (j .0)) n) (j .2) in
+        let i = any-true (column (j .0)) n (p .1) in
+        let q = and-both (f (i .0)) (h (i .0) (j .0)) (i .2) in
+        any-in rows n (i .0) (i .1) (ap₂ _&&_ (q .0) (any-in (row (i .0)) m (j .0) (j .1) (ap₂ _&&_ (p .0) (q .1))))

@@ -1,0 +1,3 @@
+pub mod Any
+pub mod WordLaws
+pub mod Members

@@ -1,0 +1,9 @@
+-- `size` meets its contract: a word has at most 64 members. Assumes nothing.
+use native.Mathlib.Omega.{arith}
+use lib.Count.{ones-le}
+use borrow.Author.Needs.{needs}
+use Rattle.words.proofs.size.Statement.{statement}
+use Rattle.words.proofs.size.Tie as tie
+
+pub size-spec : {M : Type 1} → statement M
+size-spec = tie.close (tie.spec (λ c. omega (arith, ones-le 64 (c .args .w) (omega arith))) (λ c. search needs))
