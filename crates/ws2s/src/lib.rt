@@ -1,6 +1,6 @@
 // The entry points: both strip checks, judge and decide, inside as enums and outside as C functions.
-pub mod decode; // a rule strip's records, as the builder takes them
-pub mod room; // what machines and strips take, and refusals 11 and 12
+mod decode; // a rule strip's records, as the builder takes them
+mod room; // what machines and strips take, and refusals 11 and 12
 pub mod decide; // from a rule strip to an answer and a tree strip
 pub mod judge; // whether the sets of a tree satisfy a rule
 pub mod exports; // the C interface

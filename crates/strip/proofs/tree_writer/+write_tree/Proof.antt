@@ -50,7 +50,7 @@ write-tree-write-tree-requires-2 t c κs =
     let z = b .before .before .before .if1 .left in
     let p = b .put-node in
     let f = c .before .before .before .before .write-tree in (
-      omega (arith, st .pre .0, backward w z .1),
+      omega (arith, st .pre .0, backward w z .0, backward w z .1),
       second-writable w z (p .last .0) (p .kept .0) (p .ensures) (f .result) (f .ensures .0) (f .last .0) (f .kept .0) (f .ensures .1),
     )
 
