@@ -46,7 +46,7 @@ copied-bare : (ws ws′ : List ℕ) (from to n : ℕ) → Copied ws ws′ from t
 copied-bare ws ws′ from to n w q off = elim (decLt q to) [
   | yes h ↦ w .low q h
   | no h ↦
-      let far : n ≤ q - to = elim (decLt (q - to) n) [ | yes l ↦ absurd (off (q - to) l (omega arith)) | no l ↦ omega arith ] in
+      let far : n ≤ q - to = elim (decLt (q - to) n) [ yes l ↦ absurd (off (q - to) l (omega arith)) | no l ↦ omega arith ] in
       let z : to + n + (q - to - n) ≡ q = omega arith in
       subst (λ (k : ℕ). getD ws′ k 0 ≡ getD ws k 0) z
       (sym (getD-drop (to + n) ws′ (q - to - n) 0) ∙ ap (λ (l : List ℕ). getD l (q - to - n) 0) (w .high) ∙ getD-drop (to + n) ws (q - to - n) 0)

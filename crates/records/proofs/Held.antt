@@ -59,6 +59,7 @@ module _ (c labels n m wx wy : ℕ) (e f d g : Step) (top : c ≤ 64) (pos : 0 <
   kind-step Exists l x y hl hx hy =
       let q = exists-cong labels n e f few-n same wx bit l x y hl hx hy in
       (q, λ i hi t. exists-below labels n e f few-n same wx bit l x y hl hx hy i hi (subst (λ (z : ℕ). mem i z ≡ true) q t))
+
   start-same : (k : Kind) → startCode k e wx ≡ startCode k f wx
   unfolding startCode existsStart
   start-same Subset = refl

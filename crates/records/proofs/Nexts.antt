@@ -122,14 +122,22 @@ module _ (xs : List Decoded) (c labels r : ℕ) (t : Machines) (ws ws′ : List 
 
         here : Stored c labels (r * (labels * c * c)) (getD (w .machines ++ (new ∷ [])) r noMach) (entryOf (withNext t r k) r) ws′
         here =
-            rw (last, getD-set-same (t .counts) r (k .count) 0 (omega (arith, wide .counts)), getD-set-same (t .accepts) r (k .accept) 0 (omega (arith, wide .accepts)),
-            getD-set-same (t .looks) r (k .looks) 0 (omega (arith, wide .looks))) (made .2 .stored)
+            rw (
+              last,
+              getD-set-same (t .counts) r (k .count) 0 (omega (arith, wide .counts)),
+              getD-set-same (t .accepts) r (k .accept) 0 (omega (arith, wide .accepts)),
+              getD-set-same (t .looks) r (k .looks) 0 (omega (arith, wide .looks)),
+            ) (made .2 .stored)
 
         earlier : (a : ℕ) → a < r → Stored c labels (a * (labels * c * c)) (getD (w .machines ++ (new ∷ [])) a noMach) (entryOf (withNext t r k) a) ws′
         earlier a l =
             let no : a ≡ r → ⊥ = λ e. omega arith in
-            rw (List·getD-append (w .machines) (new ∷ []) noMach a (omega (arith, w .size)), getD-set-other (t .counts) r a (k .count) 0 no,
-            getD-set-other (t .accepts) r a (k .accept) 0 no, getD-set-other (t .looks) r a (k .looks) 0 no)
+            rw (
+              List·getD-append (w .machines) (new ∷ []) noMach a (omega (arith, w .size)),
+              getD-set-other (t .counts) r a (k .count) 0 no,
+              getD-set-other (t .accepts) r a (k .accept) 0 no,
+              getD-set-other (t .looks) r a (k .looks) 0 no,
+            )
             (stored-spared c labels a r (getD (w .machines) a noMach) (entryOf t a) ws ws′ l sp (w .stored a l))
 
     pub over-next : c < k .count → upto xs c labels (r + 1) ≡ over r

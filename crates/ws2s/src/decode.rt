@@ -4,8 +4,8 @@ ghost use Prim.Native.Nat.{_<_, _≤_};
 ghost use Rattle.refinement.specs.Decode.{weight, kindAt, decodedOf};
 ghost use Rattle.strip.specs.RuleStrip.{AcceptedRule};
 ghost use Rattle.ws2s.specs.Decoding.{DecodesTo};
-use table::plan::Kind;
 use records::Decoded;
+use table::plan::Kind;
 
 fn kind_of(op: usize) -> Kind
     ensures { λ r. ⌜ r ≡ kindAt op ⌝ }

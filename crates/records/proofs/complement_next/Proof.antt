@@ -28,8 +28,14 @@ copy-table-requires c κs =
     let a = s .args in
     let w = s .pre .1 .1 .1 in
     let h : a .x .first < a .r = subst (λ (k : Kind). OfParts k (a .x .first < a .r) (a .x .second < a .r)) (s .pre .1 .1 .0) (s .pre .1 .0 .before) in
-    omega (arith, s .pre .0 .ceiling, s .pre .0 .few, s .pre .0 .share, few-part (a .x) (a .r) (a .c) (a .labels) (a .f) (a .g) (a .ws .now) (w .0) (w .1) (s .pre .1 .1 .0) (w .2),
-    next-share (a .x .first) (a .r) (a .labels * a .c * a .c) h)
+    omega (
+      arith,
+      s .pre .0 .ceiling,
+      s .pre .0 .few,
+      s .pre .0 .share,
+      few-part (a .x) (a .r) (a .c) (a .labels) (a .f) (a .g) (a .ws .now) (w .0) (w .1) (s .pre .1 .1 .0) (w .2),
+      next-share (a .x .first) (a .r) (a .labels * a .c * a .c) h,
+    )
 
 flipped-requires : tie.Need-flipped-requires
 flipped-requires c κs =

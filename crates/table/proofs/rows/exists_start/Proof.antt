@@ -34,8 +34,10 @@ followers-requires c κs =
     let below = closing-below (a .low .now) (a .p) (s .pre .1 .0) (s .pre .0 .0) i (h .d) in
     let narrow = and-le-l (a .p .wx) (a .p .look1) in (
       (s .pre .0 .0, omega arith, omega (arith, s .pre .0), s .pre .0 .1, λ q hq m. omega (arith, i .few, below q hq (subst (λ (w : ℕ). mem q w ≡ true) (h .inv .1) m))),
-      (omega (arith, i .share, label-share (a .p .c) 0 (a .p .labels) (omega (arith, i .bit .is-label))),
-      omega (arith, i .share, label-share (a .p .c) (seen (a .p .look1) (a .p .wx)) (a .p .labels) (omega (arith, i .bit .is-label)))),
+      (
+        omega (arith, i .share, label-share (a .p .c) 0 (a .p .labels) (omega (arith, i .bit .is-label))),
+        omega (arith, i .share, label-share (a .p .c) (seen (a .p .look1) (a .p .wx)) (a .p .labels) (omega (arith, i .bit .is-label))),
+      ),
     )
 
 returns : tie.Need-returns Inv-loop μ-loop
