@@ -17,7 +17,8 @@ use Rattle.logic.specs.Reach.{below, Reached}
 use Rattle.logic.specs.Table.{Table, table, Built, over, built, buildAll}
 use Rattle.logic.specs.Trim.{trim, treeOf, bare, Trimmed}
 use Rattle.logic.specs.Search.{Sought, tree, large, absent, search}
-use Rattle.logic.specs.Claims.{Outcome, refused14, shown, none, larger, Judgement, unbuilt, yes, no, statesAt, FirstOver, Roomy, Model, Earliest, Answers, Judges, Shallow}
+use Rattle.logic.specs.Claims.{Outcome, refused14, shown, none, larger, Judgement, unbuilt, yes, no, statesAt, FirstOver, Roomy, Model, Earliest, Answers}
+use Rattle.logic.specs.Claims.{Judges, Shallow}
 use Rattle.logic.specs.Decide.{report, conclude, decideOf, say, ruling, judgeOf, lastTable}
 use Rattle.logic.proofs.Places.{T→true, true→T}
 use Rattle.logic.proofs.Numbered.{reached-bound}
@@ -124,7 +125,8 @@ module _ (k n : ℕ) (rs : List Record) (c P : ℕ) where
         demand3 = λ h. record {
           shown-is = ((λ w. (v .sets, t, v .model, r .1)), λ w. (t, refl));
           shown-right = λ m q u e. let x : positions t ≡ m = cc in let y : states ≡ q = cc in let z : t ≡ u = cc in rw (← x, ← y, ← z) (refl, v);
-          larger-is = ((λ e. absurd (let z : _≡_ {A = ℕ} 0 1 = cc in omega arith)), λ f. absurd (let a = f .1 (v .sets) t (v .model) in let b = r .1 in omega arith));
+          larger-is =
+              ((λ e. absurd (let z : _≡_ {A = ℕ} 0 1 = cc in omega arith)), λ f. absurd (let a = f .1 (v .sets) t (v .model) in let b = r .1 in omega arith));
         };
       }
         where
@@ -136,11 +138,16 @@ module _ (k n : ℕ) (rs : List Record) (c P : ℕ) where
     large-right r = record {
       refused-is = λ s. ((λ e. absurd (let z : _≡_ {A = ℕ} 0 1 = cc in omega arith)), λ f. absurd (roomy-no s f));
       demand2 = λ h. record {
-        none-is = ((λ e. absurd (let z : _≡_ {A = ℕ} 0 1 = cc in omega arith)), λ f. absurd (f (setsOf n (r .0 .0)) (accepted-holds n rs M D (r .0 .0) (r .0 .1))));
+        none-is =
+            ((λ e. absurd (let z : _≡_ {A = ℕ} 0 1 = cc in omega arith)), λ f. absurd (f (setsOf n (r .0 .0)) (accepted-holds n rs M D (r .0 .0) (r .0 .1))));
         otherwise = λ A s. inr (refl, λ B u m. r .1 u (model-accepted n rs M D B u m));
       };
       demand3 = λ h. record {
-        shown-is = ((λ w. absurd (let e = w .1 in let z : _≡_ {A = ℕ} 0 1 = cc in omega arith)), λ w. absurd (let a = r .1 (w .1) (model-accepted n rs M D (w .0) (w .1) (w .2)) in let b = w .3 in omega arith));
+        shown-is = (
+          (λ w. absurd (let e = w .1 in let z : _≡_ {A = ℕ} 0 1 = cc in omega arith)),
+          λ w. absurd
+              (let a = r .1 (w .1) (model-accepted n rs M D (w .0) (w .1) (w .2)) in let b = w .3 in omega arith),
+        );
         shown-right = λ m q u e. absurd (let z : _≡_ {A = ℕ} 0 1 = cc in omega arith);
         larger-is = ((λ e. ((setsOf n (r .0 .0), accepted-holds n rs M D (r .0 .0) (r .0 .1)), λ A t m. r .1 t (model-accepted n rs M D A t m))), λ f. refl);
       };

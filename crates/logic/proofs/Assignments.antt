@@ -77,13 +77,15 @@ module _ {k : ℕ} (n : ℕ) where
   pub tree-of : (A : Assignment k) → TreeOf n A (treeOf n A)
   tree-of A = trimmed-tree A (treeOf n A) (tree-trimmed n A) (tree-proper n A) (tree-represents n A)
 
-  same-tree : (t u : Tree k) → Proper n t → Proper n u → ((p : Place k) → nodeAt t p ≡ nodeAt u p) → ((i : ℕ) → i < n → (p : Place k) → bitAt n t i p ≡ bitAt n u i p) → t ≡ u
+  same-tree : (t u : Tree k) → Proper n t → Proper n u → ((p : Place k) → nodeAt t p ≡ nodeAt u p)
+      → ((i : ℕ) → i < n → (p : Place k) → bitAt n t i p ≡ bitAt n u i p) → t ≡ u
   unfolding Proper nodeAt bitAt
   same-tree empty empty o o′ h b = refl
   same-tree empty (node m g) o o′ h b = absurd (true≢false (sym (h [])))
   same-tree (node l f) empty o o′ h b = absurd (true≢false (h []))
   same-tree (node l f) (node m g) o o′ h b =
-      ap₂ node (bit-ext n l m (o .0) (o′ .0) (λ i q. b i q [])) (fun-ext (λ c. same-tree (f c) (g c) (o .1 c) (o′ .1 c) (λ p. h (c ∷ p)) (λ i q p. b i q (c ∷ p))))
+      ap₂ node (bit-ext n l m (o .0) (o′ .0) (λ i q. b i q []))
+      (fun-ext (λ c. same-tree (f c) (g c) (o .1 c) (o′ .1 c) (λ p. h (c ∷ p)) (λ i q p. b i q (c ∷ p))))
 
   -- the same sets have the same tree
   pub tree-same : (A B : Assignment k) (t u : Tree k) → SameSets n A B → TreeOf n A t → TreeOf n B u → t ≡ u

@@ -122,10 +122,12 @@ module _ {k : ℕ} where
   unfolding Holds
   decides-subset n x y hx hy t o A r =
       Iff·trans (eqb-iff (run (subsetMachine n x y) t) 0)
-      (subst₂ (λ (g h : Place k → Bool). (run (subsetMachine n x y) t ≡ 0) ↔ ((p : Place k) → T (g p) → T (h p))) (transfer n t A r x hx) (transfer n t A r y hy) (subset-run n x y t))
+      (subst₂ (λ (g h : Place k → Bool). (run (subsetMachine n x y) t ≡ 0) ↔ ((p : Place k) → T (g p) → T (h p))) (transfer n t A r x hx)
+      (transfer n t A r y hy) (subset-run n x y t))
 
   -- Sing
-  single-node : (g : Place k → Bool) (s : Branch k → ℕ) → ((c : Branch k) → (s c ≡ 0) ↔ None (at g c)) → ((c : Branch k) → (s c ≡ 1) ↔ ((p : Place k) × Only p (at g c)))
+  single-node : (g : Place k → Bool) (s : Branch k → ℕ) → ((c : Branch k) → (s c ≡ 0) ↔ None (at g c))
+      → ((c : Branch k) → (s c ≡ 1) ↔ ((p : Place k) × Only p (at g c)))
       → (v : Bool) → g [] ≡ v → ((singletonStep v s ≡ 0) ↔ None g) × ((singletonStep v s ≡ 1) ↔ ((p : Place k) × Only p g))
   single-node g s i0 i1 true e = (
     (λ t. absurd (omega arith), λ u. clash e (u [])),
@@ -157,11 +159,13 @@ module _ {k : ℕ} where
           let z = (total-one s) .1 (c, ((i1 c) .1 (p, cons-only g c p o), λ d ne. (i0 d) .1 (cons-none g c p o d ne))) in
           omega arith
 
-  single-run : (n x : ℕ) (t : Tree k) → ((run (singletonMachine n x) t ≡ 0) ↔ None (bitAt n t x)) × ((run (singletonMachine n x) t ≡ 1) ↔ ((p : Place k) × Only p (bitAt n t x)))
+  single-run : (n x : ℕ) (t : Tree k)
+      → ((run (singletonMachine n x) t ≡ 0) ↔ None (bitAt n t x)) × ((run (singletonMachine n x) t ≡ 1) ↔ ((p : Place k) × Only p (bitAt n t x)))
   unfolding run bitAt
   single-run n x empty = ((λ _ p. refl, λ _. refl), (λ t. absurd (omega arith), λ w. absurd ((w .1 (w .0)) .1 refl)))
   single-run n x (node l f) =
-      single-node (bitAt n (node l f) x) (λ c. run (singletonMachine n x) (f c)) (λ c. (single-run n x (f c)) .0) (λ c. (single-run n x (f c)) .1) (bit n l x) refl
+      single-node (bitAt n (node l f) x) (λ c. run (singletonMachine n x) (f c)) (λ c. (single-run n x (f c)) .0) (λ c. (single-run n x (f c)) .1)
+      (bit n l x) refl
 
   pub decides-singleton : (n x : ℕ) → x < n → Decides {k = k} n (singletonMachine n x) (singleton x)
   unfolding Holds
@@ -218,14 +222,16 @@ module _ {k : ℕ} where
       back [] oh og = ((ih i) .1 .1 (cons-only g i [] og, root-none h oh i), λ c ne. (ih c) .0 .1 (cons-none g i [] og c ne, root-none h oh c))
       back (c ∷ p) oh og = clash f (cons-bit h c p oh)
   child-node i g h s ih false false e f =
-      let j0 = when-true (idle s) 0 (cond (anyOf (alone 2 s) (branches k)) 2 3) 0 refl (never (anyOf (alone 2 s) (branches k)) 2 3 0 (omega arith) (omega arith)) in (
+      let j0 = when-true (idle s) 0 (cond (anyOf (alone 2 s) (branches k)) 2 3) 0 refl
+      (never (anyOf (alone 2 s) (branches k)) 2 3 0 (omega arith) (omega arith)) in (
         (
           λ t. let z = (idle-iff s) .0 (j0 .0 t) in
               (none-node g e (λ c. ((ih c) .0 .0 (z c)) .0), none-node h f (λ c. ((ih c) .0 .0 (z c)) .1)),
           λ u. j0 .1 ((idle-iff s) .1 (λ c. (ih c) .0 .1 (λ p. u .0 (c ∷ p), λ p. u .1 (c ∷ p)))),
         ),
         (
-          λ t. absurd (never (idle s) 0 (cond (anyOf (alone 2 s) (branches k)) 2 3) 1 (omega arith) (never (anyOf (alone 2 s) (branches k)) 2 3 1 (omega arith) (omega arith)) t),
+          λ t. absurd (never (idle s) 0 (cond (anyOf (alone 2 s) (branches k)) 2 3) 1 (omega arith)
+              (never (anyOf (alone 2 s) (branches k)) 2 3 1 (omega arith) (omega arith)) t),
           λ u. clash (root-bit g (u .0)) e,
         ),
         (λ t. there (idle s) t, λ u. back (u .0) (u .1) (u .2)),
@@ -246,7 +252,8 @@ module _ {k : ℕ} where
       back [] oh og = clash (root-bit h oh) f
       back (c ∷ p) oh og =
           let z : s c ≡ 2 = (ih c) .2 .1 (p, cons-only h c p oh, cons-only g c (p ++ (i ∷ [])) og) in
-          let a = (any-iff (alone 2 s)) .1 (c, (alone-iff 2 s c) .1 (z, λ d ne. (ih d) .0 .1 (cons-none g c (p ++ (i ∷ [])) og d ne, cons-none h c p oh d ne))) in
+          let a = (any-iff (alone 2 s)) .1
+          (c, (alone-iff 2 s c) .1 (z, λ d ne. (ih d) .0 .1 (cons-none g c (p ++ (i ∷ [])) og d ne, cons-none h c p oh d ne))) in
           let busy : idle s ≡ false = not-T (idle s) (λ t. let y = (idle-iff s) .0 t c in omega arith) in
           rw (busy, T→true (anyOf (alone 2 s) (branches k)) a) refl
 
@@ -258,10 +265,12 @@ module _ {k : ℕ} where
     (λ t. absurd (omega arith), λ u. absurd ((u .1 (u .0)) .1 refl)),
   )
   child-run n x y i (node l f) =
-      child-node i (bitAt n (node l f) x) (bitAt n (node l f) y) (λ c. run (successorMachine n i x y) (f c)) (λ c. child-run n x y i (f c)) (bit n l x) (bit n l y) refl refl
+      child-node i (bitAt n (node l f) x) (bitAt n (node l f) y) (λ c. run (successorMachine n i x y) (f c)) (λ c. child-run n x y i (f c)) (bit n l x)
+      (bit n l y) refl refl
 
   pub decides-successor : (n x y : ℕ) (i : Branch k) → x < n → y < n → Decides {k = k} n (successorMachine n i x y) (successor i x y)
   unfolding Holds
   decides-successor n x y i hx hy t o A r =
       Iff·trans (eqb-iff (run (successorMachine n i x y) t) 2)
-      (subst₂ (λ (g h : Place k → Bool). (run (successorMachine n i x y) t ≡ 2) ↔ Child i g h) (transfer n t A r x hx) (transfer n t A r y hy) ((child-run n x y i t) .2))
+      (subst₂ (λ (g h : Place k → Bool). (run (successorMachine n i x y) t ≡ 2) ↔ Child i g h) (transfer n t A r x hx) (transfer n t A r y hy)
+      ((child-run n x y i t) .2))

@@ -104,7 +104,13 @@ module _ {k : ℕ} where
       there i zero e t =
           let w = i .0 (omega arith) in
           (w .0, omega arith, w .2, λ c l d. ⊎-elim (λ p. ap s p ∙ e) (λ l′. w .3 c l′ d) (is-last m h c l))
-      there i (suc a) e t = (last m h, le-refl (suc m), omega arith, λ c l d. ⊎-elim (λ p. absurd (d p)) (λ l′. (sum-zero s m (le-of-lt h)) .0 (omega arith) c l′) (is-last m h c l))
+      there i (suc a) e t = (
+        last m h,
+        le-refl (suc m),
+        omega arith,
+        λ c l d. ⊎-elim (λ p. absurd (d p))
+            (λ l′. (sum-zero s m (le-of-lt h)) .0 (omega arith) c l′) (is-last m h c l),
+      )
 
       back : (R ≡ 1) ↔ OneBelow s m → OneBelow s (suc m) → s (last m h) + R ≡ 1
       back i w = ⊎-elim first later (is-last m h (w .0) (w .1))
@@ -112,7 +118,8 @@ module _ {k : ℕ} where
           first : w .0 ≡ last m h → s (last m h) + R ≡ 1
           first p =
               let a = ap s p in let e = w .2 in
-              let z : R ≡ 0 = (sum-zero s m (le-of-lt h)) .1 (λ c l. w .3 c (omega arith) (λ q. let r = ap (λ (x : Branch k). x .number) (q ∙ p) in omega arith)) in
+              let z : R ≡ 0 = (sum-zero s m (le-of-lt h)) .1 (λ c l. w .3 c (omega arith)
+              (λ q. let r = ap (λ (x : Branch k). x .number) (q ∙ p) in omega arith)) in
               omega arith
 
           later : w .0 .number < m → s (last m h) + R ≡ 1

@@ -14,11 +14,13 @@ unfolding run
 run-complement M empty = refl
 run-complement M (node l f) = ap (M .step l) (fun-ext (λ b. run-complement M (f b)))
 
-pub run-product : {k : ℕ} {Q R : Type 0} (op : Bool → Bool → Bool) (M : Machine k Q) (N : Machine k R) (t : Tree k) → run (product op M N) t ≡ (run M t, run N t)
+pub run-product : {k : ℕ} {Q R : Type 0} (op : Bool → Bool → Bool) (M : Machine k Q) (N : Machine k R) (t : Tree k)
+    → run (product op M N) t ≡ (run M t, run N t)
 unfolding run
 run-product op M N empty = refl
 run-product op M N (node l f) =
-    ap₂ (λ x y. (x, y)) (ap (M .step l) (fun-ext (λ b. ap (λ s. s .0) (run-product op M N (f b))))) (ap (N .step l) (fun-ext (λ b. ap (λ s. s .1) (run-product op M N (f b)))))
+    ap₂ (λ x y. (x, y)) (ap (M .step l) (fun-ext (λ b. ap (λ s. s .0) (run-product op M N (f b)))))
+    (ap (N .step l) (fun-ext (λ b. ap (λ s. s .1) (run-product op M N (f b)))))
 
 pub not-iff : (a : Bool) {P : Type 0} → T a ↔ P → T (not a) ↔ (¬ P)
 not-iff true i = (λ t. absurd t, λ h. absurd (h (i .0 tt)))

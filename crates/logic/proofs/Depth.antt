@@ -44,7 +44,8 @@ module _ {k : ℕ} (n : ℕ) (M : Machine k ℕ) (l : ℕ) (f : Branch k → Tre
       took : u ≺ f b → f b ≡ u
       took p =
           let down : node l (swap u) ⪯ node l f = node-⪯ l (swap u) f (swap-each (λ c x. x ⪯ f c) u (inl p) (λ c. inr refl)) in
-          let up : node l f ⪯ node l (swap u) = e (node l (swap u)) (o .0, swap-each (λ c x. Proper n x) u ou (o .1)) (ap (M .step l) (fun-ext (swap-each (λ c x. run M x ≡ run M (f c)) u r (λ c. refl)))) in
+          let up : node l f ⪯ node l (swap u) = e (node l (swap u)) (o .0, swap-each (λ c x. Proper n x) u ou (o .1))
+          (ap (M .step l) (fun-ext (swap-each (λ c x. run M x ≡ run M (f c)) u r (λ c. refl)))) in
           let q : node l f ≡ node l (swap u) = ⪯-antisym (node l f) (node l (swap u)) up down in
           let g : f ≡ swap u = cc in
           ap (λ (h : Branch k → Tree k). h b) g ∙ swap-here u
@@ -89,15 +90,18 @@ module _ {k : ℕ} (n count : ℕ) (M : Machine k ℕ) (m : Full n count M) wher
   unfolding positions
   some-there l f = omega arith
 
-  low : (p : Place k) (t : Tree k) (above : List ℕ) → T (nodeAt t p) → Proper n t → Earliest n M t → Apart count above → Heavier above (positions t) → length above + suc (length p) < count
+  low : (p : Place k) (t : Tree k) (above : List ℕ) → T (nodeAt t p) → Proper n t → Earliest n M t → Apart count above → Heavier above (positions t)
+      → length above + suc (length p) < count
   unfolding nodeAt Proper
   low p empty above h o e v w = absurd h
   low [] (node l f) above h o e v w =
       let a = room (run M (node l f) ∷ above) (push above (node l f) o v w) (heavier above (node l f) 0 e (some-there l f) w) in omega arith
   low (b ∷ p) (node l f) above h o e v w =
-      let a = low p (f b) (run M (node l f) ∷ above) h (o .1 b) (earliest-branch n M l f o e b) (push above (node l f) o v w) (heavier above (node l f) (positions (f b)) e (branch-fewer l f b) w) in
+      let a = low p (f b) (run M (node l f) ∷ above) h (o .1 b) (earliest-branch n M l f o e b) (push above (node l f) o v w)
+      (heavier above (node l f) (positions (f b)) e (branch-fewer l f b) w) in
       omega arith
 
   pub earliest-shallow : (t : Tree k) → Proper n t → Earliest n M t → (p : Place k) → T (nodeAt t p) → suc (length p) < count
   earliest-shallow t o e p h =
-      let a = low p t [] h o e (record { below = λ i q. absurd (omega arith); apart = λ i j q r. absurd (omega arith) }) (λ i q. absurd (omega arith)) in omega arith
+      let a = low p t [] h o e (record { below = λ i q. absurd (omega arith); apart = λ i j q r. absurd (omega arith) }) (λ i q. absurd (omega arith)) in
+      omega arith

@@ -91,7 +91,8 @@ module _ {k : ℕ} (n x : ℕ) (below : x < n) where
   vary-other d (node l f) X i hi e (c ∷ p) = vary-other d (f c) (under c X) i hi e p
 
   -- a tree that differs in x only, and has X there, represents the assignment with X for x
-  represents : (t u : Tree k) (A : Assignment k) (X : List (Place k)) → Represents n t A → SameBut n x t u → ((p : Place k) → bitAt n u x p ≡ has X p) → Represents n u (assign x X A)
+  represents : (t u : Tree k) (A : Assignment k) (X : List (Place k)) → Represents n t A → SameBut n x t u → ((p : Place k) → bitAt n u x p ≡ has X p)
+      → Represents n u (assign x X A)
   unfolding Represents SameBut
   represents t u A X r other same i hi p = go (eqb i x) refl
     where
@@ -99,7 +100,8 @@ module _ {k : ℕ} (n x : ℕ) (below : x < n) where
       go true e = rw (eqb→eq i x (true→T e)) (same p)
       go false e = other i hi (neqb i x e) p ∙ r i hi p
 
-module _ {k : ℕ} {Q S : Type 0} (n x : ℕ) (below : x < n) (M : Machine k Q) (E : Machine k S) (Ok : S → Type 0) (Has : S → Q → Type 0) (P : Projects n x M E Ok Has) where
+module _ {k : ℕ} {Q S : Type 0} (n x : ℕ) (below : x < n) (M : Machine k Q) (E : Machine k S) (Ok : S → Type 0) (Has : S → Q → Type 0)
+    (P : Projects n x M E Ok Has) where
   run-ok : (t : Tree k) → Proper n t → Ok (run E t)
   unfolding run Proper
   run-ok empty o = P .start-ok
@@ -147,7 +149,8 @@ module _ {k : ℕ} {Q S : Type 0} (n x : ℕ) (below : x < n) (M : Machine k Q) 
   unfolding run vary Proper
   vary-in d empty o X = P .start-all (run M (grow n x d X)) (grow-blank d X)
   vary-in d (node l f) o X =
-      P .step-all l (o .0) (λ c. run E (f c)) (λ c. run-ok (f c) (o .1 c)) (has X []) (λ c. run M (vary n x d (f c) (under c X))) (λ c. vary-in d (f c) (o .1 c) (under c X))
+      P .step-all l (o .0) (λ c. run E (f c)) (λ c. run-ok (f c) (o .1 c)) (has X []) (λ c. run M (vary n x d (f c) (under c X)))
+      (λ c. vary-in d (f c) (o .1 c) (under c X))
 
   pub decides-exists : (f : Formula k) → Decides n M f → Decides n E (exists x f)
   unfolding Holds
@@ -162,5 +165,6 @@ module _ {k : ℕ} {Q S : Type 0} (n x : ℕ) (below : x < n) (M : Machine k Q) 
         let X = h .0 in
         let u = vary n x (depth X) t X in
         P .accepts-all (run E t) (run-ok t o) (run M u) (vary-in (depth X) t o X)
-        ((D u (vary-proper n x below (depth X) t o X) (assign x X A) (represents n x below t u A X r (vary-other n x below (depth X) t X) (vary-same n x below (depth X) t X (short-depth X)))) .1 (h .1)),
+        ((D u (vary-proper n x below (depth X) t o X) (assign x X A)
+        (represents n x below t u A X r (vary-other n x below (depth X) t X) (vary-same n x below (depth X) t X (short-depth X)))) .1 (h .1)),
   )

@@ -84,7 +84,8 @@ module _ {k : ℕ} where
   ≺-irrefl (node l f) (inr (e, inr (e′, (b, q, p)))) = ≺-irrefl (f b) p
 
   before-tri : (f g : Branch k → Tree k) → ((b : Branch k) → Tri (f b ≺ g b) (f b ≡ g b) (g b ≺ f b)) → Tri (Before f g) (f ≡ g) (Before g f)
-  before-tri f g t = ⊎-elim differ (λ e. same (fun-ext e)) (first (λ b. (f b ≺ g b) ⊎ (g b ≺ f b)) (λ b. f b ≡ g b) (λ b. elim (t b) [ less p ↦ inl (inl p) | same e ↦ inr e | more p ↦ inl (inr p) ]))
+  before-tri f g t = ⊎-elim differ (λ e. same (fun-ext e))
+      (first (λ b. (f b ≺ g b) ⊎ (g b ≺ f b)) (λ b. f b ≡ g b) (λ b. elim (t b) [ less p ↦ inl (inl p) | same e ↦ inr e | more p ↦ inl (inr p) ]))
     where
       differ : First (λ b. (f b ≺ g b) ⊎ (g b ≺ f b)) (λ b. f b ≡ g b) → Tri (Before f g) (f ≡ g) (Before g f)
       differ (b, e, inl p) = less (b, e, p)

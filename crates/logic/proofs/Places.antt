@@ -112,7 +112,8 @@ module _ {k : ℕ} where
   gather-among : (bs : List (Branch k)) (g : Branch k → List (Place k)) (c : Branch k) (p : Place k) → has (gather bs g) (c ∷ p) ≡ among bs c && has (g c) p
   unfolding has gather among
   gather-among [] g c p = refl
-  gather-among (b ∷ bs) g c p = has-append (map (λ p. b ∷ p) (g b)) (gather bs g) (c ∷ p) ∙ rw (map-cons b (g b) c p, gather-among bs g c p) (go (sameBranch c b) refl)
+  gather-among (b ∷ bs) g c p =
+      has-append (map (λ p. b ∷ p) (g b)) (gather bs g) (c ∷ p) ∙ rw (map-cons b (g b) c p, gather-among bs g c p) (go (sameBranch c b) refl)
     where
       go : (v : Bool) → sameBranch c b ≡ v → (v && has (g b) p) || (among bs c && has (g c) p) ≡ (v || among bs c) && has (g c) p
       go true e = rw (branch-eq c b (true→T e)) (absorb (has (g b) p) (among bs b))

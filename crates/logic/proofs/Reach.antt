@@ -60,9 +60,11 @@ unfolding elem select
 elem-select q g [] = (λ t. absurd t, λ w. w .0)
 elem-select q g (r ∷ L) = go (g r) refl (elem-select q g L)
   where
-    go : (v : Bool) → g r ≡ v → T (elem q (select g L)) ↔ (T (elem q L) × T (g q)) → T (elem q (cond v (r ∷ select g L) (select g L))) ↔ (T (elem q (r ∷ L)) × T (g q))
+    go : (v : Bool) → g r ≡ v → T (elem q (select g L)) ↔ (T (elem q L) × T (g q))
+        → T (elem q (cond v (r ∷ select g L) (select g L))) ↔ (T (elem q (r ∷ L)) × T (g q))
     go true e j = (
-      λ t. ⊎-elim (λ p. ((elem-cons q r L) .1 (inl p), true→T (ap g p ∙ e))) (λ u. ((elem-cons q r L) .1 (inr ((j .0 u) .0)), (j .0 u) .1)) ((elem-cons q r (select g L)) .0 t),
+      λ t. ⊎-elim (λ p. ((elem-cons q r L) .1 (inl p), true→T (ap g p ∙ e))) (λ u. ((elem-cons q r L) .1 (inr ((j .0 u) .0)), (j .0 u) .1))
+          ((elem-cons q r (select g L)) .0 t),
       λ w. (elem-cons q r (select g L)) .1 (⊎-elim inl (λ u. inr (j .1 (u, w .1))) ((elem-cons q r L) .0 (w .0))),
     )
     go false e j = (
@@ -86,7 +88,8 @@ module _ {k : ℕ} where
       go q r h ih c true e u = rw (branch-eq c b (true→T e)) h
       go q r h ih c false e u = ih c u
 
-  pub outcomes-all : (bs : List (Branch k)) (L : Branch k → List ℕ) (f : (Branch k → ℕ) → ℕ) (r : Branch k → ℕ) → ((c : Branch k) → T (among bs c) → T (elem (r c) (L c)))
+  pub outcomes-all : (bs : List (Branch k)) (L : Branch k → List ℕ) (f : (Branch k → ℕ) → ℕ) (r : Branch k → ℕ)
+      → ((c : Branch k) → T (among bs c) → T (elem (r c) (L c)))
       → ((c : Branch k) → among bs c ≡ false → r c ≡ 0) → T (elem (f r) (outcomes bs L f))
   unfolding outcomes among elem
   outcomes-all [] L f r h z = (elem-cons (f r) (f (λ b. 0)) []) .1 (inl (ap f (fun-ext (λ c. z c refl))))

@@ -79,7 +79,8 @@ unfolding add elem
 add-grows [] L r t n = absurd t
 add-grows (q ∷ qs) L r t n = go (elem q L) refl (add-grows qs L r) (add-longer qs (L ++ (q ∷ [])))
   where
-    go : (v : Bool) → elem q L ≡ v → (T (elem r qs) → elem r L ≡ false → length L < length (add qs L)) → length (L ++ (q ∷ [])) ≤ length (add qs (L ++ (q ∷ [])))
+    go : (v : Bool) → elem q L ≡ v → (T (elem r qs) → elem r L ≡ false → length L < length (add qs L))
+        → length (L ++ (q ∷ [])) ≤ length (add qs (L ++ (q ∷ [])))
         → length L < length (add qs (cond v L (L ++ (q ∷ []))))
     go true e ih h = ih (⊎-elim (λ p. absurd (true≢false (sym e ∙ subst (λ (z : ℕ). elem z L ≡ false) p n))) (λ u. u) ((elem-cons r q qs) .0 t)) n
     go false e ih h = let a = length-append L (q ∷ []) in omega arith
@@ -203,7 +204,8 @@ module _ {k : ℕ} (M : Machine k ℕ) (ls : List ℕ) where
   Next L = successors M ls (λ b. L)
 
   next-reached : (L : List ℕ) → ((q : ℕ) → T (elem q L) → Reached M ls q) → (q : ℕ) → T (elem q (Next L)) → Reached M ls q
-  next-reached L h q t = let w = (successors-iff M ls (λ b. L) q) .0 t in subst (λ (z : ℕ). Reached M ls z) (w .4) (stepped (w .0) (w .1) (w .2) (λ b. h (w .2 b) (w .3 b)))
+  next-reached L h q t =
+      let w = (successors-iff M ls (λ b. L) q) .0 t in subst (λ (z : ℕ). Reached M ls z) (w .4) (stepped (w .0) (w .1) (w .2) (λ b. h (w .2 b) (w .3 b)))
 
   module _ (d : ℕ) (bound : (q : ℕ) → Reached M ls q → q < d) where
     pub reach-only : (q : ℕ) → T (elem q (reach M ls d)) → Reached M ls q
@@ -248,7 +250,8 @@ closure-front F (suc d) q L =
     let x = closure-front F d q (w .0) in
     go (eqb (length (add (F (q ∷ L)) (q ∷ L))) (length (q ∷ L))) (x .0, ap (closure F d) (w .1) ∙ x .1)
   where
-    go : (v : Bool) → (R : List ℕ) × (closure F d (add (F (q ∷ L)) (q ∷ L)) ≡ q ∷ R) → (R : List ℕ) × (cond v (q ∷ L) (closure F d (add (F (q ∷ L)) (q ∷ L))) ≡ q ∷ R)
+    go : (v : Bool) → (R : List ℕ) × (closure F d (add (F (q ∷ L)) (q ∷ L)) ≡ q ∷ R)
+        → (R : List ℕ) × (cond v (q ∷ L) (closure F d (add (F (q ∷ L)) (q ∷ L))) ≡ q ∷ R)
     go true r = (L, refl)
     go false r = r
 

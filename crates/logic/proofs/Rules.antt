@@ -67,7 +67,8 @@ module _ (k n c : ℕ) where
   tables-length [] = refl
   tables-length (f ∷ fs) = ap suc (tables-length fs)
 
-  table-of : (fs : List (Formula k)) (op a b : ℕ) → tableOf n (kindOf (record { op = op; first = a; second = b })) (tablesOf fs) ≡ table n (formulaOf (record { op = op; first = a; second = b }) fs)
+  table-of : (fs : List (Formula k)) (op a b : ℕ)
+      → tableOf n (kindOf (record { op = op; first = a; second = b })) (tablesOf fs) ≡ table n (formulaOf (record { op = op; first = a; second = b }) fs)
   unfolding tableOf kindOf formulaOf table
   table-of fs zero a b = refl
   table-of fs (suc zero) a b = refl
@@ -145,7 +146,8 @@ module _ (k n : ℕ) where
     at-valid : (a : ℕ) → T (ltb a (length fs)) → Valid n (getD fs a (root 0))
     at-valid a t = valid a (ltb→lt a (length fs) t)
 
-    of-good : (op a b : ℕ) → T (good k n (length fs) (record { op = op; first = a; second = b })) → Valid n (formulaOf (record { op = op; first = a; second = b }) fs)
+    of-good : (op a b : ℕ) → T (good k n (length fs) (record { op = op; first = a; second = b }))
+        → Valid n (formulaOf (record { op = op; first = a; second = b }) fs)
     unfolding good formulaOf Valid
     of-good zero a b t = let w = and-both (ltb a n) (ltb b n) t in (ltb→lt a n (w .0), ltb→lt b n (w .1))
     of-good (suc zero) a b t = ltb→lt a n ((and-both (ltb a n) (eqb b 0) t) .0)
@@ -153,9 +155,12 @@ module _ (k n : ℕ) where
     of-good (suc (suc (suc zero))) a b t = successor-valid 1 a b t
     of-good (suc (suc (suc (suc zero)))) a b t = ltb→lt a n ((and-both (ltb a n) (eqb b 0) t) .0)
     of-good (suc (suc (suc (suc (suc zero))))) a b t = at-valid a ((and-both (ltb a (length fs)) (eqb b 0) t) .0)
-    of-good (suc (suc (suc (suc (suc (suc zero)))))) a b t = let w = and-both (ltb a (length fs)) (ltb b (length fs)) t in (at-valid a (w .0), at-valid b (w .1))
-    of-good (suc (suc (suc (suc (suc (suc (suc zero))))))) a b t = let w = and-both (ltb a (length fs)) (ltb b (length fs)) t in (at-valid a (w .0), at-valid b (w .1))
-    of-good (suc (suc (suc (suc (suc (suc (suc (suc zero)))))))) a b t = let w = and-both (ltb a n) (ltb b (length fs)) t in (ltb→lt a n (w .0), at-valid b (w .1))
+    of-good (suc (suc (suc (suc (suc (suc zero)))))) a b t =
+        let w = and-both (ltb a (length fs)) (ltb b (length fs)) t in (at-valid a (w .0), at-valid b (w .1))
+    of-good (suc (suc (suc (suc (suc (suc (suc zero))))))) a b t =
+        let w = and-both (ltb a (length fs)) (ltb b (length fs)) t in (at-valid a (w .0), at-valid b (w .1))
+    of-good (suc (suc (suc (suc (suc (suc (suc (suc zero)))))))) a b t =
+        let w = and-both (ltb a n) (ltb b (length fs)) t in (ltb→lt a n (w .0), at-valid b (w .1))
     of-good (suc (suc (suc (suc (suc (suc (suc (suc (suc zero))))))))) a b t = successor-valid 2 a b t
     of-good (suc (suc (suc (suc (suc (suc (suc (suc (suc (suc op)))))))))) a b t = absurd t
 
@@ -184,9 +189,12 @@ module _ (k n : ℕ) where
     of-same (suc (suc (suc zero))) a b t = refl
     of-same (suc (suc (suc (suc zero)))) a b t = refl
     of-same (suc (suc (suc (suc (suc zero))))) a b t = ap negation (same a (ltb→lt a (length fs) ((and-both (ltb a (length fs)) (eqb b 0) t) .0)))
-    of-same (suc (suc (suc (suc (suc (suc zero)))))) a b t = let w = and-both (ltb a (length fs)) (ltb b (length fs)) t in ap₂ disjunction (same a (ltb→lt a (length fs) (w .0))) (same b (ltb→lt b (length fs) (w .1)))
-    of-same (suc (suc (suc (suc (suc (suc (suc zero))))))) a b t = let w = and-both (ltb a (length fs)) (ltb b (length fs)) t in ap₂ conjunction (same a (ltb→lt a (length fs) (w .0))) (same b (ltb→lt b (length fs) (w .1)))
-    of-same (suc (suc (suc (suc (suc (suc (suc (suc zero)))))))) a b t = ap (exists a) (same b (ltb→lt b (length fs) ((and-both (ltb a n) (ltb b (length fs)) t) .1)))
+    of-same (suc (suc (suc (suc (suc (suc zero)))))) a b t = let w = and-both (ltb a (length fs)) (ltb b (length fs)) t in ap₂ disjunction
+        (same a (ltb→lt a (length fs) (w .0))) (same b (ltb→lt b (length fs) (w .1)))
+    of-same (suc (suc (suc (suc (suc (suc (suc zero))))))) a b t = let w = and-both (ltb a (length fs)) (ltb b (length fs)) t in ap₂ conjunction
+        (same a (ltb→lt a (length fs) (w .0))) (same b (ltb→lt b (length fs) (w .1)))
+    of-same (suc (suc (suc (suc (suc (suc (suc (suc zero)))))))) a b t =
+        ap (exists a) (same b (ltb→lt b (length fs) ((and-both (ltb a n) (ltb b (length fs)) t) .1)))
     of-same (suc (suc (suc (suc (suc (suc (suc (suc (suc zero))))))))) a b t = refl
     of-same (suc (suc (suc (suc (suc (suc (suc (suc (suc (suc op)))))))))) a b t = absurd t
 
@@ -209,11 +217,13 @@ module _ (k n : ℕ) where
       ap (λ (i : ℕ). getD (extend (fs ++ (f ∷ [])) rs) i (root 0)) (omega arith) ∙ extend-at rs (fs ++ (f ∷ [])) (rw l (w .1)) j (omega arith)
 
   -- record i of an accepted rule holds as its op says, of the records that it names
-  pub record-formula : (rs : List Record) → T (goodFrom k n 0 rs) → (i : ℕ) → i < length rs → formulaAt {k = k} rs i ≡ formulaOf (getD rs i noRecord) (extend [] rs)
+  pub record-formula : (rs : List Record) → T (goodFrom k n 0 rs) → (i : ℕ) → i < length rs
+      → formulaAt {k = k} rs i ≡ formulaOf (getD rs i noRecord) (extend [] rs)
   unfolding formulaAt
   record-formula rs g i h = ap (λ (j : ℕ). getD (extend [] rs) j (root 0)) (omega arith) ∙ extend-at rs [] g i h
 
 -- THE THEOREM, for every record of an accepted rule
-pub record-right : {k : ℕ} (n : ℕ) (rs : List Record) → T (goodFrom k n 0 rs) → (i : ℕ) → i < length rs → Right {k = k} n (formulaAt rs i) (table n (formulaAt rs i))
+pub record-right : {k : ℕ} (n : ℕ) (rs : List Record) → T (goodFrom k n 0 rs) → (i : ℕ) → i < length rs
+    → Right {k = k} n (formulaAt rs i) (table n (formulaAt rs i))
 unfolding formulaAt
 record-right {k} n rs g i h = table-right n (formulaAt rs i) (record-valid k n rs g i h)

@@ -59,7 +59,8 @@ Less (x ∷ xs) [] = ⊥
 Less (x ∷ xs) (y ∷ ys) = Lex (x < y) (x ≡ y) (Less xs ys)
 
 -- the first number that differs
-pub less-first : (n d : ℕ) (is js : List ℕ) → Tuple n d js → Less is js → (i : ℕ) × (i < d) × ((j : ℕ) → j < i → getD is j 0 ≡ getD js j 0) × (getD is i 0 < getD js i 0)
+pub less-first : (n d : ℕ) (is js : List ℕ) → Tuple n d js → Less is js
+    → (i : ℕ) × (i < d) × ((j : ℕ) → j < i → getD is j 0 ≡ getD js j 0) × (getD is i 0 < getD js i 0)
 unfolding Tuple Less
 less-first n d [] js t p = absurd p
 less-first n d (x ∷ is) [] t p = absurd p
@@ -81,7 +82,8 @@ Head : ℕ → List ℕ → Type 0
 Head i [] = ⊥
 Head i (x ∷ xs) = x < i
 
-pub loop-inv {ℓ} : (P : ℕ → Best → Type ℓ) (f : ℕ → Best → Best) (n : ℕ) → ((i : ℕ) (b : Best) → i < n → P i b → P (suc i) (f i b)) → (b : Best) → P 0 b → P n (loop f n b)
+pub loop-inv {ℓ} : (P : ℕ → Best → Type ℓ) (f : ℕ → Best → Best) (n : ℕ)
+    → ((i : ℕ) (b : Best) → i < n → P i b → P (suc i) (f i b)) → (b : Best) → P 0 b → P n (loop f n b)
 unfolding loop
 loop-inv P f zero k b p = p
 loop-inv P f (suc n) k b p = k n (loop f n b) (omega arith) (loop-inv P f n (λ i b h. k i b (omega arith)) b p)
@@ -94,7 +96,8 @@ pub tuples-inv : (n d : ℕ) (I : (List ℕ → Type 0) → Best → Type 0) →
     → ((is : List ℕ) (b : Best) → Tuple n d is → I (λ js. Less js is) b → I (λ js. Less js is ⊎ (js ≡ is)) (f is b))
     → (b : Best) → I (λ _. ⊥) b → I (λ _. Unit {0}) (tuples n d f b)
 unfolding tuples Tuple Less After Head
-tuples-inv n zero I like f k b p = like (λ js. Less js [] ⊎ (js ≡ [])) (λ _. Unit {0}) (λ is h w. tt) from (f [] b) (k [] b tt (like (λ _. ⊥) (λ js. Less js []) (λ is h w. absurd w) none b p))
+tuples-inv n zero I like f k b p = like (λ js. Less js [] ⊎ (js ≡ [])) (λ _. Unit {0}) (λ is h w. tt) from (f [] b)
+    (k [] b tt (like (λ _. ⊥) (λ js. Less js []) (λ is h w. absurd w) none b p))
   where
     from : (is : List ℕ) → Tuple n 0 is → Unit {0} → Less is [] ⊎ (is ≡ [])
     from [] h u = inr refl
@@ -137,7 +140,8 @@ tuples-inv n (suc d) I like f k b p =
     undone i [] h u = u
     undone i (x ∷ is) h u = elim (ℕ-tri x i) [ less p ↦ inl p | same e ↦ inr (e, tt) | more p ↦ absurd (omega arith) ]
 
-    after-map : (i : ℕ) (W Z : List ℕ → Type 0) → ((is : List ℕ) → Tuple n d is → W is → Z is) → (is : List ℕ) → Tuple n (suc d) is → After i W is → After i Z is
+    after-map : (i : ℕ) (W Z : List ℕ → Type 0) → ((is : List ℕ) → Tuple n d is → W is → Z is) → (is : List ℕ) → Tuple n (suc d) is → After i W is
+        → After i Z is
     after-map i W Z g [] h u = u
     after-map i W Z g (x ∷ is) h (inl u) = inl u
     after-map i W Z g (x ∷ is) h (inr u) = inr (u .0, g is (h .1) (u .1))
@@ -145,7 +149,8 @@ tuples-inv n (suc d) I like f k b p =
     like-after : (i : ℕ) → Same n d (λ W. I (After i W))
     like-after i W Z g g′ b q = like (After i W) (After i Z) (after-map i W Z g) (after-map i Z W g′) b q
 
-    one : (i : ℕ) → i < n → (is : List ℕ) (b : Best) → Tuple n d is → I (After i (λ js. Less js is)) b → I (After i (λ js. Less js is ⊎ (js ≡ is))) (f (i ∷ is) b)
+    one : (i : ℕ) → i < n → (is : List ℕ) (b : Best) → Tuple n d is → I (After i (λ js. Less js is)) b
+        → I (After i (λ js. Less js is ⊎ (js ≡ is))) (f (i ∷ is) b)
     one i h is b t q =
         like (λ js. Less js (i ∷ is) ⊎ (js ≡ i ∷ is)) (After i (λ js. Less js is ⊎ (js ≡ is))) out into (f (i ∷ is) b)
         (k (i ∷ is) b (h, t) (like (After i (λ js. Less js is)) (λ js. Less js (i ∷ is)) to back b q))
@@ -215,7 +220,9 @@ module _ {k : ℕ} (M : Machine k ℕ) (s : List (Tree k)) where
       | more p ↦ absurd (omega arith)
     ]
       where
-        tied : Met m js → Lex (m < l) (m ≡ l) ((b : Branch k) × ((c : Branch k) → c .number < b .number → at s (rank js c) ≡ at s (rank is c)) × (at s (rank js b) ≺ at s (rank is b)))
+        tied : Met m js
+            → Lex (m < l) (m ≡ l) ((b : Branch k) × ((c : Branch k) → c .number < b .number → at s (rank js c) ≡ at s (rank is c)) ×
+            (at s (rank js b) ≺ at s (rank is b)))
         tied (inl p) = inl p
         tied (inr p) =
             let w = less-first (length s) k js is t (p .1) in
@@ -237,7 +244,8 @@ module _ {k : ℕ} (M : Machine k ℕ) (s : List (Tree k)) where
     still m js (inr p) = inr (p .0, inl (p .1))
 
     -- what holds of those before, and of (l, is), holds of those up to it
-    widen : (Q : ℕ → List ℕ → Type 0) → ((m : ℕ) (js : List ℕ) → Tuple (length s) k js → Met m js → Q m js) → Q l is → (m : ℕ) (js : List ℕ) → Tuple (length s) k js → Met′ m js → Q m js
+    widen : (Q : ℕ → List ℕ → Type 0) → ((m : ℕ) (js : List ℕ) → Tuple (length s) k js → Met m js → Q m js) → Q l is → (m : ℕ) (js : List ℕ)
+        → Tuple (length s) k js → Met′ m js → Q m js
     widen Q f q m js h (inl p) = f m js h (inl p)
     widen Q f q m js h (inr (e, inl p)) = f m js h (inr (e, p))
     widen Q f q m js h (inr (e, inr e′)) = rw (e, e′) q
@@ -262,7 +270,8 @@ module _ {k : ℕ} (M : Machine k ℕ) (s : List (Tree k)) where
       inr (refl, inr refl),
       e,
       widen (λ m js. New m js → candidate s l is ⪯ candidate s m js)
-          (λ m js u w g. ⪯-trans (candidate s l is) (candidate s a c) (candidate s m js) (inl (lighter-≺ a c (ltb-true (weight v is) (weight v c) f))) (h .3 m js u w g)) (λ g. inr refl),
+          (λ m js u w g. ⪯-trans (candidate s l is) (candidate s a c) (candidate s m js) (inl (lighter-≺ a c (ltb-true (weight v is) (weight v c) f)))
+          (h .3 m js u w g)) (λ g. inr refl),
     )
     kept-choose false false nothing e f h = absurd (true≢false f)
     kept-choose false false (found a c) e f h = (
@@ -299,10 +308,12 @@ module _ {k : ℕ} (M : Machine k ℕ) (s : List (Tree k)) where
         like : Same (length s) k (λ W. Kept (λ m js. Lex (m < l) (m ≡ l) (W js)))
         like W Z f g b h = kept-same (λ m js. Lex (m < l) (m ≡ l) (W js)) (λ m js. Lex (m < l) (m ≡ l) (Z js)) (onto W Z f) (onto Z W g) b h
           where
-            onto : (W Z : List ℕ → Type 0) → ((is : List ℕ) → Tuple (length s) k is → W is → Z is) → (m : ℕ) (js : List ℕ) → Tuple (length s) k js → Lex (m < l) (m ≡ l) (W js) → Lex (m < l) (m ≡ l) (Z js)
+            onto : (W Z : List ℕ → Type 0) → ((is : List ℕ) → Tuple (length s) k is → W is → Z is) → (m : ℕ) (js : List ℕ) → Tuple (length s) k js
+                → Lex (m < l) (m ≡ l) (W js) → Lex (m < l) (m ≡ l) (Z js)
             onto W Z f m js t (inl p) = inl p
             onto W Z f m js t (inr p) = inr (p .0, f js t (p .1))
 
     pub picked : (labels : ℕ) → Kept (λ m js. m < labels) (pick labels (length s) v)
     unfolding pick Kept
-    picked labels = loop-inv (λ l. Kept (λ m js. m < l)) (λ l. tuples (length s) k (consider v l)) labels (λ l b h. kept-label l b) nothing (λ l is t p. absurd (omega arith))
+    picked labels = loop-inv (λ l. Kept (λ m js. m < l)) (λ l. tuples (length s) k (consider v l)) labels (λ l b h. kept-label l b) nothing
+        (λ l is t p. absurd (omega arith))

@@ -16,12 +16,14 @@ use Rattle.logic.specs.Order.{_≺_, _⪯_}
 use Rattle.logic.specs.Machine.{Machine, run}
 use Rattle.logic.specs.Reach.{below}
 use Rattle.logic.specs.Table.{Table}
-use Rattle.logic.specs.Search.{at, rank, candidate, settled, view, Best, nothing, found, pick, Sought, tree, large, absent, verdict, next, rounds, anyBelow, begin, search}
+use Rattle.logic.specs.Search.{at, rank, candidate, settled, view, Best, nothing, found, pick, Sought, tree, large, absent, verdict, next, rounds}
+use Rattle.logic.specs.Search.{anyBelow, begin, search}
 use Rattle.logic.proofs.Branches.{branch-same}
 use Rattle.logic.specs.Alike.{Full}
 use Rattle.logic.proofs.Satisfiable.{reached-tree}
 use Rattle.logic.proofs.Pigeon.{pigeon}
-use Rattle.logic.proofs.Orders.{less, same, more, ℕ-tri, first, ≺-irrefl, ≺-trans, ⪯-trans, ⪯-≺-trans, ⪯-positions, ≺-of-fewer, branch-fewer, empty-⪯, node-⪯}
+use Rattle.logic.proofs.Orders.{less, same, more, ℕ-tri, first, ≺-irrefl, ≺-trans, ⪯-trans, ⪯-≺-trans, ⪯-positions, ≺-of-fewer, branch-fewer, empty-⪯}
+use Rattle.logic.proofs.Orders.{node-⪯}
 use Rattle.logic.proofs.Scan.{settled-found, unsettled, Sorted, Tuple, tuple-below, Kept, picked}
 
 -- one number for each branch, as a list
@@ -154,7 +156,8 @@ module _ {k : ℕ} (n : ℕ) (M : Machine k ℕ) (s : List (Tree k)) (v : Inv n 
     first-empty = snoc-old s t 0 (v .some-there) ∙ v .first-empty;
     proper = snoc-all s t (λ _ x. Proper n x) (v .proper) o;
     earliest = snoc-all s t (λ _ x. Earliest n M x) (v .earliest) new;
-    later = λ u ou p. snoc-all s t (λ _ x. x ≺ u) (v .later u ou (unsettled-before M s t (run M u) p)) (strict u p (least l is h u ou (unsettled-before M s t (run M u) p)));
+    later = λ u ou p. snoc-all s t (λ _ x. x ≺ u) (v .later u ou (unsettled-before M s t (run M u) p))
+        (strict u p (least l is h u ou (unsettled-before M s t (run M u) p)));
   }
     where
       t : Tree k
@@ -258,7 +261,8 @@ module _ {k : ℕ} (n count : ℕ) (M : Machine k ℕ) (m : Full n count M) wher
       unfolding rounds
       rounds-right zero s e v r = absurd (full s (omega arith) v r (pick (2 ^ n) (length s) (view M s)) (picked M s (v .sorted) (2 ^ n)))
       rounds-right (suc d) s e v r =
-          round-right (rounds (2 ^ n) M P d) s v r (λ t. rounds-right d (s ++ (t ∷ [])) (omega (arith, snoc-length s t))) (pick (2 ^ n) (length s) (view M s)) (picked M s (v .sorted) (2 ^ n))
+          round-right (rounds (2 ^ n) M P d) s v r (λ t. rounds-right d (s ++ (t ∷ [])) (omega (arith, snoc-length s t))) (pick (2 ^ n) (length s) (view M s))
+          (picked M s (v .sorted) (2 ^ n))
 
 single : {k : ℕ} (P : Tree k → Type 0) → P empty → (i : ℕ) → i < 1 → P (at (empty ∷ []) i)
 single P p zero h = p
@@ -287,10 +291,12 @@ search-right {k} n a m P = here (anyBelow (M .accepting) (a .count)) (M .accepti
     M : Machine k ℕ
     M = a .machine
 
-    here : (x y : Bool) → anyBelow (M .accepting) (a .count) ≡ x → M .accepting (M .start) ≡ y → RightForTrees n M P (begin x y (rounds (2 ^ n) M P (a .count - 1) (empty ∷ [])))
+    here : (x y : Bool) → anyBelow (M .accepting) (a .count) ≡ x → M .accepting (M .start) ≡ y
+        → RightForTrees n M P (begin x y (rounds (2 ^ n) M P (a .count - 1) (empty ∷ [])))
     here false y e f = λ u h. some-false (M .accepting) (a .count) (run M u) e (run-below n (a .count) M m u (h .0)) (h .1)
     here true true e f = ((tt, f), omega arith, λ u h. empty-⪯ u)
     here true false e f =
         let q = some-true (M .accepting) (a .count) e in
         let w = reached-tree n M (q .0) (m .1 (q .0) (q .1)) in
-        rounds-right n (a .count) M m P (w .0) (w .1, ap (M .accepting) (w .2) ∙ q .2) (a .count - 1) (empty ∷ []) (let h = m .0 .0 in omega arith) (begins n M) (single (λ x. M .accepting (run M x) ≡ false) f)
+        rounds-right n (a .count) M m P (w .0) (w .1, ap (M .accepting) (w .2) ∙ q .2) (a .count - 1) (empty ∷ []) (let h = m .0 .0 in omega arith)
+        (begins n M) (single (λ x. M .accepting (run M x) ≡ false) f)

@@ -35,7 +35,8 @@ module _ {k : ℕ} (n : ℕ) where
       go : (v : Bool) → bare l (λ b. trim (f b)) ≡ v → (q : Place k) → ((b : Branch k) (q′ : Place k) → bitAt n (trim (f b)) i q′ ≡ bitAt n (f b) i q′)
           → bitAt n (cond v empty (node l (λ b. trim (f b)))) i q ≡ bitAt n (node l f) i q
       go true e [] ih = let w = (bare-iff l (λ b. trim (f b))) .0 (true→T e) in rw (w .0) (sym (bit-zero n i))
-      go true e (b ∷ q) ih = let w = (bare-iff l (λ c. trim (f c))) .0 (true→T e) in ap (λ (t : Tree k). bitAt n t i q) (sym (empty-of (trim (f b)) (w .1 b))) ∙ ih b q
+      go true e (b ∷ q) ih =
+          let w = (bare-iff l (λ c. trim (f c))) .0 (true→T e) in ap (λ (t : Tree k). bitAt n t i q) (sym (empty-of (trim (f b)) (w .1 b))) ∙ ih b q
       go false e [] ih = refl
       go false e (b ∷ q) ih = ih b q
 
@@ -99,7 +100,8 @@ module _ {k : ℕ} (n : ℕ) where
   blank-empty empty r o s = refl
   blank-empty (node l f) r o s =
       let z : l ≡ 0 = bit-ext n l 0 (o .0) (pow-pos n) (λ i h. s i h [] ∙ sym (bit-zero n i)) in
-      let e : (b : Branch k) → T (isEmpty (f b)) = λ b. subst (λ (t : Tree k). T (isEmpty t)) (sym (blank-empty (f b) (r .1 b) (o .1 b) (λ i h p. s i h (b ∷ p)))) tt in
+      let e : (b : Branch k) → T (isEmpty (f b)) =
+      λ b. subst (λ (t : Tree k). T (isEmpty t)) (sym (blank-empty (f b) (r .1 b) (o .1 b) (λ i h p. s i h (b ∷ p)))) tt in
       absurd (T-not (bare l f) (r .0) ((bare-iff l f) .1 (z, e)))
 
   pub trimmed-unique : (t u : Tree k) → Trimmed t → Trimmed u → Proper n t → Proper n u → Same t u → t ≡ u
@@ -107,7 +109,8 @@ module _ {k : ℕ} (n : ℕ) where
   trimmed-unique empty u r r′ o o′ s = sym (blank-empty u r′ o′ (λ i h p. sym (s i h p)))
   trimmed-unique (node l f) empty r r′ o o′ s = blank-empty (node l f) r o s
   trimmed-unique (node l f) (node m g) r r′ o o′ s =
-      ap₂ node (bit-ext n l m (o .0) (o′ .0) (λ i h. s i h [])) (fun-ext (λ b. trimmed-unique (f b) (g b) (r .1 b) (r′ .1 b) (o .1 b) (o′ .1 b) (λ i h p. s i h (b ∷ p))))
+      ap₂ node (bit-ext n l m (o .0) (o′ .0) (λ i h. s i h []))
+      (fun-ext (λ b. trimmed-unique (f b) (g b) (r .1 b) (r′ .1 b) (o .1 b) (o′ .1 b) (λ i h p. s i h (b ∷ p))))
 
   -- the trimmed tree of an assignment is the only one
   pub tree-only : (A : Assignment k) (t : Tree k) → Trimmed t → Proper n t → Represents n t A → t ≡ treeOf n A

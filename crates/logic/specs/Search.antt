@@ -104,4 +104,5 @@ begin true false r = r
 
 -- the earliest tree with labels below `labels` that the machine accepts, if it has at most P positions
 unfoldable pub search : {k : ℕ} → ℕ → Table k → ℕ → Sought k
-search labels a P = begin (anyBelow (a .machine .accepting) (a .count)) (a .machine .accepting (a .machine .start)) (rounds labels (a .machine) P (a .count - 1) (empty ∷ []))
+search labels a P =
+    begin (anyBelow (a .machine .accepting) (a .count)) (a .machine .accepting (a .machine .start)) (rounds labels (a .machine) P (a .count - 1) (empty ∷ []))

@@ -10,16 +10,18 @@ use borrow.Author.Tests.{eq-eqb, ne-eqb, lt-ltb, le-ltb}
 use lib.ListN.{length, getD, set, replicate, length-append, length-set, List·getD-append, List·getD-eq-default}
 use Rattle.search.specs.declared.Pick.{Pick}
 use Rattle.search.specs.declared.Finding.{Finding}
+use Rattle.search.specs.declared.Found.{Found}
 use Rattle.search.specs.declared.Finding.the-variants.{None, Larger, Shown}
-use Rattle.logic.specs.Search.{Best, nothing, found, View, lighter, choose, consider, loop, pick, at, rank, settled, candidate, view, Sought, tree, absent, verdict, next, rounds, anyBelow, begin, search}
+use Rattle.logic.specs.Search.{Best, nothing, found, View, lighter, choose, consider, loop, pick, at, rank, settled, candidate, view, Sought, tree, absent}
+use Rattle.logic.specs.Search.{verdict, next, rounds, anyBelow, begin, search}
 use native.Mathlib.Decide.{ℕ-discrete}
 use lib.Seq.{getD-append-seam, getD-set-same, getD-set-other, set-out}
 use Rattle.logic.specs.Tree.{Tree, empty, positions}
 use Rattle.logic.specs.Machine.{Machine, run}
-use Rattle.search.specs.Scan.{stepIn, codeView, bestOf, sizeOf, Held, Ready, scanSecond, scanFirst, scanLabel}
+use Rattle.search.specs.Scan.{stepIn, codeView, bestOf, bestIn, sizeOf, Held, Ready, scanSecond, scanFirst, scanLabel}
 use Rattle.strip.specs.Ranks.{treeAt, decode, Backs}
 use Rattle.strip.proofs.Ranks.{decode-length}
-use Rattle.search.specs.Arrays.{acceptsOf, machineIn, Whole, settling, answerOf, Ended}
+use Rattle.search.specs.Arrays.{acceptsOf, machineIn, Whole, settling, answerBy, foundAs, Ended}
 use Rattle.search.proofs.ScanLaws.{pick-loops}
 use Rattle.logic.proofs.Orders.{less, same, more, ℕ-tri}
 
@@ -39,7 +41,8 @@ module _ (v : View 2) (labels n : ℕ) where
   unfolding scanSecond loop consider
   ranged-second l i zero b hl hi hj r = r
   ranged-second l i (suc j) b hl hi hj r =
-      ranged-choose (v .old (v .step l (λ b. v .state (rank (i ∷ j ∷ []) b)))) (lighter v (i ∷ j ∷ []) (scanSecond v l i j b)) l i j (scanSecond v l i j b) (hl, hi, omega arith) (ranged-second l i j b hl hi (omega arith) r)
+      ranged-choose (v .old (v .step l (λ b. v .state (rank (i ∷ j ∷ []) b)))) (lighter v (i ∷ j ∷ []) (scanSecond v l i j b)) l i j (scanSecond v l i j b)
+      (hl, hi, omega arith) (ranged-second l i j b hl hi (omega arith) r)
 
   ranged-first : (l i : ℕ) (b : Best) → l < labels → i ≤ n → Ranged labels n b → Ranged labels n (scanFirst v n l i b)
   unfolding scanFirst loop
@@ -71,17 +74,24 @@ module _ (label first second label′ first′ second′ : List ℕ) where
 
 -- one tree more
 pub decode-more : (label first second : List ℕ) (n l i j : ℕ) → 0 < n → n < length label → n < length first → n < length second
-    → decode (set label n l) (set first n i) (set second n j) (suc n) ≡ decode label first second n ++ (candidate (decode label first second n) l (i ∷ j ∷ []) ∷ [])
+    → decode (set label n l) (set first n i) (set second n j) (suc n) ≡ decode label first second n ++
+    (candidate (decode label first second n) l (i ∷ j ∷ []) ∷ [])
 unfolding decode treeAt
 decode-more label first second zero l i j h a b c = absurd (omega arith)
 decode-more label first second (suc n) l i j h a b c =
     ap₂ (λ (s : List (Tree 2)) (t : Tree 2). s ++ (t ∷ [])) e
-    (ap (λ (s : List (Tree 2)). candidate s (getD (set label (suc n) l) (suc n) 0) (getD (set first (suc n) i) (suc n) 0 ∷ getD (set second (suc n) j) (suc n) 0 ∷ [])) e
+    (ap (λ (s : List (Tree 2)). candidate s (getD (set label (suc n) l) (suc n) 0)
+    (getD (set first (suc n) i) (suc n) 0 ∷ getD (set second (suc n) j) (suc n) 0 ∷ [])) e
     ∙ rw (getD-set-same label (suc n) l 0 a, getD-set-same first (suc n) i 0 b, getD-set-same second (suc n) j 0 c))
   where
     e : decode (set label (suc n) l) (set first (suc n) i) (set second (suc n) j) (suc n) ≡ decode label first second (suc n)
     e = decode-same (set label (suc n) l) (set first (suc n) i) (set second (suc n) j) label first second (suc n)
-        (λ k q. (getD-set-other label (suc n) k l 0 (λ z. omega arith), getD-set-other first (suc n) k i 0 (λ z. omega arith), getD-set-other second (suc n) k j 0 (λ z. omega arith)))
+        (λ k q. (
+          getD-set-other label (suc n) k l 0 (λ z. omega arith),
+          getD-set-other first (suc n) k i 0 (λ z. omega arith),
+          getD-set-other second
+              (suc n) k j 0 (λ z. omega arith),
+        ))
 
 -- The arrays hold the states, the positions and the settled states of s, and zeros past its end.
 pub record Stands (M : Machine 2 ℕ) (s : List (Tree 2)) (done state size : List ℕ) : Type 0 where
@@ -89,7 +99,8 @@ pub record Stands (M : Machine 2 ℕ) (s : List (Tree 2)) (done state size : Lis
   pub sizes : (i : ℕ) → getD size i 0 ≡ positions (at s i)
   pub marks : (q : ℕ) → not (eqb (getD done q 0) 0) ≡ settled M s q
 
-pub stands-view : (looks : ℕ) (table : List ℕ) (c : ℕ) (accept : List ℕ) (s : List (Tree 2)) (done state size : List ℕ) → Stands (machineIn looks table c accept) s done state size
+pub stands-view : (looks : ℕ) (table : List ℕ) (c : ℕ) (accept : List ℕ) (s : List (Tree 2)) (done state size : List ℕ)
+    → Stands (machineIn looks table c accept) s done state size
     → codeView looks table c done state size ≡ view (machineIn looks table c accept) s
 unfolding codeView view
 stands-view looks table c accept s done state size h = λ i. record {
@@ -100,7 +111,8 @@ stands-view looks table c accept s done state size h = λ i. record {
 }
 
 -- The scan of the arrays is the round's pick.
-pub scan-pick : (looks : ℕ) (table : List ℕ) (c labels : ℕ) (accept : List ℕ) (s : List (Tree 2)) (done state size : List ℕ) (n : ℕ) (r : Pick) → Stands (machineIn looks table c accept) s done state size → length s ≡ n
+pub scan-pick : (looks : ℕ) (table : List ℕ) (c labels : ℕ) (accept : List ℕ) (s : List (Tree 2)) (done state size : List ℕ) (n : ℕ) (r : Pick)
+    → Stands (machineIn looks table c accept) s done state size → length s ≡ n
     → Held (codeView looks table c done state size) (scanLabel (codeView looks table c done state size) n labels nothing) r
     → Held (view (machineIn looks table c accept) s) (pick labels (length s) (view (machineIn looks table c accept) s)) r
 scan-pick looks table c labels accept s done state size n r h e k =
@@ -179,8 +191,15 @@ kept-all xs n x Q p f i = elim (ℕ-tri n (length xs)) [
   | more k ↦ rw (set-out xs n x (omega arith)) (f i)
 ]
 
+-- what is picked lies in the range of the scan
+pub record InRange (labels n : ℕ) (r : Pick) : Type 0 where
+  pub label-in : r .label < labels
+  pub first-in : r .first < n
+  pub second-in : r .second < n
+
 -- the loop's invariant
-pub record Round (labels looks : ℕ) (table : List ℕ) (c count : ℕ) (accept : List ℕ) (P : ℕ) (done state size label first second : List ℕ) (n : ℕ) : Type 0 where
+pub record Round (labels looks : ℕ) (table : List ℕ) (c count : ℕ) (accept : List ℕ) (P : ℕ) (done state size label first second : List ℕ)
+    (n : ℕ) : Type 0 where
   pub low : 0 < n
   pub high : n ≤ count
   pub long-done : length done ≡ 64
@@ -193,7 +212,8 @@ pub record Round (labels looks : ℕ) (table : List ℕ) (c count : ℕ) (accept
   pub tame : (i : ℕ) → getD state i 0 < count
   pub light : (i : ℕ) → getD size i 0 ≤ P
   pub back : Backs n first second
-  pub ahead : rounds labels (machineIn looks table c accept) P (count - n) (decode label first second n) ≡ settling labels (machineIn looks table c accept) count P
+  pub ahead : rounds labels (machineIn looks table c accept) P (count - n) (decode label first second n) ≡ settling labels
+      (machineIn looks table c accept) count P
 
 -- every finding but one shows no tree
 abbrev Unshown : Finding → Type 0
@@ -201,16 +221,16 @@ Unshown None = Unit {0}
 Unshown Larger = Unit {0}
 Unshown Shown = ⊥
 
-unseen : (n : ℕ) (label first second : List ℕ) (x : Finding) → Unshown x → (t : Tree 2) → answerOf x n label first second ≡ tree t → ⊥
-unfolding answerOf
-unseen n label first second None h t e = let z : _≡_ {A = ℕ} 0 1 = cc in omega arith
-unseen n label first second Larger h t e = let z : _≡_ {A = ℕ} 0 1 = cc in omega arith
-unseen n label first second Shown h t e = h
+unseen : (x : Finding) → Unshown x → (s t : Tree 2) → answerBy x s ≡ tree t → ⊥
+unfolding answerBy
+unseen None h s t e = let z : _≡_ {A = ℕ} 0 1 = cc in omega arith
+unseen Larger h s t e = let z : _≡_ {A = ℕ} 0 1 = cc in omega arith
+unseen Shown h s t e = h
 
 -- the empty tree is shown
 pub shown-first : {labels looks : ℕ} {table : List ℕ} {c count P : ℕ} (wh : Whole labels looks table c count P) (accept : List ℕ) → (getD accept 0 0 ≡ 0 → ⊥)
-    → Ended (settling labels (machineIn looks table c accept) count P) Shown 1 0 (replicate 64 0) (replicate 64 0) (replicate 64 0)
-unfolding decode treeAt settling begin answerOf positions
+    → Ended (settling labels (machineIn looks table c accept) count P) (foundAs Shown 1 0 (replicate 64 0) (replicate 64 0) (replicate 64 0))
+unfolding decode treeAt settling begin answerBy positions
 shown-first wh accept h = record {
   answer = rw (ne-eqb (getD accept 0 0) 0 h);
   counted = λ t e. let z : tree empty ≡ tree t = rw (ne-eqb (getD accept 0 0) 0 h) at e in let y : empty ≡ t = cc in ap positions y;
@@ -220,7 +240,9 @@ shown-first wh accept h = record {
 }
 
 module _ {labels looks : ℕ} {table : List ℕ} {c count : ℕ} {accept : List ℕ} {P : ℕ} (wh : Whole labels looks table c count P) where
-  pub round-first : getD accept 0 0 ≡ 0 → Round labels looks table c count accept P (set (replicate 64 0) 0 1) (replicate 64 0) (replicate 64 0) (replicate 64 0) (replicate 64 0) (replicate 64 0) 1
+  pub round-first : getD accept 0 0 ≡ 0
+      → Round labels looks table c count accept P (set (replicate 64 0) 0 1) (replicate 64 0) (replicate 64 0) (replicate 64 0) (replicate 64 0)
+      (replicate 64 0) 1
   unfolding decode treeAt settling begin
   round-first e = record {
     low = omega arith;
@@ -261,37 +283,38 @@ module _ {labels looks : ℕ} {table : List ℕ} {c count : ℕ} {accept : List 
     }
 
     -- an end that adds no rank
-    ended : (x : Finding) → Unshown x → answerOf x n label first second ≡ goal → Ended goal x n 0 label first second
+    ended : (x : Finding) → Unshown x → answerBy x (at s (n - 1)) ≡ goal → Ended goal (foundAs x n 0 label first second)
     ended x h e = record {
       answer = e;
-      counted = λ t f. absurd (unseen n label first second x h t (e ∙ f));
+      counted = λ t f. absurd (unseen x h (at s (n - 1)) t (e ∙ f));
       back = v .back;
       low = v .low;
       high = omega (arith, v .high, wh .within, wh .few);
     }
 
-    pub round-end : count ≤ n → Ended goal None n 0 label first second
-    unfolding answerOf rounds
+    pub round-end : count ≤ n → Ended goal (foundAs None n 0 label first second)
+    unfolding answerBy rounds
     round-end h = ended None tt (let e : count - n ≡ 0 = omega arith in subst (λ (m : ℕ). rounds labels M P m s ≡ goal) e (v .ahead))
 
     go : List (Tree 2) → Sought 2
     go = rounds labels M P (count - suc n)
 
-    module _ (h : n < count) (r : Pick) (k : Held (codeView looks table c done state size) (scanLabel (codeView looks table c done state size) n labels nothing) r) where
+    module _ (h : n < count) {r : Pick}
+        (k : Held (codeView looks table c done state size) (scanLabel (codeView looks table c done state size) n labels nothing) r) where
       held : Held (view M s) (pick labels (length s) (view M s)) r
       held = scan-pick looks table c labels accept s done state size n r (v .stands) (decode-length label first second n) k
 
-      round-next : next go M P s (bestOf (r .size) (r .label) (r .first) (r .second)) ≡ goal
+      round-next : next go M P s (bestIn r) ≡ goal
       unfolding rounds go
       round-next =
           let e : count - n ≡ suc (count - suc n) = omega arith in
           rw (held .best) (subst (λ (m : ℕ). rounds labels M P m s ≡ goal) e (v .ahead))
 
-      pub round-none : r .size ≡ 0 → Ended goal None n 0 label first second
-      unfolding answerOf bestOf next
+      pub round-none : r .size ≡ 0 → Ended goal (foundAs None n 0 label first second)
+      unfolding answerBy bestOf next
       round-none e = ended None tt (rw e at round-next)
 
-      round-found : (r .size ≡ 0 → ⊥) → bestOf (r .size) (r .label) (r .first) (r .second) ≡ found (r .label) (r .first ∷ r .second ∷ [])
+      round-found : (r .size ≡ 0 → ⊥) → bestIn r ≡ found (r .label) (r .first ∷ r .second ∷ [])
       unfolding bestOf
       round-found z = here (r .size) z
         where
@@ -306,12 +329,15 @@ module _ {labels looks : ℕ} {table : List ℕ} {c count : ℕ} {accept : List 
         picked-this : pick labels (length s) (view M s) ≡ found (r .label) (r .first ∷ r .second ∷ [])
         picked-this = sym (held .best) ∙ round-found z
 
-        pub round-range : (r .label < labels) × (r .first < n) × (r .second < n)
+        pub round-range : InRange labels n r
         unfolding Ranged
         round-range =
             let e : pick labels n (view M s) ≡ found (r .label) (r .first ∷ r .second ∷ []) =
             subst (λ (m : ℕ). pick labels m (view M s) ≡ found (r .label) (r .first ∷ r .second ∷ [])) (decode-length label first second n) picked-this in
-            (subst (Ranged labels n) (sym (pick-loops (view M s) labels n) ∙ e) (ranged-label (view M s) labels n labels nothing (omega arith) tt)) (r .first) (r .second) refl
+            let w : Ranged labels n (found (r .label) (r .first ∷ r .second ∷ [])) =
+            subst (Ranged labels n) (sym (pick-loops (view M s) labels n) ∙ e) (ranged-label (view M s) labels n labels nothing (omega arith) tt) in
+            let k = w (r .first) (r .second) refl in
+            record { label-in = k .0; first-in = k .1; second-in = k .2 }
 
         size-is : r .size ≡ positions t
         unfolding sizeOf positions decode view
@@ -321,8 +347,8 @@ module _ {labels looks : ℕ} {table : List ℕ} {c count : ℕ} {accept : List 
         unfolding next
         verdict-is = rw (round-found z) at round-next
 
-        pub round-larger : P < r .size → Ended goal Larger n 0 label first second
-        unfolding verdict answerOf
+        pub round-larger : P < r .size → Ended goal (foundAs Larger n 0 label first second)
+        unfolding verdict answerBy
         round-larger p = ended Larger tt (rw (lt-ltb P (positions t) (rw (← size-is) p)) at verdict-is)
 
         abbrev q : ℕ
@@ -336,34 +362,41 @@ module _ {labels looks : ℕ} {table : List ℕ} {c count : ℕ} {accept : List 
         unfolding verdict
         round-on p a = rw (le-ltb P (positions t) (rw (← size-is) p), eq-eqb (getD accept q 0) 0 a) at verdict-is
 
-        pub round-target : (x y q′ : ℕ) → x ≡ getD state (r .first) 0 → y ≡ getD state (r .second) 0 → q′ ≡ stepIn looks table c (r .label) x y → q′ ≡ q
+        pub round-target : {x y q′ : ℕ} → x ≡ getD state (r .first) 0 → y ≡ getD state (r .second) 0 → q′ ≡ stepIn looks table c (r .label) x y → q′ ≡ q
         unfolding run
-        round-target x y q′ ex ey e = e ∙ rw (ex, ey, v .stands .states (r .first), v .stands .states (r .second))
+        round-target ex ey e = e ∙ rw (ex, ey, v .stands .states (r .first), v .stands .states (r .second))
 
         round-below : q < count
         unfolding run
-        round-below = wh .steps (r .label) (run M (at s (r .first))) (run M (at s (r .second))) (round-range .0)
-            (subst (λ (x : ℕ). x < count) (v .stands .states (r .first)) (v .tame (r .first))) (subst (λ (x : ℕ). x < count) (v .stands .states (r .second)) (v .tame (r .second)))
+        round-below = wh .steps (r .label) (run M (at s (r .first))) (run M (at s (r .second))) (round-range .label-in)
+            (subst (λ (x : ℕ). x < count) (v .stands .states (r .first)) (v .tame (r .first)))
+            (subst (λ (x : ℕ). x < count) (v .stands .states (r .second)) (v .tame (r .second)))
 
-        pub round-small : (x y q′ : ℕ) → x ≡ getD state (r .first) 0 → y ≡ getD state (r .second) 0 → q′ ≡ stepIn looks table c (r .label) x y → q′ < 64
-        round-small x y q′ ex ey e = omega (arith, round-target x y q′ ex ey e, round-below, wh .within, wh .few)
+        pub round-small : {x y q′ : ℕ} → x ≡ getD state (r .first) 0 → y ≡ getD state (r .second) 0 → q′ ≡ stepIn looks table c (r .label) x y → q′ < 64
+        round-small ex ey e = omega (arith, round-target ex ey e, round-below, wh .within, wh .few)
 
         grown : decode (set label n (r .label)) (set first n (r .first)) (set second n (r .second)) (suc n) ≡ s ++ (t ∷ [])
-        grown = decode-more label first second n (r .label) (r .first) (r .second) (v .low) (room (v .long-label)) (room (v .long-first)) (room (v .long-second))
+        grown =
+            decode-more label first second n (r .label) (r .first) (r .second) (v .low) (room (v .long-label)) (room (v .long-first)) (room (v .long-second))
           where
             room : {m : ℕ} → m ≡ 64 → n < m
             room e = omega (arith, wh .within, wh .few)
 
         grown-back : Backs (suc n) (set first n (r .first)) (set second n (r .second))
         grown-back i p k = elim (ℕ-discrete i n) [
-          | yes e ↦ rw (e, getD-set-same first n (r .first) 0 (omega (arith, v .long-first, wh .within, wh .few)), getD-set-same second n (r .second) 0 (omega (arith, v .long-second, wh .within, wh .few))) (round-range .1, round-range .2)
+          | yes e ↦ rw (
+            e,
+            getD-set-same first n (r .first) 0 (omega (arith, v .long-first, wh .within, wh .few)),
+            getD-set-same second n (r .second) 0
+                (omega (arith, v .long-second, wh .within, wh .few)),
+          ) (round-range .first-in, round-range .second-in)
           | no e ↦ rw (getD-set-other first n i (r .first) 0 e, getD-set-other second n i (r .second) 0 e) (v .back i p (omega arith))
         ]
 
-        pub round-shown′ : (q′ : ℕ) → q′ ≡ q → r .size ≤ P → (getD accept q′ 0 ≡ 0 → ⊥)
-            → Ended goal Shown (n + 1) (r .size) (set label n (r .label)) (set first n (r .first)) (set second n (r .second))
-        unfolding answerOf
-        round-shown′ q′ e p a = record {
+        pub round-shown′ : {q′ : ℕ} → q′ ≡ q → r .size ≤ P → (getD accept q′ 0 ≡ 0 → ⊥)
+            → Ended goal (foundAs Shown (n + 1) (r .size) (set label n (r .label)) (set first n (r .first)) (set second n (r .second)))
+        unfolding answerBy
+        round-shown′ e p a = record {
           counted = λ u f. let y : tree t ≡ tree u = round-shown p (λ z. a (rw e z)) ∙ f in let z : t ≡ u = cc in size-is ∙ ap positions z;
           back = rw (add-one n) grown-back;
           low = omega arith;
@@ -374,10 +407,11 @@ module _ {labels looks : ℕ} {table : List ℕ} {c count : ℕ} {accept : List 
               ap {B = Sought 2} tree (ap₂ at f g ∙ getD-append-seam s t [] empty) ∙ round-shown p (λ z. a (rw e z));
         }
 
-        pub round-more : (q′ x : ℕ) → q′ ≡ q → x ≡ q′ → r .size ≤ P → getD accept q′ 0 ≡ 0
-            → Round labels looks table c count accept P (set done q′ 1) (set state n x) (set size n (r .size)) (set label n (r .label)) (set first n (r .first)) (set second n (r .second)) (n + 1)
+        pub round-more : {q′ x : ℕ} → q′ ≡ q → x ≡ q′ → r .size ≤ P → getD accept q′ 0 ≡ 0
+            → Round labels looks table c count accept P (set done q′ 1) (set state n x) (set size n (r .size))
+            (set label n (r .label)) (set first n (r .first)) (set second n (r .second)) (n + 1)
         unfolding go run
-        round-more q′ x e ex p a = rw (ex, add-one n) (record {
+        round-more {q′} e ex p a = rw (ex, add-one n) (record {
           low = omega arith;
           high = h;
           long-done = length-set done q′ 1 ∙ v .long-done;
@@ -387,7 +421,8 @@ module _ {labels looks : ℕ} {table : List ℕ} {c count : ℕ} {accept : List 
           long-first = length-set first n (r .first) ∙ v .long-first;
           long-second = length-set second n (r .second) ∙ v .long-second;
           stands = rw grown (stands-more M s t n done state size q′ (r .size) (decode-length label first second n)
-              (omega (arith, v .long-state, wh .within, wh .few)) (omega (arith, v .long-size, wh .within, wh .few)) (omega (arith, v .long-done, below, wh .within, wh .few))
+              (omega (arith, v .long-state, wh .within, wh .few)) (omega (arith, v .long-size, wh .within, wh .few))
+              (omega (arith, v .long-done, below, wh .within, wh .few))
               (e ∙ run-is) size-is (v .stands));
           tame = kept-all state n q′ (λ x. x < count) below (v .tame);
           light = kept-all size n (r .size) (λ x. x ≤ P) p (v .light);
@@ -411,15 +446,14 @@ unfolding anyBelow
 some-off accept q r e h = rw (add-one q) (rw (eq-eqb (getD accept q 0) 0 h) e)
 
 module _ (labels : ℕ) (M : Machine 2 ℕ) (count P : ℕ) where
-  pub find-some : {x : Finding} {n size : ℕ} {label first second : List ℕ} → true ≡ anyBelow (M .accepting) count
-      → Ended (settling labels M count P) x n size label first second
-      → Ended (search labels (record { count = count; machine = M }) P) x n size label first second
+  pub find-some : {f : Found} → true ≡ anyBelow (M .accepting) count → Ended (settling labels M count P) f
+      → Ended (search labels (record { count = count; machine = M }) P) f
   unfolding search settling
   find-some e h = rw (← e) h
 
   pub find-none : {label first second : List ℕ} → false ≡ anyBelow (M .accepting) count
-      → Ended (search labels (record { count = count; machine = M }) P) None 1 0 label first second
-  unfolding search begin answerOf
+      → Ended (search labels (record { count = count; machine = M }) P) (foundAs None 1 0 label first second)
+  unfolding search begin answerBy
   find-none e = record {
     answer = rw (← e);
     counted = λ t f. absurd (let y : absent ≡ tree t = rw (← e) at f in let z : _≡_ {A = ℕ} 0 1 = cc in omega arith);

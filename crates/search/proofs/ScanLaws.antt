@@ -16,7 +16,7 @@ use Rattle.logic.specs.Tree.{downFrom, sumOf}
 use Rattle.logic.specs.Meaning.{Branch}
 use Rattle.logic.specs.Two.{one, two}
 use Rattle.logic.proofs.Repeats.{label-repeats}
-use Rattle.search.specs.Scan.{kept, stepIn, codeView, bestOf, sizeOf, Held, Ready, scanSecond, scanFirst, scanLabel}
+use Rattle.search.specs.Scan.{kept, stepIn, codeView, bestOf, bestIn, sizeOf, Held, Ready, scanSecond, scanFirst, scanLabel}
 
 -- the bits that are left stay
 and-twice : (m a b : ℕ) → a ≤ m → bitAnd (bitAnd a b) b ≡ bitAnd a b
@@ -66,18 +66,23 @@ module _ (v : View 2) (o l i j : ℕ) where
   unfolding bestOf sizeOf
   held-new = record { best = refl; fair = ap suc (sym (weight-two v i j)) }
 
-  held-choose : (b : Best) (p : Pick) → Held v b p → (x : Bool) → eqb o 0 ≡ x → (y : Bool) → lighter v (i ∷ j ∷ []) b ≡ y → Held v (choose (not x) y l (i ∷ j ∷ []) b) (kept p o (suc (v .size i + v .size j)) l i j)
+  held-choose : (b : Best) (p : Pick) → Held v b p → (x : Bool) → eqb o 0 ≡ x → (y : Bool) → lighter v (i ∷ j ∷ []) b ≡ y
+      → Held v (choose (not x) y l (i ∷ j ∷ []) b) (kept p o (suc (v .size i + v .size j)) l i j)
   unfolding choose lighter sizeOf
   held-choose b p h false e y f = subst (Held v b) (kept-old p o (suc (v .size i + v .size j)) l i j (eqb-false o 0 e)) h
-  held-choose nothing p h true e true f = subst (Held v (found l (i ∷ j ∷ []))) (kept-first p o (suc (v .size i + v .size j)) l i j (eqb-true o 0 e) (h .fair)) held-new
+  held-choose nothing p h true e true f =
+      subst (Held v (found l (i ∷ j ∷ []))) (kept-first p o (suc (v .size i + v .size j)) l i j (eqb-true o 0 e) (h .fair)) held-new
   held-choose nothing p h true e false f = absurd (true≢false f)
   held-choose (found l′ is′) p h true e true f =
-      subst (Held v (found l (i ∷ j ∷ []))) (kept-less p o (suc (v .size i + v .size j)) l i j (eqb-true o 0 e) (λ z. omega (arith, h .fair)) (omega (arith, h .fair, weight-two v i j, ltb-true (weight v (i ∷ j ∷ [])) (weight v is′) f))) held-new
+      subst (Held v (found l (i ∷ j ∷ []))) (kept-less p o (suc (v .size i + v .size j)) l i j (eqb-true o 0 e) (λ z. omega (arith, h .fair))
+      (omega (arith, h .fair, weight-two v i j, ltb-true (weight v (i ∷ j ∷ [])) (weight v is′) f))) held-new
   held-choose (found l′ is′) p h true e false f =
-      subst (Held v (found l′ is′)) (kept-more p o (suc (v .size i + v .size j)) l i j (eqb-true o 0 e) (λ z. omega (arith, h .fair)) (omega (arith, h .fair, weight-two v i j, ltb-false (weight v (i ∷ j ∷ [])) (weight v is′) f))) h
+      subst (Held v (found l′ is′)) (kept-more p o (suc (v .size i + v .size j)) l i j (eqb-true o 0 e) (λ z. omega (arith, h .fair))
+      (omega (arith, h .fair, weight-two v i j, ltb-false (weight v (i ∷ j ∷ [])) (weight v is′) f))) h
 
 -- one turn of the inner loop
-pub held-consider : (looks : ℕ) (table : List ℕ) (c : ℕ) (done state size : List ℕ) (l i j : ℕ) (b : Best) (p : Pick) → Held (codeView looks table c done state size) b p
+pub held-consider : (looks : ℕ) (table : List ℕ) (c : ℕ) (done state size : List ℕ) (l i j : ℕ) (b : Best) (p : Pick)
+    → Held (codeView looks table c done state size) b p
     → Held (codeView looks table c done state size) (consider (codeView looks table c done state size) l (i ∷ j ∷ []) b)
     (kept p (getD done (stepIn looks table c l (getD state i 0) (getD state j 0)) 0) (suc (getD size i 0 + getD size j 0)) l i j)
 unfolding consider codeView
@@ -111,17 +116,18 @@ pub row-next : (looks : ℕ) (table : List ℕ) (c : ℕ) (done state size : Lis
     → Held (codeView looks table c done state size) (scanSecond (codeView looks table c done state size) l i (j + 1) b) r
 unfolding scanSecond loop
 row-next looks table c done state size l i j b p r x y q h ex ey eq er =
-    rw (er, eq, ex, ey, add-one j, add-one (getD size i 0 + getD size j 0)) (held-consider looks table c done state size l i j (scanSecond (codeView looks table c done state size) l i j b) p h)
+    rw (er, eq, ex, ey, add-one j, add-one (getD size i 0 + getD size j 0))
+    (held-consider looks table c done state size l i j (scanSecond (codeView looks table c done state size) l i j b) p h)
 
 pub row-done : (v : View 2) (l i j n : ℕ) (b : Best) (r : Pick) → j ≤ n → n ≤ j → Held v (scanSecond v l i j b) r → Held v (scanSecond v l i n b) r
 row-done v l i j n b r p q h = subst (λ (k : ℕ). Held v (scanSecond v l i k b) r) (omega arith) h
 
 -- what is held is fair by itself
-pub held-self : {v : View 2} {b : Best} {p : Pick} → Held v b p → Held v (bestOf (p .size) (p .label) (p .first) (p .second)) p
+pub held-self : {v : View 2} {b : Best} {p : Pick} → Held v b p → Held v (bestIn p) p
 held-self {v} {b} {p} h = rw (h .best) h
 
 pub rows-next : (v : View 2) (n l i : ℕ) (b : Best) (p r : Pick) → Held v (scanFirst v n l i b) p
-    → Held v (scanSecond v l i n (bestOf (p .size) (p .label) (p .first) (p .second))) r → Held v (scanFirst v n l (i + 1) b) r
+    → Held v (scanSecond v l i n (bestIn p)) r → Held v (scanFirst v n l (i + 1) b) r
 unfolding scanFirst loop
 rows-next v n l i b p r h k = rw (add-one i) (rw (h .best) at k)
 
@@ -133,7 +139,7 @@ unfolding scanLabel loop bestOf sizeOf
 pick-first v n = record { best = refl; fair = refl }
 
 pub pick-next : (v : View 2) (n l : ℕ) (b : Best) (p r : Pick) → Held v (scanLabel v n l b) p
-    → Held v (scanFirst v n l n (bestOf (p .size) (p .label) (p .first) (p .second))) r → Held v (scanLabel v n (l + 1) b) r
+    → Held v (scanFirst v n l n (bestIn p)) r → Held v (scanLabel v n (l + 1) b) r
 unfolding scanLabel loop
 pick-next v n l b p r h k = rw (add-one l) (rw (h .best) at k)
 

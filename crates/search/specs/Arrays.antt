@@ -13,6 +13,7 @@ use Rattle.logic.specs.Two.{binary}
 use Rattle.search.specs.Scan.{stepIn}
 use Rattle.strip.specs.Ranks.{decode, Backs}
 use Rattle.search.specs.declared.Finding.{Finding}
+use Rattle.search.specs.declared.Found.{Found}
 use Rattle.search.specs.declared.Finding.the-variants.{None, Larger, Shown}
 
 abbrev pub acceptsOf : List ℕ → ℕ → Bool
@@ -37,16 +38,23 @@ pub record Whole (labels looks : ℕ) (table : List ℕ) (c count P : ℕ) : Typ
 unfoldable pub settling : ℕ → Machine 2 ℕ → ℕ → ℕ → Sought 2
 settling labels M count P = begin true (M .accepting (M .start)) (rounds labels M P (count - 1) (empty ∷ []))
 
--- the answer that a finding stands for; the tree that is shown is that of the last rank
-unfoldable pub answerOf : Finding → ℕ → List ℕ → List ℕ → List ℕ → Sought 2
-answerOf None n label first second = absent
-answerOf Larger n label first second = large
-answerOf Shown n label first second = tree (at (decode label first second n) (n - 1))
+-- the answer that a finding stands for, where t is the tree that is shown
+unfoldable pub answerBy : Finding → Tree 2 → Sought 2
+answerBy None t = absent
+answerBy Larger t = large
+answerBy Shown t = tree t
+
+-- what was found: the tree that is shown is that of the last rank
+abbrev pub answerOf : Found → Sought 2
+answerOf f = answerBy (f .finding) (at (decode (f .label) (f .first) (f .second) (f .n)) (f .n - 1))
+
+abbrev pub foundAs : Finding → ℕ → ℕ → List ℕ → List ℕ → List ℕ → Found
+foundAs x n size label first second = record { finding = x; n = n; positions = size; label = label; first = first; second = second }
 
 -- How the rounds end: with the answer x and the positions of the tree shown, and with ranks that a writer can follow down.
-pub record Ended (x : Sought 2) (finding : Finding) (n size : ℕ) (label first second : List ℕ) : Type 0 where
-  pub answer : answerOf finding n label first second ≡ x
-  pub counted : (t : Tree 2) → x ≡ tree t → size ≡ positions t
-  pub back : Backs n first second
-  pub low : 0 < n
-  pub high : n ≤ 64
+pub record Ended (x : Sought 2) (f : Found) : Type 0 where
+  pub answer : answerOf f ≡ x
+  pub counted : (t : Tree 2) → x ≡ tree t → f .positions ≡ positions t
+  pub back : Backs (f .n) (f .first) (f .second)
+  pub low : 0 < f .n
+  pub high : f .n ≤ 64

@@ -43,9 +43,13 @@ unfoldable pub sizeOf : View 2 → Best → ℕ
 sizeOf v nothing = 0
 sizeOf v (found l is) = suc (weight v is)
 
+-- what a pick stands for
+abbrev pub bestIn : Pick → Best
+bestIn p = bestOf (p .size) (p .label) (p .first) (p .second)
+
 -- p stands for b
 pub record Held (v : View 2) (b : Best) (p : Pick) : Type 0 where
-  pub best : bestOf (p .size) (p .label) (p .first) (p .second) ≡ b
+  pub best : bestIn p ≡ b
   pub fair : p .size ≡ sizeOf v b
 
 -- the arrays are as they should be: n settled trees, of states below a bound under which the steps stay, each of at most 255 positions

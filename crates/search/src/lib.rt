@@ -1,9 +1,8 @@
 // The earliest accepted tree over a machine's table.
-ghost use Rattle.search.specs.Arrays.{Whole, acceptsOf, machineIn, settling, Ended, tableIn};
-// The scan of one round, over byte arrays.
+ghost use Rattle.search.specs.Arrays.{Whole, acceptsOf, machineIn, settling, Ended, foundAs, tableIn};
 ghost use mathlib.Core.Path.{_≡_};
 ghost use Prim.Native.Nat.{_+_, _*_, _<_, _≤_};
-ghost use Rattle.search.specs.Scan.{kept, stepIn, Ready, Held, codeView, bestOf, scanSecond, scanFirst, scanLabel};
+ghost use Rattle.search.specs.Scan.{kept, stepIn, Ready, Held, codeView, bestIn, scanSecond, scanFirst, scanLabel};
 ghost use Rattle.logic.specs.Search.{nothing, anyBelow, search};
 
 // The best candidate so far: its positions, or 0 for none; its label and the ranks of its branches.
@@ -80,9 +79,9 @@ pub fn row(
 ) -> Pick
     requires { ⌜ Ready labels looks (now table) c (now state) (now size) n ⌝ }
     requires { ⌜ (l < labels) × (i < n) ⌝ }
-    requires { ⌜ Held (codeView looks (now table) c (now done) (now state) (now size)) (bestOf (best .size) (best .label) (best .first) (best .second)) best ⌝ }
+    requires { ⌜ Held (codeView looks (now table) c (now done) (now state) (now size)) (bestIn best) best ⌝ }
     ensures { λ r. ⌜ Held (codeView looks (now (table .entry)) c (now (done .entry)) (now (state .entry)) (now (size .entry)))
-        (scanSecond (codeView looks (now (table .entry)) c (now (done .entry)) (now (state .entry)) (now (size .entry))) l i n (bestOf (best .size) (best .label) (best .first) (best .second))) r ⌝ }
+        (scanSecond (codeView looks (now (table .entry)) c (now (done .entry)) (now (state .entry)) (now (size .entry))) l i n (bestIn best)) r ⌝ }
 {
     let mut b = best;
     let mut j: usize = 0;
@@ -109,9 +108,9 @@ pub fn rows(
 ) -> Pick
     requires { ⌜ Ready labels looks (now table) c (now state) (now size) n ⌝ }
     requires { ⌜ l < labels ⌝ }
-    requires { ⌜ Held (codeView looks (now table) c (now done) (now state) (now size)) (bestOf (best .size) (best .label) (best .first) (best .second)) best ⌝ }
+    requires { ⌜ Held (codeView looks (now table) c (now done) (now state) (now size)) (bestIn best) best ⌝ }
     ensures { λ r. ⌜ Held (codeView looks (now (table .entry)) c (now (done .entry)) (now (state .entry)) (now (size .entry)))
-        (scanFirst (codeView looks (now (table .entry)) c (now (done .entry)) (now (state .entry)) (now (size .entry))) n l n (bestOf (best .size) (best .label) (best .first) (best .second))) r ⌝ }
+        (scanFirst (codeView looks (now (table .entry)) c (now (done .entry)) (now (state .entry)) (now (size .entry))) n l n (bestIn best)) r ⌝ }
 {
     let mut b = best;
     let mut i: usize = 0;
@@ -186,7 +185,7 @@ fn ended(
     first: [usize; 64],
     second: [usize; 64],
 ) -> Found
-    ensures { λ r. ⌜ r ≡ record { finding = finding; n = n; positions = positions; label = label; first = first; second = second } ⌝ }
+    ensures { λ r. ⌜ r ≡ foundAs finding n positions label first second ⌝ }
 {
     Found {
         finding,
@@ -209,7 +208,7 @@ pub fn settle(
     p: u64,
 ) -> Found
     requires { ⌜ Whole labels looks (now table) c count p ⌝ }
-    ensures { λ r. ⌜ Ended (settling labels (machineIn looks (now (table .entry)) c (now (accept .entry))) count p) (r .finding) (r .n) (r .positions) (r .label) (r .first) (r .second) ⌝ }
+    ensures { λ r. ⌜ Ended (settling labels (machineIn looks (now (table .entry)) c (now (accept .entry))) count p) r ⌝ }
 {
     let mut done = [0u8; 64];
     let mut state = [0u8; 64];
@@ -276,7 +275,7 @@ pub fn find(
     p: u64,
 ) -> Found
     requires { ⌜ Whole labels looks (now table) c count p ⌝ }
-    ensures { λ r. ⌜ Ended (search labels (tableIn looks (now (table .entry)) c (now (accept .entry)) count) p) (r .finding) (r .n) (r .positions) (r .label) (r .first) (r .second) ⌝ }
+    ensures { λ r. ⌜ Ended (search labels (tableIn looks (now (table .entry)) c (now (accept .entry)) count) p) r ⌝ }
 {
     if any(accept, count) {
         return settle(labels, looks, table, c, count, accept, p);

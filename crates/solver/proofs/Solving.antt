@@ -29,13 +29,13 @@ use Rattle.records.specs.declared.Machines.{Machines}
 use Rattle.records.specs.declared.Ending.{Ending}
 use Rattle.records.specs.declared.Decoded.{Decoded}
 use Rattle.search.specs.Scan.{stepIn}
-use Rattle.search.specs.Arrays.{tableIn, Whole, Ended}
+use Rattle.search.specs.Arrays.{tableIn, Whole, answerOf, Ended}
 use Rattle.search.specs.declared.Found.{Found}
 use Rattle.logic.specs.Search.{Sought, tree, large, absent, search}
 use Rattle.refinement.specs.Decode.{decodedOf}
 use Rattle.refinement.proofs.Upto.{decide-over, judge-over}
 use Rattle.refinement.proofs.Bytes.{decide-bytes, wordMachine, judge-bytes}
-use Rattle.solver.specs.Solve.{Marked, soughtIn, outcomeAfter, Solved, judgementAfter, Judged}
+use Rattle.solver.specs.Solve.{Marked, outcomeAfter, Solved, judgementAfter, Judged}
 
 -- the loop's invariant
 pub record Marking (a : List ℕ) (w q : ℕ) : Type 0 where
@@ -88,7 +88,8 @@ is-over : (o : Made-outcome) (c labels m r : ℕ) (s : Machines) (ws : List ℕ)
 is-over (over k) c labels m r s ws h l = let e : Over k ≡ Over r = sym h ∙ l in let z : k ≡ r = cc in ap over z
 is-over (built ms) c labels m r s ws h l = absurd (not-both (h .0) l)
 
-module _ (o : Made-outcome) (c labels m : ℕ) (s : Machines) (ws : List ℕ) (h : Made o c labels m s ws) (no : s .ending ≡ Ready) (some : 0 < m) (top : c ≤ 64) where
+module _ (o : Made-outcome) (c labels m : ℕ) (s : Machines) (ws : List ℕ) (h : Made o c labels m s ws) (no : s .ending ≡ Ready) (some : 0 < m)
+    (top : c ≤ 64) where
   -- the last record has no more than c states
   pub last-few : getD (s .counts) (m - 1) 0 ≤ c
   last-few =
@@ -97,7 +98,8 @@ module _ (o : Made-outcome) (c labels m : ℕ) (s : Machines) (ws : List ℕ) (h
       omega (arith, a .count, a .few)
 
   -- the search may be called on the last record's share
-  pub solve-whole : (P : ℕ) → P ≤ 255 → (table : List ℕ) → table ≡ drop ((m - 1) * (labels * c * c)) ws → labels * c * c ≤ length table → Whole labels (getD (s .looks) (m - 1) 0) table c (getD (s .counts) (m - 1) 0) P
+  pub solve-whole : (P : ℕ) → P ≤ 255 → (table : List ℕ) → table ≡ drop ((m - 1) * (labels * c * c)) ws → labels * c * c ≤ length table
+      → Whole labels (getD (s .looks) (m - 1) 0) table c (getD (s .counts) (m - 1) 0) P
   unfolding entry addr seen
   solve-whole P hp table et hl =
       let w = no-over o c labels m s ws h no in
@@ -144,16 +146,21 @@ module _ (records : List Decoded) (c P : ℕ) (s : Machines) (ws : List ℕ) (po
 
   module _ (no : s .ending ≡ Ready) (accept table : List ℕ) (f : Found) where
     abbrev All : ℕ → List Record → ℕ → ℕ → Type 0
-    All n rs m labels = Made (upto records c labels m) c labels m s ws → table ≡ drop ((m - 1) * (labels * c * c)) ws → Marked accept (getD (s .accepts) (m - 1) 0) (getD (s .counts) (m - 1) 0)
-        → Ended (search labels (tableIn (getD (s .looks) (m - 1) 0) table c accept (getD (s .counts) (m - 1) 0)) P) (f .finding) (f .n) (f .positions) (f .label) (f .first) (f .second)
-        → report (getD (s .counts) (m - 1) 0) (soughtIn f) ≡ decideOf 2 n rs c P
+    All n rs m labels = Made (upto records c labels m) c labels m s ws → table ≡ drop ((m - 1) * (labels * c * c)) ws → Marked accept
+        (getD (s .accepts) (m - 1) 0) (getD (s .counts) (m - 1) 0)
+        → Ended (search labels (tableIn (getD (s .looks) (m - 1) 0) table c accept (getD (s .counts) (m - 1) 0)) P) f
+        → report (getD (s .counts) (m - 1) 0) (answerOf f) ≡ decideOf 2 n rs c P
 
-    solve-at : (n : ℕ) (rs : List Record) → Accepted 2 n rs → ((r : ℕ) → r < length rs → getD records r noDecoded ≡ decodedOf n (getD rs r noRecord)) → All n rs (length rs) (2 ^ n)
+    solve-at : (n : ℕ) (rs : List Record) → Accepted 2 n rs → ((r : ℕ) → r < length rs → getD records r noDecoded ≡ decodedOf n (getD rs r noRecord))
+        → All n rs (length rs) (2 ^ n)
     solve-at n rs acc dec h et marks e =
         let w = no-over (upto records c (2 ^ n) (length rs)) c (2 ^ n) (length rs) s ws h no in
-        let a : Stored c (2 ^ n) (lastOf rs * (2 ^ n * c * c)) (getD (w .0) (lastOf rs) noMach) (entryOf s (lastOf rs)) ws = w .2 .2 (lastOf rs) (let z = acc .0 in omega arith) in
-        let d = decide-bytes n c pos top rs acc records dec s ws (w .0) (w .1) (w .2) accept (λ q l. marks q (let x = a .count in let y = a .few in omega arith)) P in
-        ap (report (getD (s .counts) (lastOf rs) 0)) (e .answer ∙ ap (λ (t : List ℕ). search (2 ^ n) (tableIn (getD (s .looks) (lastOf rs) 0) t c accept (getD (s .counts) (lastOf rs) 0)) P) et) ∙ d
+        let a : Stored c (2 ^ n) (lastOf rs * (2 ^ n * c * c)) (getD (w .0) (lastOf rs) noMach) (entryOf s (lastOf rs)) ws =
+        w .2 .2 (lastOf rs) (let z = acc .0 in omega arith) in
+        let d = decide-bytes n c pos top rs acc records dec s ws (w .0) (w .1) (w .2) accept
+        (λ q l. marks q (let x = a .count in let y = a .few in omega arith)) P in
+        ap (report (getD (s .counts) (lastOf rs) 0))
+        (e .answer ∙ ap (λ (t : List ℕ). search (2 ^ n) (tableIn (getD (s .looks) (lastOf rs) 0) t c accept (getD (s .counts) (lastOf rs) 0)) P) et) ∙ d
 
     -- the tree that is reported is the one that was found
     reported : (q : ℕ) (x : Sought 2) (places states : ℕ) (t : Tree 2) → report q x ≡ shown places states t → x ≡ tree t
@@ -163,17 +170,19 @@ module _ (records : List Decoded) (c P : ℕ) (s : Machines) (ws : List ℕ) (po
     reported q absent places states t e = absurd (let z : _≡_ {A = ℕ} 0 1 = cc in omega arith)
 
     -- an answer
-    pub solve-decided : (m labels : ℕ) → Made (upto records c labels m) c labels m s ws → table ≡ drop ((m - 1) * (labels * c * c)) ws → Marked accept (getD (s .accepts) (m - 1) 0) (getD (s .counts) (m - 1) 0)
-        → Ended (search labels (tableIn (getD (s .looks) (m - 1) 0) table c accept (getD (s .counts) (m - 1) 0)) P) (f .finding) (f .n) (f .positions) (f .label) (f .first) (f .second)
+    pub solve-decided : (m labels : ℕ) → Made (upto records c labels m) c labels m s ws → table ≡ drop ((m - 1) * (labels * c * c)) ws
+        → Marked accept (getD (s .accepts) (m - 1) 0) (getD (s .counts) (m - 1) 0)
+        → Ended (search labels (tableIn (getD (s .looks) (m - 1) 0) table c accept (getD (s .counts) (m - 1) 0)) P) f
         → Solved records m c labels P (record { ending = Ready; states = getD (s .counts) (m - 1) 0; found = f })
     unfolding outcomeAfter
     solve-decided m labels h et marks e = record {
-      answer = λ n rs acc lm lab dec. subst (λ (z : ℕ). All n rs z labels) lm (subst (λ (z : ℕ). All n rs (length rs) z) (sym lab) (solve-at n rs acc dec)) h et marks e;
+      answer = λ n rs acc lm lab dec. subst (λ (z : ℕ). All n rs z labels) lm
+          (subst (λ (z : ℕ). All n rs (length rs) z) (sym lab) (solve-at n rs acc dec)) h et marks e;
       ranks = record {
         back = e .back;
         low = e .low;
         high = e .high;
-        counted = λ places states t g. e .counted t (sym (e .answer) ∙ reported (getD (s .counts) (m - 1) 0) (soughtIn f) places states t g);
+        counted = λ places states t g. e .counted t (sym (e .answer) ∙ reported (getD (s .counts) (m - 1) 0) (answerOf f) places states t g);
       };
     }
 
@@ -199,9 +208,11 @@ module _ (records : List Decoded) (c : ℕ) (s : Machines) (ws : List ℕ) (pos 
         let A = (trimmed-iff n t (f .proper)) .0 (f .trimmed) in
         let M : Machine 2 ℕ = wordMachine n c pos top rs acc records dec s ws (o .0) (o .1) (o .2) in
         let j = judge-bytes n c pos top rs acc records dec s ws (o .0) (o .1) (o .2) t (A .0) (A .1) in
-        let z = walk-tree strip n (getD (s .looks) (lastOf rs) 0) table c (M .accepting) t 256 8 (let k = f .few in omega arith) (f .proper) (facts-stand strip n t f) in
+        let z = walk-tree strip n (getD (s .looks) (lastOf rs) 0) table c (M .accepting) t 256 8 (let k = f .few in omega arith) (f .proper)
+        (facts-stand strip n t f) in
         let q : r .state ≡ run (binary (stepIn (getD (s .looks) (lastOf rs) 0) table c) (M .accepting)) t = ap (λ (x : Ran). x .state) (w ∙ z) in
-        ap say (y ∙ ap (λ (k : ℕ). mem k (getD (s .accepts) (lastOf rs) 0)) (q ∙ ap (λ (l : List ℕ). run (binary (stepIn (getD (s .looks) (lastOf rs) 0) l c) (M .accepting)) t) et)) ∙ j
+        ap say (y ∙ ap (λ (k : ℕ). mem k (getD (s .accepts) (lastOf rs) 0))
+        (q ∙ ap (λ (l : List ℕ). run (binary (stepIn (getD (s .looks) (lastOf rs) 0) l c) (M .accepting)) t) et)) ∙ j
 
     pub judge-ruled : Made (upto records c (2 ^ n) m) c (2 ^ n) m s ws → table ≡ drop ((m - 1) * (2 ^ n * c * c)) ws
         → r ≡ walk strip n (getD (s .looks) (m - 1) 0) table c 256 8 → yes ≡ mem (r .state) (getD (s .accepts) (m - 1) 0)

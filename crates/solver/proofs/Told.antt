@@ -5,7 +5,7 @@ use Rattle.logic.specs.Tree.{Tree, positions}
 use Rattle.logic.specs.Claims.{refused14, shown, none, larger}
 use Rattle.logic.specs.Decide.{report}
 use Rattle.records.specs.declared.Ending.the-variants.{Over, Ready}
-use Rattle.search.specs.Arrays.{answerOf}
+use Rattle.search.specs.Arrays.{answerBy}
 use Rattle.strip.specs.Ranks.{treeOfRank}
 use Rattle.search.specs.declared.Finding.the-variants.{None, Larger, Shown}
 use Rattle.solver.specs.declared.Solution.{Solution}
@@ -22,13 +22,13 @@ module _ (v : Solution) where
 
   module _ (h : v .ending ≡ Ready) where
     pub told-none : v .found .finding ≡ None → outcomeOf v ≡ none (v .states)
-    unfolding outcomeAfter report answerOf
+    unfolding outcomeAfter report answerBy
     told-none e = rw (h, e)
 
     pub told-larger : v .found .finding ≡ Larger → outcomeOf v ≡ larger (v .states)
-    unfolding outcomeAfter report answerOf
+    unfolding outcomeAfter report answerBy
     told-larger e = rw (h, e)
 
     pub told-shown : v .found .finding ≡ Shown → outcomeOf v ≡ shown (positions (treeIn v)) (v .states) (treeIn v)
-    unfolding outcomeAfter report answerOf
+    unfolding outcomeAfter report answerBy
     told-shown e = rw (h, e)

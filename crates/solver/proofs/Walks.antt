@@ -34,7 +34,8 @@ module _ (s : List ℕ) (n looks : ℕ) (table : List ℕ) (c : ℕ) where
     pub walk-step : walk s n looks table c d at ≡ onward looks table c at (walk s n looks table c (d - 1)) h′
     walk-step = walk-some d at z ∙ ap (onward looks table c at (walk s n looks table c (d - 1))) (sym q ∙ e)
 
-  pub walk-node : (d at l m x : ℕ) (a b : Ran) → a ≡ walk s n looks table c (d - 1) m → b ≡ walk s n looks table c (d - 1) (a .next) → x ≡ stepIn looks table c l (a .state) (b .state)
+  pub walk-node : (d at l m x : ℕ) (a b : Ran) → a ≡ walk s n looks table c (d - 1) m → b ≡ walk s n looks table c (d - 1) (a .next)
+      → x ≡ stepIn looks table c l (a .state) (b .state)
       → _≡_ {A = Ran} (record { state = x; next = b .next }) (onward looks table c at (walk s n looks table c (d - 1)) (Node l m))
   walk-node d at l m x a b p q r = rw (r, q, p) refl
 
@@ -53,5 +54,7 @@ module _ (s : List ℕ) (n looks : ℕ) (table : List ℕ) (c : ℕ) where
         let x = length-digits n l in
         let y = length-append (digits n l) (treeBits n (f one) ++ treeBits n (f two)) in
         let z = length-append (treeBits n (f one)) (treeBits n (f two)) in
-        let e : at + 1 + n + length (treeBits n (f one)) + length (treeBits n (f two)) ≡ at + suc (length (digits n l ++ (treeBits n (f one) ++ treeBits n (f two)))) = omega arith in
+        let e : at + 1 + n + length (treeBits n (f one)) + length (treeBits n (f two))
+        ≡ at + suc (length (digits n l ++ (treeBits n (f one) ++ treeBits n (f two)))) =
+        omega arith in
         rw (stands-node s n at l f p 0 (omega arith) (o .0), a, b, e) refl

@@ -8,7 +8,6 @@ use Rattle.logic.specs.Rule.{Record, noRecord, Accepted}
 use Rattle.logic.specs.Tree.{Tree, positions}
 use Rattle.logic.specs.Claims.{Outcome, refused14, shown, Judgement, unbuilt}
 use Rattle.logic.specs.Decide.{report, decideOf, say, judgeOf}
-use Rattle.logic.specs.Search.{Sought}
 use Rattle.words.specs.Word.{mem}
 use Rattle.records.specs.Rule.{noDecoded}
 use Rattle.records.specs.declared.Decoded.{Decoded}
@@ -27,14 +26,10 @@ use Rattle.solver.specs.declared.Ruling.{Ruling}
 abbrev pub Marked : List ℕ → ℕ → ℕ → Type 0
 Marked a w m = (q : ℕ) → q < m → acceptsOf a q ≡ mem q w
 
--- what a search found
-abbrev pub soughtIn : Found → Sought 2
-soughtIn f = answerOf (f .finding) (f .n) (f .label) (f .first) (f .second)
-
 -- the answer that a solution stands for
 unfoldable pub outcomeAfter : Ending → ℕ → Found → Outcome 2
 outcomeAfter (Over r) states f = refused14 r
-outcomeAfter Ready states f = report states (soughtIn f)
+outcomeAfter Ready states f = report states (answerOf f)
 
 abbrev pub outcomeOf : Solution → Outcome 2
 outcomeOf v = outcomeAfter (v .ending) (v .states) (v .found)

@@ -26,7 +26,8 @@ loop-again : tie.Need-loop-again Inv-loop μ-loop
 loop-again c =
     let loop = c .before .before .before .loop in
     let accept = c .before .before .before .before .args .accept .now in
-    ⊎-elim (λ w. (search needs, w .1 ∙ some-on accept (loop .q) _ (loop .inv .1) (w .0 .taken))) (λ w. (search needs, w .1 ∙ some-off accept (loop .q) _ (loop .inv .1) (w .0 .left))) (c .if1 .came)
+    ⊎-elim (λ w. (search needs, w .1 ∙ some-on accept (loop .q) _ (loop .inv .1) (w .0 .taken)))
+    (λ w. (search needs, w .1 ∙ some-off accept (loop .q) _ (loop .inv .1) (w .0 .left))) (c .if1 .came)
 
 returns : tie.Need-returns Inv-loop μ-loop
 returns c = any-done _ _ _ _ (c .before .loop .inv .0) (search needs) (c .before .loop .inv .1)

@@ -3,7 +3,7 @@ use Prim.Native.Nat.{_-_, _≤_}
 use native.Mathlib.Omega.{arith}
 use borrow.Author.Needs.{needs}
 use Rattle.logic.specs.Search.{loop}
-use Rattle.search.specs.Scan.{scanSecond, Held, codeView, bestOf}
+use Rattle.search.specs.Scan.{scanSecond, Held, codeView, bestIn}
 use Rattle.search.proofs.ScanLaws.{row-next, row-done, ready-steps}
 use Rattle.search.proofs.row.Statement.{statement}
 use Rattle.search.proofs.row.Tie as tie
@@ -15,7 +15,7 @@ use Rattle.search.proofs.wide.Reads as wide-reads
 
 abbrev Inv-loop : tie.InvT-loop
 Inv-loop labels looks table c done state size n l i b₀ j₀ b j =
-    (j ≤ n) × Held (codeView looks table c done state size) (scanSecond (codeView looks table c done state size) l i j (bestOf (b₀ .size) (b₀ .label) (b₀ .first) (b₀ .second))) b
+    (j ≤ n) × Held (codeView looks table c done state size) (scanSecond (codeView looks table c done state size) l i j (bestIn b₀)) b
 
 abbrev μ-loop : tie.MeasureT-loop
 μ-loop labels looks table c done state size n l i b₀ j₀ b j = n - j
@@ -28,15 +28,23 @@ cell-requires : tie.Need-cell-requires Inv-loop μ-loop
 cell-requires c κs =
     let loop = c .before .before .before .before .before .loop in
     let start = c .before .before .before .before .before .before .before in
-    let ready = start .pre .0 in
-    (ready .whole, (start .pre .1 .0 .0, omega (arith, ready .states (start .args .i) (start .pre .1 .0 .1)), omega (arith, ready .states (loop .j) (omega arith))))
+    let ready = start .pre .0 in (
+      ready .whole,
+      (
+        start .pre .1 .0 .0,
+        omega (arith, ready .states (start .args .i) (start .pre .1 .0 .1)),
+        omega
+            (arith, ready .states (loop .j) (omega arith)),
+      ),
+    )
 
 element-copy-out-consider : tie.Need-element-copy-out-consider Inv-loop μ-loop
 element-copy-out-consider c =
     let loop = c .before .before .before .before .before .before .loop in
     let start = c .before .before .before .before .before .before .before .before in
     let ready = start .pre .0 in
-    rw (c .cell .ensures) (ready-steps ready _ _ _ (start .pre .1 .0 .0) (omega (arith, ready .states (start .args .i) (start .pre .1 .0 .1))) (omega (arith, ready .states (loop .j) (omega arith))))
+    rw (c .cell .ensures) (ready-steps ready _ _ _ (start .pre .1 .0 .0) (omega (arith, ready .states (start .args .i) (start .pre .1 .0 .1)))
+    (omega (arith, ready .states (loop .j) (omega arith))))
 
 add-consider : tie.Need-add-consider Inv-loop μ-loop
 add-consider c =

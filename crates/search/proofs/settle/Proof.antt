@@ -2,7 +2,8 @@
 use Prim.Native.Nat.{_-_, _<_}
 use native.Mathlib.Omega.{arith}
 use borrow.Author.Needs.{needs}
-use Rattle.search.proofs.RoundLaws.{Round, round-first, shown-first, round-ready, round-end, round-none, round-larger, round-range, round-target, round-shown′, round-more, round-small}
+use Rattle.search.proofs.RoundLaws.{Round, round-first, shown-first, round-ready, round-end, round-none, round-larger, round-range, round-target}
+use Rattle.search.proofs.RoundLaws.{round-shown′, round-more, round-small}
 use Rattle.search.proofs.settle.Statement.{statement}
 use Rattle.search.proofs.settle.Tie as tie
 use Rattle.search.proofs.settle.Reads as reads
@@ -39,65 +40,109 @@ scan-requires c κs =
 
 returns-2 : tie.Need-returns-2 Inv-loop μ-loop
 returns-2 c =
+    let scan = c .before .before .scan in
     let loop = c .before .before .before .before .before .before .before .loop in
     let wh = c .before .before .before .before .before .before .before .before .before .before .before .pre in
     rw (c .ended2 .ensures)
-    (round-none wh (loop .inv) (search) (c .before .before .scan .result) (c .before .before .scan .ensures) (search))
+    (round-none wh (loop .inv) (search) (scan .ensures) (search))
 
 returns-3 : tie.Need-returns-3 Inv-loop μ-loop
 returns-3 c =
+    let scan = c .before .before .before .scan in
     let loop = c .before .before .before .before .before .before .before .before .loop in
     let wh = c .before .before .before .before .before .before .before .before .before .before .before .before .pre in
     rw (c .ended3 .ensures)
-    (round-larger wh (loop .inv) (search) (c .before .before .before .scan .result) (c .before .before .before .scan .ensures) (search) (search))
+    (round-larger wh (loop .inv) (search) (scan .ensures) (search) (search))
 
 array-read-wide : tie.Need-array-read-wide Inv-loop μ-loop
 array-read-wide c =
+    let scan = c .before .before .scan in
     let loop = c .before .before .before .before .before .before .before .loop in
     let wh = c .before .before .before .before .before .before .before .before .before .before .before .pre in
-    let r = round-range wh (loop .inv) (search) (c .before .before .scan .result) (c .before .before .scan .ensures) (search) in
-    omega (arith, r .1, loop .inv .high, wh .within, wh .few)
+    let r = round-range wh (loop .inv) (search) (scan .ensures) (search) in
+    omega (arith, r .first-in, loop .inv .high, wh .within, wh .few)
 
 array-read-wide-2 : tie.Need-array-read-wide-2 Inv-loop μ-loop
 array-read-wide-2 c =
+    let scan = c .before .before .before .scan in
     let loop = c .before .before .before .before .before .before .before .before .loop in
     let wh = c .before .before .before .before .before .before .before .before .before .before .before .before .pre in
-    let r = round-range wh (loop .inv) (search) (c .before .before .before .scan .result) (c .before .before .before .scan .ensures) (search) in
-    omega (arith, r .2, loop .inv .high, wh .within, wh .few)
+    let r = round-range wh (loop .inv) (search) (scan .ensures) (search) in
+    omega (arith, r .second-in, loop .inv .high, wh .within, wh .few)
 
 cell-requires : tie.Need-cell-requires Inv-loop μ-loop
 cell-requires c κs =
+    let scan = c .before .before .before .before .scan in
     let loop = c .before .before .before .before .before .before .before .before .before .loop in
     let wh = c .before .before .before .before .before .before .before .before .before .before .before .before .before .pre in
-    let r = round-range wh (loop .inv) (search) (c .before .before .before .before .scan .result) (c .before .before .before .before .scan .ensures) (search) in
-    (wh .whole, (r .0, omega (arith, wh .within, loop .inv .tame ((c .before .before .before .before .scan .result) .first)), omega (arith, wh .within, loop .inv .tame ((c .before .before .before .before .scan .result) .second))))
+    let r = round-range wh (loop .inv) (search) (scan .ensures) (search) in (
+      wh .whole,
+      (
+        r .label-in,
+        omega (arith, wh .within, loop .inv .tame (scan .result .first)),
+        omega
+            (arith, wh .within, loop .inv .tame (scan .result .second)),
+      ),
+    )
 
 narrow-requires : tie.Need-narrow-requires Inv-loop μ-loop
 narrow-requires c κs =
-    let e : c .cell .result < 64 = round-small (c .before .before .before .before .before .before .before .before .before .before .before .before .before .before .pre) (c .before .before .before .before .before .before .before .before .before .before .loop .inv) (search) (c .before .before .before .before .before .scan .result) (c .before .before .before .before .before .scan .ensures) (search) _ _ (c .cell .result) (c .before .before .wide .ensures) (c .before .wide2 .ensures) (c .cell .ensures) in omega arith
+    let scan = c .before .before .before .before .before .scan in
+    let cell = c .cell in
+    let wide = c .before .before .wide in
+    let wide2 = c .before .wide2 in
+    let loop = c .before .before .before .before .before .before .before .before .before .before .loop in
+    let wh = c .before .before .before .before .before .before .before .before .before .before .before .before .before .before .pre in
+    let e : cell .result < 64 = round-small wh (loop .inv) (search) (scan .ensures) (search) (wide .ensures) (wide2 .ensures) (cell .ensures) in
+    omega arith
 
 array-write-done-2 : tie.Need-array-write-done-2 Inv-loop μ-loop
 array-write-done-2 c =
-    round-small (c .before .before .before .before .before .before .before .before .before .before .before .before .before .before .before .pre) (c .before .before .before .before .before .before .before .before .before .before .before .loop .inv) (search) (c .before .before .before .before .before .before .scan .result) (c .before .before .before .before .before .before .scan .ensures) (search) _ _ (c .before .cell .result) (c .before .before .before .wide .ensures) (c .before .before .wide2 .ensures) (c .before .cell .ensures)
+    let scan = c .before .before .before .before .before .before .scan in
+    let cell = c .before .cell in
+    let wide = c .before .before .before .wide in
+    let wide2 = c .before .before .wide2 in
+    let loop = c .before .before .before .before .before .before .before .before .before .before .before .loop in
+    let wh = c .before .before .before .before .before .before .before .before .before .before .before .before .before .before .before .pre in
+    round-small wh (loop .inv) (search) (scan .ensures) (search) (wide .ensures) (wide2 .ensures) (cell .ensures)
 
 element-copy-out-if4 : tie.Need-element-copy-out-if4 Inv-loop μ-loop
 element-copy-out-if4 c =
-    round-small (c .before .before .before .before .before .before .before .before .before .before .before .before .before .before .before .pre) (c .before .before .before .before .before .before .before .before .before .before .before .loop .inv) (search) (c .before .before .before .before .before .before .scan .result) (c .before .before .before .before .before .before .scan .ensures) (search) _ _ (c .before .cell .result) (c .before .before .before .wide .ensures) (c .before .before .wide2 .ensures) (c .before .cell .ensures)
+    let scan = c .before .before .before .before .before .before .scan in
+    let cell = c .before .cell in
+    let wide = c .before .before .before .wide in
+    let wide2 = c .before .before .wide2 in
+    let loop = c .before .before .before .before .before .before .before .before .before .before .before .loop in
+    let wh = c .before .before .before .before .before .before .before .before .before .before .before .before .before .before .before .pre in
+    round-small wh (loop .inv) (search) (scan .ensures) (search) (wide .ensures) (wide2 .ensures) (cell .ensures)
 
 returns-4 : tie.Need-returns-4 Inv-loop μ-loop
 returns-4 c =
-    let loop = c .before .before .before .before .before .before .before .before .before .before .before .before .before .before .loop in
-    let wh = c .before .before .before .before .before .before .before .before .before .before .before .before .before .before .before .before .before .before .pre in
+    let scan = c .before .before .before .before .before .before .before .before .before .scan in
+    let cell = c .before .before .before .before .cell in
+    let wide = c .before .before .before .before .before .before .wide in
+    let wide2 = c .before .before .before .before .before .wide2 in
+    let turn = c .before .before .before .before .before .before .before .before .before .before .before .before .before .before in
+    let loop = turn .loop in
+    let more = c .before .before .before .before .before .before .before .before .before .before .before .before .before .loop-test .taken in
+    let wh = turn .before .before .before .before .pre in
+    let new = c .before .before .before .before .before .before .before .before .if2 .left in
+    let q = round-target wh (loop .inv) more (scan .ensures) new (wide .ensures) (wide2 .ensures) (cell .ensures) in
     rw (c .ended4 .ensures)
-    (round-shown′ wh (loop .inv) (search) (c .before .before .before .before .before .before .before .before .before .scan .result) (c .before .before .before .before .before .before .before .before .before .scan .ensures) (search) (c .before .before .before .before .cell .result)
-    (round-target wh (loop .inv) (search) (c .before .before .before .before .before .before .before .before .before .scan .result) (c .before .before .before .before .before .before .before .before .before .scan .ensures) (search) _ _ (c .before .before .before .before .cell .result) (c .before .before .before .before .before .before .wide .ensures) (c .before .before .before .before .before .wide2 .ensures) (c .before .before .before .before .cell .ensures)) (search) (search))
+    (round-shown′ wh (loop .inv) more (scan .ensures) new q (c .before .before .before .before .before .before .before .if3 .left) (c .before .if4 .taken))
 
 loop-again : tie.Need-loop-again Inv-loop μ-loop
 loop-again c =
+    let scan = c .before .before .before .before .before .before .before .before .scan in
+    let cell = c .before .before .before .cell in
+    let wide = c .before .before .before .before .before .wide in
+    let wide2 = c .before .before .before .before .wide2 in
     let loop = c .before .before .before .before .before .before .before .before .before .before .before .before .before .loop in
+    let more = c .before .before .before .before .before .before .before .before .before .before .before .before .loop-test .taken in
     let wh = c .before .before .before .before .before .before .before .before .before .before .before .before .before .before .before .before .before .pre in
-    round-more wh (loop .inv) (search) (c .before .before .before .before .before .before .before .before .scan .result) (c .before .before .before .before .before .before .before .before .scan .ensures) (search) (c .before .before .before .cell .result) _
-    (round-target wh (loop .inv) (search) (c .before .before .before .before .before .before .before .before .scan .result) (c .before .before .before .before .before .before .before .before .scan .ensures) (search) _ _ (c .before .before .before .cell .result) (c .before .before .before .before .before .wide .ensures) (c .before .before .before .before .wide2 .ensures) (c .before .before .before .cell .ensures)) (c .before .before .narrow .ensures) (search) (search)
+    let new = c .before .before .before .before .before .before .before .if2 .left in
+    let q = round-target wh (loop .inv) more (scan .ensures) new (wide .ensures) (wide2 .ensures) (cell .ensures) in
+    round-more wh (loop .inv) more (scan .ensures) new q (c .before .before .narrow .ensures) (c .before .before .before .before .before .before .if3 .left) (c .if4 .left)
 
 returns-5 : tie.Need-returns-5 Inv-loop μ-loop
 returns-5 c =

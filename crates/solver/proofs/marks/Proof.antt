@@ -34,4 +34,5 @@ returns : tie.Need-returns Inv-loop μ-loop
 returns c = marking-done _ _ _ _ (search needs) (c .before .loop .inv .1)
 
 pub marks-spec : {M : Type 1} → statement M
-marks-spec = tie.close (tie.spec Inv-loop μ-loop loop-holds (λ c κs. search needs) (λ c. search needs) (λ c. search needs) (λ c. search needs) loop-again returns)
+marks-spec =
+    tie.close (tie.spec Inv-loop μ-loop loop-holds (λ c κs. search needs) (λ c. search needs) (λ c. search needs) (λ c. search needs) loop-again returns)

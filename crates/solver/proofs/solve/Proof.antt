@@ -68,7 +68,8 @@ returns-2 c =
     let marked = c .before .before .before .before .before .marks in
     let at = c .before .before .before .before .last-share in (
       solve-decided _ (a .args .c) (a .args .p) (b .result) ws (a .pre .0 .2) (a .pre .0 .3)
-          (c .before .before .before .before .before .before .before .before .before .enum-told .given .1) (marked .result) _ _ (a .args .m) (a .args .labels) (b .ensures .0)
+          (c .before .before .before .before .before .before .before .before .before .enum-told .given .1) (marked .result) _ _ (a .args .m) (a .args .labels)
+          (b .ensures .0)
           (part-at ((a .args .m - 1) * (a .args .labels * a .args .c * a .args .c)) (at .result) ws (at .ensures)) (marked .ensures) (c .find .ensures),
       b .ensures .1,
     )

@@ -102,8 +102,11 @@ run-returns-2 t c =
     let m = b .pre .0 in
     let p = b .pre .1 .0 in
     let wh = b .pre .1 .1 in
-    let r = c .before .before .read-head in
-    (sym (walk-step (a .s .now) (a .n) (a .looks) (a .table .now) (a .c) (a .d) (a .at) (c .before .before .before .if1 .left) _ _ (r .ensures) (c .enum-told .given .1)), (wh .some-state, p .4))
+    let r = c .before .before .read-head in (
+      sym (walk-step (a .s .now) (a .n) (a .looks) (a .table .now) (a .c) (a .d) (a .at) (c .before .before .before .if1 .left) _ _ (r .ensures)
+          (c .enum-told .given .1)),
+      (wh .some-state, p .4),
+    )
 
 run-returns-3 : (t : ℕ) → run-lts.Need-returns-3 (R t) (run-at t) run.Post
 run-returns-3 t c =
@@ -114,8 +117,11 @@ run-returns-3 t c =
     let wh = b .pre .1 .1 in
     let r = c .before .before .before .read-head in
     let g = c .before .next .given in
-    let w = empty-within (a .s .now) (a .n) 0 (a .at) (g .0 .0) (sym (r .ensures) ∙ g .1) in
-    (sym (walk-step (a .s .now) (a .n) (a .looks) (a .table .now) (a .c) (a .d) (a .at) (c .before .before .before .before .if1 .left) _ _ (r .ensures) (g .1)), (wh .some-state, w .1))
+    let w = empty-within (a .s .now) (a .n) 0 (a .at) (g .0 .0) (sym (r .ensures) ∙ g .1) in (
+      sym (walk-step (a .s .now) (a .n) (a .looks) (a .table .now) (a .c) (a .d) (a .at) (c .before .before .before .before .if1 .left) _ _ (r .ensures)
+          (g .1)),
+      (wh .some-state, w .1),
+    )
 
 run-returns-4 : (t : ℕ) → run-lts.Need-returns-4 (R t) (run-at t) run.Post
 run-returns-4 t c =
@@ -129,8 +135,10 @@ run-returns-4 t c =
     let l = head-label (a .s .now) (a .n) 0 (a .at) (g .0 .0) (g .0 .1 .0) (sym (r .ensures) ∙ g .1) in
     let x = c .before .before .run in
     let y = c .before .run2 in (
-      walk-node (a .s .now) (a .n) (a .looks) (a .table .now) (a .c) (a .d) (a .at) (g .0 .0) (g .0 .1 .0) _ (x .result) (y .result) (x .ensures .0) (y .ensures .0) (c .cell .ensures)
-          ∙ sym (walk-step (a .s .now) (a .n) (a .looks) (a .table .now) (a .c) (a .d) (a .at) (c .before .before .before .before .before .before .before .if1 .left) _ _ (r .ensures) (g .1)),
+      walk-node (a .s .now) (a .n) (a .looks) (a .table .now) (a .c) (a .d) (a .at) (g .0 .0) (g .0 .1 .0) _ (x .result) (y .result) (x .ensures .0)
+          (y .ensures .0) (c .cell .ensures)
+          ∙ sym (walk-step (a .s .now) (a .n) (a .looks) (a .table .now) (a .c) (a .d) (a .at)
+          (c .before .before .before .before .before .before .before .if1 .left) _ _ (r .ensures) (g .1)),
       (rw (c .cell .ensures) (wh .steps (g .0 .0) (x .result .state) (y .result .state) (rw (p .2) l) (x .ensures .1 .0) (y .ensures .1 .0)), y .ensures .1 .1),
     )
 
