@@ -76,8 +76,8 @@ module _ (k n : ℕ) (rs : List Record) (c P : ℕ) where
     | more h ↦ absurd (let a = p .2 s h in let b = q .1 in omega arith)
   ]
 
-  refused-right : (r : ℕ) → FirstOver k n rs c r → Answers {k = k} n rs c P (refused14 r)
-  refused-right r f = record {
+  refused-right : (q r : ℕ) → FirstOver k n rs c r → Answers {k = k} n rs c P q (refused14 r)
+  refused-right q r f = record {
     refused-is = λ s. ((λ e. let z : r ≡ s = cc in subst (FirstOver k n rs c) z f), λ g. ap refused14 (one-first r s f g));
     demand2 = λ h. absurd (tight h);
     demand3 = λ h. absurd (tight h);
@@ -86,7 +86,7 @@ module _ (k n : ℕ) (rs : List Record) (c P : ℕ) where
       tight : Roomy k n rs c → ⊥
       tight h = let a = h r (f .0) in let b = f .1 in omega arith
 
-  module _ (R : Roomy k n rs c) (M : Machine k ℕ) (D : Decides n M (formulaAt rs (lastOf rs))) (F : Full n states M) where
+  module _ (R : Roomy k n rs c) (M : Machine k ℕ) (D : Decides n M (formulaAt rs (lastOf rs))) (q : ℕ) where
     roomy-no : (r : ℕ) → FirstOver k n rs c r → ⊥
     roomy-no r f = let a = R r (f .0) in let b = f .1 in omega arith
 
@@ -107,14 +107,14 @@ module _ (k n : ℕ) (rs : List Record) (c P : ℕ) where
           after B u b m (inl p) = inr p
           after B u b m (inr e) = inl (sets-same n (setsOf n t) B t (m .tree) (subst (TreeOf n B) (sym e) (b .tree)))
 
-      shown-shallow : Shallow (shown (positions t) states t)
+      shown-shallow : Full n q M → Shallow (shown (positions t) q t)
       unfolding RightForTrees
-      shown-shallow places q u e p h =
-          let y : states ≡ q = cc in let z : t ≡ u = cc in
+      shown-shallow F places s u e p h =
+          let y : q ≡ s = cc in let z : t ≡ u = cc in
           subst (λ (s : ℕ). suc (length p) < s) y
-          (earliest-shallow n states M F t (r .0 .0) (λ v o d. r .2 v (o, ap (M .accepting) d ∙ r .0 .1)) p (subst (λ (v : Tree k). T (nodeAt v p)) (sym z) h))
+          (earliest-shallow n q M F t (r .0 .0) (λ v o d. r .2 v (o, ap (M .accepting) d ∙ r .0 .1)) p (subst (λ (v : Tree k). T (nodeAt v p)) (sym z) h))
 
-      tree-right : Answers n rs c P (shown (positions t) states t)
+      tree-right : Answers n rs c P q (shown (positions t) q t)
       unfolding RightForTrees
       tree-right = record {
         refused-is = λ s. ((λ e. absurd (let z : _≡_ {A = ℕ} 0 1 = cc in omega arith)), λ f. absurd (roomy-no s f));
@@ -124,7 +124,7 @@ module _ (k n : ℕ) (rs : List Record) (c P : ℕ) where
         };
         demand3 = λ h. record {
           shown-is = ((λ w. (v .sets, t, v .model, r .1)), λ w. (t, refl));
-          shown-right = λ m q u e. let x : positions t ≡ m = cc in let y : states ≡ q = cc in let z : t ≡ u = cc in rw (← x, ← y, ← z) (refl, v);
+          shown-right = λ m s u e. let x : positions t ≡ m = cc in let y : q ≡ s = cc in let z : t ≡ u = cc in rw (← x, ← y, ← z) (refl, v);
           larger-is =
               ((λ e. absurd (let z : _≡_ {A = ℕ} 0 1 = cc in omega arith)), λ f. absurd (let a = f .1 (v .sets) t (v .model) in let b = r .1 in omega arith));
         };
@@ -133,7 +133,7 @@ module _ (k n : ℕ) (rs : List Record) (c P : ℕ) where
           v : Earliest n rs (positions t) t
           v = earliest-tree
 
-    large-right : RightForTrees n M P large → Answers {k = k} n rs c P (larger states)
+    large-right : RightForTrees n M P large → Answers {k = k} n rs c P q (larger q)
     unfolding RightForTrees
     large-right r = record {
       refused-is = λ s. ((λ e. absurd (let z : _≡_ {A = ℕ} 0 1 = cc in omega arith)), λ f. absurd (roomy-no s f));
@@ -148,12 +148,12 @@ module _ (k n : ℕ) (rs : List Record) (c P : ℕ) where
           λ w. absurd
               (let a = r .1 (w .1) (model-accepted n rs M D (w .0) (w .1) (w .2)) in let b = w .3 in omega arith),
         );
-        shown-right = λ m q u e. absurd (let z : _≡_ {A = ℕ} 0 1 = cc in omega arith);
+        shown-right = λ m s u e. absurd (let z : _≡_ {A = ℕ} 0 1 = cc in omega arith);
         larger-is = ((λ e. ((setsOf n (r .0 .0), accepted-holds n rs M D (r .0 .0) (r .0 .1)), λ A t m. r .1 t (model-accepted n rs M D A t m))), λ f. refl);
       };
     }
 
-    absent-right : RightForTrees n M P absent → Answers {k = k} n rs c P (none states)
+    absent-right : RightForTrees n M P absent → Answers {k = k} n rs c P q (none q)
     unfolding RightForTrees
     absent-right r = record {
       refused-is = λ s. ((λ e. absurd (let z : _≡_ {A = ℕ} 0 1 = cc in omega arith)), λ f. absurd (roomy-no s f));
@@ -163,7 +163,7 @@ module _ (k n : ℕ) (rs : List Record) (c P : ℕ) where
       };
       demand3 = λ h. record {
         shown-is = ((λ w. absurd (let e = w .1 in let z : _≡_ {A = ℕ} 0 1 = cc in omega arith)), λ w. absurd (never (w .0) (w .2 .holds)));
-        shown-right = λ m q u e. absurd (let z : _≡_ {A = ℕ} 0 1 = cc in omega arith);
+        shown-right = λ m s u e. absurd (let z : _≡_ {A = ℕ} 0 1 = cc in omega arith);
         larger-is = ((λ e. absurd (let z : _≡_ {A = ℕ} 0 1 = cc in omega arith)), λ f. absurd (never (f .0 .0) (f .0 .1)));
       };
     }
@@ -171,33 +171,33 @@ module _ (k n : ℕ) (rs : List Record) (c P : ℕ) where
         never : (A : Assignment k) → Satisfies rs A → ⊥
         never A s = r (treeOf n A) (model-accepted n rs M D A (treeOf n A) (record { holds = s; tree = tree-of n A }))
 
-    pub sought-right : (x : Sought k) → RightForTrees n M P x → Answers n rs c P (report states x)
+    pub sought-right : (x : Sought k) → RightForTrees n M P x → Answers n rs c P q (report q x)
     unfolding report
     sought-right (tree t) r = tree-right t r
     sought-right large r = large-right r
     sought-right absent r = absent-right r
 
-    sought-shallow : (x : Sought k) → RightForTrees n M P x → Shallow (report states x)
+    sought-shallow : Full n q M → (x : Sought k) → RightForTrees n M P x → Shallow (report q x)
     unfolding report
-    sought-shallow (tree t) r = shown-shallow t r
-    sought-shallow large r = λ m q u e. absurd (let z : _≡_ {A = ℕ} 0 1 = cc in omega arith)
-    sought-shallow absent r = λ m q u e. absurd (let z : _≡_ {A = ℕ} 0 1 = cc in omega arith)
+    sought-shallow F (tree t) r = shown-shallow t r F
+    sought-shallow F large r = λ m s u e. absurd (let z : _≡_ {A = ℕ} 0 1 = cc in omega arith)
+    sought-shallow F absent r = λ m s u e. absurd (let z : _≡_ {A = ℕ} 0 1 = cc in omega arith)
 
     -- there is one such answer only
-    sought-only : (o : Outcome k) → Answers n rs c P o → (x : Sought k) → RightForTrees n M P x → o ≡ report states x
+    sought-only : (o : Outcome k) → Answers n rs c P q o → (x : Sought k) → RightForTrees n M P x → o ≡ report q x
     unfolding report RightForTrees
     sought-only o a absent r = (a .demand2 R .none-is) .1 (((absent-right r) .demand2 R .none-is) .0 refl)
     sought-only o a large r = (a .demand3 R .larger-is) .1 (((large-right r) .demand3 R .larger-is) .0 refl)
     sought-only o a (tree t) r =
         let w = (a .demand3 R .shown-is) .1 (((tree-right t r) .demand3 R .shown-is) .0 (t, refl)) in
-        let v : Earliest n rs (positions (w .0)) (w .0) = (a .demand3 R .shown-right (positions (w .0)) states (w .0) (w .1)) .1 in
+        let v : Earliest n rs (positions (w .0)) (w .0) = (a .demand3 R .shown-right (positions (w .0)) q (w .0) (w .1)) .1 in
         let e : t ≡ w .0 = ⪯-antisym t (w .0) (r .2 (w .0) (model-accepted n rs M D (v .sets) (w .0) (v .model)))
         (no-later v (earliest-tree t r) (v .later ((earliest-tree t r) .sets) t ((earliest-tree t r) .model))) in
         rw e (w .1)
       where
         no-later : {u : Tree k} (v : Earliest n rs (positions u) u) (x : Earliest n rs (positions t) t) → SameSets n (v .sets) (x .sets) ⊎ (u ≺ t) → u ⪯ t
         no-later {u} v x (inr p) = inl p
-        no-later {u} v x (inl q) = inr (tree-same n (v .sets) (x .sets) u t q (v .model .tree) (x .model .tree))
+        no-later {u} v x (inl e) = inr (tree-same n (v .sets) (x .sets) u t e (v .model .tree) (x .model .tree))
 
   module _ (ok : Accepted k n rs) where
     abbrev Last : Table k
@@ -225,12 +225,12 @@ module _ (k n : ℕ) (rs : List Record) (c P : ℕ) where
     unfolding Says
     says-last ts w = ap (λ (us : List (Table k)). lastTable n rs us) (w .0) ∙ last-table
 
-    conclude-right : (b : Built k) → Says k n c (extend [] rs) b → Answers n rs c P (conclude n rs P b)
+    conclude-right : (b : Built k) → Says k n c (extend [] rs) b → Answers n rs c P states (conclude n rs P b)
     unfolding conclude
-    conclude-right (over r) w = refused-right r (says-first r w)
+    conclude-right (over r) w = refused-right states r (says-first r w)
     conclude-right (built ts) w =
-        subst (λ (a : Table k). Answers n rs c P (report (a .count) (search (2 ^ n) a P))) (sym (says-last ts w))
-        (sought-right (says-roomy ts w) (Last .machine) (last-right .1) (last-right .0, last-right .2) (search (2 ^ n) Last P)
+        subst (λ (a : Table k). Answers n rs c P states (report (a .count) (search (2 ^ n) a P))) (sym (says-last ts w))
+        (sought-right (says-roomy ts w) (Last .machine) (last-right .1) states (search (2 ^ n) Last P)
         (search-right n Last (last-right .0, last-right .2) P))
 
     conclude-shallow : (b : Built k) → Says k n c (extend [] rs) b → Shallow (conclude n rs P b)
@@ -238,7 +238,7 @@ module _ (k n : ℕ) (rs : List Record) (c P : ℕ) where
     conclude-shallow (over r) w = λ m q u e. absurd (let z : _≡_ {A = ℕ} 0 1 = cc in omega arith)
     conclude-shallow (built ts) w =
         subst (λ (a : Table k). Shallow (report (a .count) (search (2 ^ n) a P))) (sym (says-last ts w))
-        (sought-shallow (says-roomy ts w) (Last .machine) (last-right .1) (last-right .0, last-right .2) (search (2 ^ n) Last P)
+        (sought-shallow (says-roomy ts w) (Last .machine) (last-right .1) states (last-right .0, last-right .2) (search (2 ^ n) Last P)
         (search-right n Last (last-right .0, last-right .2) P))
 
     -- the bound on depth
@@ -247,7 +247,7 @@ module _ (k n : ℕ) (rs : List Record) (c P : ℕ) where
     decide-shallow = conclude-shallow (buildAll n c rs []) (built-says k n c rs)
 
     -- DECIDE: refusal 14, and demands 2 and 3
-    pub decide-answers : Answers n rs c P (decideOf k n rs c P)
+    pub decide-answers : Answers n rs c P states (decideOf k n rs c P)
     unfolding decideOf
     decide-answers = conclude-right (buildAll n c rs []) (built-says k n c rs)
 
@@ -272,16 +272,16 @@ module _ (k n : ℕ) (rs : List Record) (c P : ℕ) where
         (x, let b = m .3 in omega arith))
         over-or-roomy
 
-    conclude-only : (o : Outcome k) → Answers n rs c P o → (b : Built k) → Says k n c (extend [] rs) b → o ≡ conclude n rs P b
+    conclude-only : (o : Outcome k) → Answers n rs c P states o → (b : Built k) → Says k n c (extend [] rs) b → o ≡ conclude n rs P b
     unfolding conclude
     conclude-only o a (over r) w = (a .refused-is r) .1 (says-first r w)
     conclude-only o a (built ts) w =
         subst (λ (x : Table k). o ≡ report (x .count) (search (2 ^ n) x P)) (sym (says-last ts w))
-        (sought-only (says-roomy ts w) (Last .machine) (last-right .1) (last-right .0, last-right .2) o a (search (2 ^ n) Last P)
+        (sought-only (says-roomy ts w) (Last .machine) (last-right .1) states o a (search (2 ^ n) Last P)
         (search-right n Last (last-right .0, last-right .2) P))
 
     -- and no other answer meets the demands
-    pub decide-only : (o : Outcome k) → Answers n rs c P o → o ≡ decideOf k n rs c P
+    pub decide-only : (o : Outcome k) → Answers n rs c P states o → o ≡ decideOf k n rs c P
     unfolding decideOf
     decide-only o a = conclude-only o a (buildAll n c rs []) (built-says k n c rs)
 

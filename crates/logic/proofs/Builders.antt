@@ -236,8 +236,8 @@ module _ (k n : ℕ) (rs : List Record) (ok : Accepted k n rs) where
   decide-any c P R M m q F =
       let e : q ≡ statesAt k n rs (lastOf rs) = states-any (lastOf rs) (let h = ok .0 in omega arith) M m q F in
       decide-only k n rs c P ok (report q (search (2 ^ n) (record { count = q; machine = M }) P))
-      (subst (λ (z : ℕ). Answers n rs c P (report z (search (2 ^ n) (record { count = q; machine = M }) P))) (sym e)
-      (sought-right k n rs c P R M (m .decides) (subst (λ (z : ℕ). Full n z M) e F) (search (2 ^ n) (record { count = q; machine = M }) P) (search-right n (record { count = q; machine = M }) F P)))
+      (subst (λ (z : ℕ). Answers n rs c P z (report q (search (2 ^ n) (record { count = q; machine = M }) P))) e
+      (sought-right k n rs c P R M (m .decides) q (search (2 ^ n) (record { count = q; machine = M }) P) (search-right n (record { count = q; machine = M }) F P)))
 
   pub judge-any : (c : ℕ) → Roomy k n rs c → (M : Machine k ℕ) → MachineOf n (formulaAt rs (lastOf rs)) M → (t : Tree k) (A : Assignment k) → TreeOf n A t
       → say (M .accepting (run M t)) ≡ judgeOf n rs c t

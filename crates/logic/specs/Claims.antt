@@ -9,7 +9,7 @@ use lib.ListN.{length}
 use Rattle.logic.specs.Meaning.{Place, Assignment}
 use Rattle.logic.specs.Tree.{Tree, positions, nodeAt, TreeOf, SameSets}
 use Rattle.logic.specs.Order.{_≺_}
-use Rattle.logic.specs.Rule.{Record, formulaAt, lastOf, Satisfies}
+use Rattle.logic.specs.Rule.{Record, formulaAt, Satisfies}
 use Rattle.logic.specs.Table.{table}
 
 -- decide's answers: refusal 14 with the record's number; shown (positions, states) and the tree; none (states); larger (states)
@@ -69,11 +69,11 @@ pub record Demand3 {k : ℕ} (n : ℕ) (rs : List Record) (P q : ℕ) (o : Outco
   -- "larger" is said exactly when satisfying assignments exist and every one of them has more positions than the place ceiling
   pub larger-is : (o ≡ larger q) ↔ (((A : Assignment k) × Satisfies rs A) × ((A : Assignment k) (t : Tree k) → Model n rs A t → P < positions t))
 
--- o answers the rule rs of n variables, with state ceiling c and place ceiling P; the states reported are the last record's
-pub record Answers {k : ℕ} (n : ℕ) (rs : List Record) (c P : ℕ) (o : Outcome k) : Type 0 where
+-- o answers the rule rs of n variables, with state ceiling c and place ceiling P, and reports q states
+pub record Answers {k : ℕ} (n : ℕ) (rs : List Record) (c P q : ℕ) (o : Outcome k) : Type 0 where
   pub refused-is : (r : ℕ) → (o ≡ refused14 r) ↔ FirstOver k n rs c r
-  pub demand2 : Roomy k n rs c → Demand2 n rs P (statesAt k n rs (lastOf rs)) o
-  pub demand3 : Roomy k n rs c → Demand3 n rs P (statesAt k n rs (lastOf rs)) o
+  pub demand2 : Roomy k n rs c → Demand2 n rs P q o
+  pub demand3 : Roomy k n rs c → Demand3 n rs P q o
 
 -- j is the judgement of the tree t: yes or no agrees with the meaning
 pub record Judges {k : ℕ} (n : ℕ) (rs : List Record) (c : ℕ) (t : Tree k) (j : Judgement) : Type 0 where

@@ -5,8 +5,9 @@ use mathlib.Core.List.{List, _++_}
 use mathlib.Core.Bool.{cond}
 use lib.Dec.{eqb}
 use lib.ListN.{length, take, drop}
+use Rattle.logic.specs.Rule.{lastOf}
 use Rattle.logic.specs.Tree.{Tree, positions}
-use Rattle.logic.specs.Claims.{Outcome, refused14, shown, none, larger, Answers}
+use Rattle.logic.specs.Claims.{Outcome, refused14, shown, none, larger, statesAt, Answers}
 use Rattle.logic.specs.Decide.{decideOf}
 use Rattle.strip.specs.RuleStrip.{variablesOf, countOf, recordsOf, ruleRefusal}
 use Rattle.strip.specs.TreeStrip.{treeStrip, treeBytes}
@@ -59,7 +60,8 @@ workspaceOf rule c P ws outRoom =
 -- outcome that answers the rule
 pub record Claim (rule : List ℕ) (c P room outRoom : ℕ) (v : Verdict) (out : List ℕ) : Type 0 where
   pub outcome : earlyRefusal rule c P room outRoom ≡ 0 → Outcome 2
-  pub answers : (e : earlyRefusal rule c P room outRoom ≡ 0) → Answers (variablesOf rule) (recordsOf rule) c P (outcome e)
+  pub answers : (e : earlyRefusal rule c P room outRoom ≡ 0)
+      → Answers (variablesOf rule) (recordsOf rule) c P (statesAt 2 (variablesOf rule) (recordsOf rule) (lastOf (recordsOf rule))) (outcome e)
   pub told : (e : earlyRefusal rule c P room outRoom ≡ 0) → v ≡ tell (variablesOf rule) (outcome e)
   pub shows : (e : earlyRefusal rule c P room outRoom ≡ 0) → (places states : ℕ) (t : Tree 2) → outcome e ≡ shown places states t
       → take (length (treeStrip (variablesOf rule) t)) out ≡ treeStrip (variablesOf rule) t
