@@ -13,10 +13,10 @@ use Rattle.logic.specs.Decide.{report, conclude, decideOf}
 use Rattle.strip.specs.Bits.{digits, bits, anySet, pack}
 use Rattle.strip.specs.RuleStrip.{recordAt, recordsFrom, recordsOf, firstUse, secondUse, recordRefusal, recordsRefusal, ruleRefusal}
 use Rattle.strip.specs.TreeStrip.{treeBits, treeStrip}
-use Rattle.ws2s.specs.Room.{roomRefusal}
-use Rattle.ws2s.specs.Decide.{earlyRefusal, tell, outAfter, verdictOf, outOf}
-use Rattle.ws2s.specs.declared.decide.Verdict.{Verdict}
-use Rattle.ws2s.specs.declared.decide.Verdict.the-variants.{Shown, None, Larger, Refused, TooManyStates}
+use Rattle.operations.specs.Room.{roomRefusal}
+use Rattle.operations.specs.Decide.{earlyRefusal, tell, outAfter, verdictOf, outOf}
+use Rattle.operations.specs.declared.decide.Verdict.{Verdict}
+use Rattle.operations.specs.declared.decide.Verdict.the-variants.{Shown, None, Larger, Refused, TooManyStates}
 use Rattle.report.specs.Text.{decimal, hex}
 use Rattle.report.specs.Line.{lineOf}
 use Rattle.report.specs.Program.{verdictLine}

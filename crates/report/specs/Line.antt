@@ -3,8 +3,8 @@ use Prim.Native.Nat.{ℕ, _+_}
 use mathlib.Core.List.{List, [], _∷_, _++_}
 use lib.ListN.{take}
 use Rattle.report.specs.Text.{decimal, hex}
-use Rattle.ws2s.specs.declared.decide.Verdict.{Verdict}
-use Rattle.ws2s.specs.declared.decide.Verdict.the-variants.{Shown, None, Larger, Refused, TooManyStates}
+use Rattle.operations.specs.declared.decide.Verdict.{Verdict}
+use Rattle.operations.specs.declared.decide.Verdict.the-variants.{Shown, None, Larger, Refused, TooManyStates}
 
 -- `shown `
 abbrev pub shownWord : List ℕ

@@ -1,4 +1,4 @@
--- A rule of a table, proved at all of its entries by one test that antt computes (after the toolchain's examples/laws).
+-- A rule of a table, proved at all of its entries by one test that antt computes.
 -- Assumes nothing.
 use mathlib.Core.Path.{_≡_, _∙_, subst, sym}
 use mathlib.Core.Bool.{Bool, true, false}

@@ -1,5 +1,1 @@
-pub mod Decoding
-pub mod Room
-pub mod Decide
-pub mod Judge
 pub mod Numbers

@@ -7,12 +7,12 @@ use Rattle.strip.specs.declared.rule.RuleCheck.{RuleCheck}
 use Rattle.strip.specs.declared.rule.RuleCheck.the-variants as rule
 use Rattle.strip.specs.declared.tree.TreeCheck.{TreeCheck}
 use Rattle.strip.specs.declared.tree.TreeCheck.the-variants as tree
-use Rattle.ws2s.specs.declared.judge.Judgement.{Judgement}
-use Rattle.ws2s.specs.declared.judge.Judgement.the-variants as judgement
-use Rattle.ws2s.specs.declared.decide.Verdict.{Verdict}
-use Rattle.ws2s.specs.declared.decide.Verdict.the-variants as verdict
-use Rattle.ws2s.specs.Judge.{JudgeClaim}
-use Rattle.ws2s.specs.Decide.{Claim}
+use Rattle.operations.specs.declared.judge.Judgement.{Judgement}
+use Rattle.operations.specs.declared.judge.Judgement.the-variants as judgement
+use Rattle.operations.specs.declared.decide.Verdict.{Verdict}
+use Rattle.operations.specs.declared.decide.Verdict.the-variants as verdict
+use Rattle.operations.specs.Judge.{JudgeClaim}
+use Rattle.operations.specs.Decide.{Claim}
 use Rattle.ws2s.specs.declared.exports.RuleNumbers.{RuleNumbers}
 use Rattle.ws2s.specs.declared.exports.TreeNumbers.{TreeNumbers}
 use Rattle.ws2s.specs.declared.exports.JudgementNumbers.{JudgementNumbers}

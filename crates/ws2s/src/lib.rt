@@ -1,6 +1,2 @@
-// The entry points: both strip checks, judge and decide, inside as enums and outside as C functions.
-mod decode; // a rule strip's records, as the builder takes them
-mod room; // what machines and strips take, and refusals 11 and 12
-pub mod decide; // from a rule strip to an answer and a tree strip
-pub mod judge; // whether the sets of a tree satisfy a rule
+// The library for C: both strip checks, judge and decide, with their answers as numbers.
 pub mod exports; // the C interface

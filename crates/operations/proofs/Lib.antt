@@ -1,0 +1,5 @@
+pub mod Rooms
+pub mod Decodes
+pub mod Deciding
+pub mod Judging
+pub mod Verdicts

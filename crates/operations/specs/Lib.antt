@@ -1,0 +1,4 @@
+pub mod Room
+pub mod Decoding
+pub mod Decide
+pub mod Judge
