@@ -7,7 +7,7 @@ use lib.ListN.{length, getD, take, drop, replicate}
 use lib.Seq.{length-take-le}
 use Rattle.logic.specs.Rule.{Record, noRecord}
 use Rattle.logic.specs.Tree.{positions}
-use Rattle.records.specs.Rule.{Fits, Sound, noDecoded}
+use Rattle.records.specs.Rule.{Buildable, noDecoded}
 use Rattle.records.specs.declared.Decoded.{Decoded}
 use Rattle.records.specs.declared.Ending.the-variants.{Over, Ready}
 use Rattle.search.specs.declared.Finding.the-variants.{None as Nothing, Larger as Beyond, Shown as Found}
@@ -27,7 +27,7 @@ use Rattle.operations.specs.declared.decide.Verdict.the-variants.{Shown,
 
 module _ {s : List ℕ} {n m c : ℕ} (accepted : AcceptedRule s n m) (xs : List Decoded) (dec : DecodesTo s m xs) {labels : ℕ} (el : labels ≡ 2 ^ n) where
   -- the builder may be called on the strip's records
-  pub rule-ready : {len : ℕ} → Roomy n m c len → (r : ℕ) → r < m → Fits (getD xs r noDecoded) r c labels len × Sound (getD xs r noDecoded) r labels
+  pub rule-ready : {len : ℕ} → Roomy n m c len → (r : ℕ) → r < m → Buildable (getD xs r noDecoded) r c labels len
   rule-ready {len} room r h =
       let f = rule-accepted s (accepted .unrefused) in
       let w = widths-at s (16 + 18 * r) in

@@ -41,9 +41,9 @@ share-small c labels hc hl =
     let b : labels * c * c ≤ labels * c * 64 = mul-le-mul-left (labels * c) hc in
     (omega arith, omega arith)
 
-pub times-small : (a c labels : ℕ) → a < 128 → c ≤ 64 → labels ≤ 256 → a * (labels * c * c) ≤ 134217728
+pub times-small : (a c labels : ℕ) → a < 256 → c ≤ 64 → labels ≤ 256 → a * (labels * c * c) ≤ 268435456
 times-small a c labels ha hc hl =
-    let b : a * (labels * c * c) ≤ 128 * (labels * c * c) = mul-le-mul-right (labels * c * c) (omega arith) in
+    let b : a * (labels * c * c) ≤ 256 * (labels * c * c) = mul-le-mul-right (labels * c * c) (omega arith) in
     omega (arith, share-small c labels hc hl)
 
 pub next-share : (r m s : ℕ) → r < m → r * s + s ≤ m * s

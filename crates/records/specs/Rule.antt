@@ -94,9 +94,9 @@ planOf x r c labels f g = record {
 
 -- the numbers are in range, and record r's share is within n bytes
 pub record Fits (x : Decoded) (r c labels n : ℕ) : Type 0 where
-  pub first-in : x .first < 128
-  pub second-in : x .second < 128
-  pub here-in : r < 128
+  pub first-in : x .first < 256
+  pub second-in : x .second < 256
+  pub here-in : r < 256
   pub ceiling : c ≤ 64
   pub some-state : 0 < c
   pub some-labels : 2 ≤ labels
@@ -125,6 +125,13 @@ OfParts Exists A B = A
 pub record Sound (x : Decoded) (r labels : ℕ) : Type 0 where
   pub before : OfParts (x .kind) (x .first < r) (x .second < r)
   pub bit : Bit (x .wx) labels
+
+-- what building all records asks of record r: its numbers have entries in the arrays of 128, too
+pub record Buildable (x : Decoded) (r c labels n : ℕ) : Type 0 where
+  pub fits : Fits x r c labels n
+  pub sound : Sound x r labels
+  pub first-kept : x .first < 128
+  pub second-kept : x .second < 128
 
 -- machine m is stored: k keeps its number of states, its accepting states and the bits that it looks at, and the table at `base` its
 -- steps, at the labels that it tells apart

@@ -5,7 +5,7 @@ ghost use mathlib.Core.Path.{_≡_};
 ghost use Prim.Native.Nat.{ℕ, _+_, _*_, _≤_, _<_};
 ghost use lib.ListN.{length, getD, take, drop};
 ghost use Rattle.records.specs.Machine.{acceptBy, acceptOf};
-ghost use Rattle.records.specs.Rule.{planOf, isNot, Fits, Sound, SomeParts, Adds, Spared, Made, upto, noDecoded};
+ghost use Rattle.records.specs.Rule.{planOf, isNot, Fits, Sound, Buildable, SomeParts, Adds, Spared, Made, upto, noDecoded};
 ghost use mathlib.Core.Bool.{false};
 ghost use Rattle.table.specs.Succ.{looksOf};
 use crate::complement::copy_table;
@@ -100,7 +100,7 @@ pub fn looks_of(kind: Kind, wx: usize, wy: usize, f: usize, g: usize) -> usize
 
 // The plan of record r, whose parts look at f and g.
 pub fn plan_of(x: Decoded, r: usize, c: usize, labels: usize, f: usize, g: usize) -> Plan
-    requires { ⌜ (x .first < 128) × (x .second < 128) × (r < 128) × (c ≤ 64) × (labels ≤ 256) × (0 < x .wx) × (x .wx ≤ 128) ⌝ }
+    requires { ⌜ (x .first < 256) × (x .second < 256) × (r < 256) × (c ≤ 64) × (labels ≤ 256) × (0 < x .wx) × (x .wx ≤ 128) ⌝ }
     ensures { λ p. ⌜ p ≡ planOf x r c labels f g ⌝ }
 {
     let share = labels * c * c;
@@ -233,7 +233,7 @@ pub fn build_all(
     labels: usize,
 ) -> Machines
     requires { ⌜ (0 < m) × (m ≤ 128) ⌝ }
-    requires { ⌜ ((r : ℕ) → r < m → Fits (getD records r noDecoded) r c labels (length (now ws)) × Sound (getD records r noDecoded) r labels) ⌝ }
+    requires { ⌜ ((r : ℕ) → r < m → Buildable (getD records r noDecoded) r c labels (length (now ws))) ⌝ }
     ensures { λ t. ⌜ Made (upto records c labels m) c labels m t (now (ws .exit)) ⌝ }
     ensures { λ t. ⌜ drop (m * (labels * c * c)) (now (ws .exit)) ≡ drop (m * (labels * c * c)) (now (ws .entry)) ⌝ }
 {

@@ -9,7 +9,7 @@ use lib.Dec.{T, eqb, ltb, ltb→lt}
 use lib.ListN.{length, getD}
 use lib.Pow.{pow-pos, pow-mono}
 use Rattle.logic.specs.Rule.{Record, noRecord, good, Accepted}
-use Rattle.records.specs.Rule.{Fits, OfParts, Sound}
+use Rattle.records.specs.Rule.{OfParts, Sound, Buildable}
 use Rattle.table.proofs.Labels.{bit-of}
 use Rattle.refinement.specs.Decode.{weight, decodedOf}
 use Rattle.refinement.proofs.Upto.{both-of, good-here}
@@ -56,13 +56,15 @@ module _ (n : ℕ) (some : 1 ≤ n) (few : n ≤ 8) where
   -- what the builder asks of record r, of m records with c states each in a workspace of len bytes
   pub ready : (rs : List Record) → Accepted 2 n rs → (r m c len : ℕ) → r < length rs → r < m → m ≤ 128 → 1 ≤ c → c ≤ 64 → m * (2 ^ n * c * c) ≤ len
       → getD rs r noRecord .first < 128 → getD rs r noRecord .second < 128
-      → Fits (decodedOf n (getD rs r noRecord)) r c (2 ^ n) len × Sound (decodedOf n (getD rs r noRecord)) r (2 ^ n)
+      → Buildable (decodedOf n (getD rs r noRecord)) r c (2 ^ n) len
   unfolding decodedOf
   ready rs acc r m c len h hm km pos top room a b =
-      let e : Record = getD rs r noRecord in (
-        record {
-          first-in = choice (eqb (e .op) 8) (e .first) (e .second) a b;
-          second-in = b;
+      let e : Record = getD rs r noRecord in
+      let first = choice (eqb (e .op) 8) (e .first) (e .second) a b in
+      record {
+        fits = record {
+          first-in = omega arith;
+          second-in = omega arith;
           here-in = omega arith;
           ceiling = top;
           some-state = pos;
@@ -75,6 +77,8 @@ module _ (n : ℕ) (some : 1 ≤ n) (few : n ≤ 8) where
           wx-power = (n - suc (e .first), refl);
           wy-power = (n - suc (e .second), refl);
           share = share-fits r m (2 ^ n * c * c) len hm room;
-        },
-        sound-at r (e .op) (e .first) (e .second) (good-here n rs r (acc .1) h),
-      )
+        };
+        sound = sound-at r (e .op) (e .first) (e .second) (good-here n rs r (acc .1) h);
+        first-kept = first;
+        second-kept = b;
+      }

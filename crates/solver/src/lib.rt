@@ -4,7 +4,7 @@ pub mod run; // a machine run over the tree in a strip
 ghost use mathlib.Core.Path.{_≡_};
 ghost use Prim.Native.Nat.{ℕ, _+_, _-_, _*_, _^_, _<_, _≤_};
 ghost use lib.ListN.{length, getD, drop};
-ghost use Rattle.records.specs.Rule.{Fits, Sound, noDecoded};
+ghost use Rattle.records.specs.Rule.{Buildable, noDecoded};
 ghost use Rattle.solver.specs.Solve.{Marked, Solved, Judged};
 use records::Decoded;
 use records::Ending;
@@ -52,7 +52,7 @@ pub fn solve(
     p: u64,
 ) -> Solution
     requires { ⌜ (0 < m) × (m ≤ 128) × (0 < c) × (c ≤ 64) × (p ≤ 255) × (labels ≤ 256) × (m * (labels * c * c) ≤ length (now ws)) ⌝ }
-    requires { ⌜ ((r : ℕ) → r < m → Fits (getD records r noDecoded) r c labels (length (now ws)) × Sound (getD records r noDecoded) r labels) ⌝ }
+    requires { ⌜ ((r : ℕ) → r < m → Buildable (getD records r noDecoded) r c labels (length (now ws))) ⌝ }
     ensures { λ r. ⌜ Solved records m c labels p r ⌝ }
     ensures { λ r. ⌜ drop (m * (labels * c * c)) (now (ws .exit)) ≡ drop (m * (labels * c * c)) (now (ws .entry)) ⌝ }
 {
@@ -108,7 +108,7 @@ pub fn judge(
     tree: &[u8],
 ) -> Ruling
     requires { ⌜ (0 < m) × (m ≤ 128) × (0 < c) × (c ≤ 64) × (labels ≤ 256) × (m * (labels * c * c) ≤ length (now ws)) ⌝ }
-    requires { ⌜ ((r : ℕ) → r < m → Fits (getD records r noDecoded) r c labels (length (now ws)) × Sound (getD records r noDecoded) r labels) ⌝ }
+    requires { ⌜ ((r : ℕ) → r < m → Buildable (getD records r noDecoded) r c labels (length (now ws))) ⌝ }
     requires { ⌜ (1 ≤ n) × (n ≤ 8) × (labels ≡ 2 ^ n) × (1 ≤ length (now tree)) × (length (now tree) ≤ 4096) ⌝ }
     ensures { λ r. ⌜ Judged records m c n (now (tree .entry)) r ⌝ }
     ensures { λ r. ⌜ drop (m * (labels * c * c)) (now (ws .exit)) ≡ drop (m * (labels * c * c)) (now (ws .entry)) ⌝ }

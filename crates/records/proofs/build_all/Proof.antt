@@ -45,11 +45,11 @@ loop-holds c =
     }
 
 kept-requires : tie.Need-kept-requires Inv-loop μ-loop
-kept-requires c κs = c .before .before .before .before .before .before .before .before .pre .1 (c .before .before .before .before .before .before .loop .r) (c .before .before .before .before .before .loop-test .taken) .0 .first-in
+kept-requires c κs = c .before .before .before .before .before .before .before .before .pre .1 (c .before .before .before .before .before .before .loop .r) (c .before .before .before .before .before .loop-test .taken) .first-kept
 
 kept-requires-2 : tie.Need-kept-requires-2 Inv-loop μ-loop
 kept-requires-2 c κs =
-    c .before .before .before .before .before .before .before .before .before .before .before .before .before .pre .1 (c .before .before .before .before .before .before .before .before .before .before .before .loop .r) (c .before .before .before .before .before .before .before .before .before .before .loop-test .taken) .0 .second-in
+    c .before .before .before .before .before .before .before .before .before .before .before .before .before .pre .1 (c .before .before .before .before .before .before .before .before .before .before .before .loop .r) (c .before .before .before .before .before .before .before .before .before .before .loop-test .taken) .second-kept
 
 build-next-requires : tie.Need-build-next-requires Inv-loop μ-loop
 build-next-requires c κs =
@@ -60,11 +60,11 @@ build-next-requires c κs =
     let e = s .pre .1 (h .r) (c .before .before .before .before .before .before .before .before .before .before .before .before .loop-test .taken) in
     let t = machines (h .counts) (h .accepts) (h .looks) Ready in
     let w = h .inv .ready in (
-      subst (Fits x (h .r) (a .c) (a .labels)) (sym (h .inv .long)) (e .0),
+      subst (Fits x (h .r) (a .c) (a .labels)) (sym (h .inv .long)) (e .fits),
       (
-        e .1,
+        e .sound,
         rw (c .before .before .before .before .before .before .kept .ensures, c .before .kept2 .ensures)
-            (getD (w .machines) (x .first) noMach, getD (w .machines) (x .second) noMach, parts-ready (a .t2) (a .c) (a .labels) (h .r) t (h .ws) (h .ws) w (e .1)),
+            (getD (w .machines) (x .first) noMach, getD (w .machines) (x .second) noMach, parts-ready (a .t2) (a .c) (a .labels) (h .r) t (h .ws) (h .ws) w (e .sound)),
       ),
     )
 
@@ -84,7 +84,7 @@ returns c =
     let w = h .inv .ready in
     let e = s .pre .1 (h .r) l in
     let added = (rw (c .before .before .before .before .before .before .before .before .before .before .before .kept .ensures, c .before .before .before .before .before .before .kept2 .ensures) at (v .ensures .0)) (getD (w .machines) (x .first) noMach) (getD (w .machines) (x .second) noMach)
-    (parts-ready (a .t2) (a .c) (a .labels) (h .r) t (h .ws) (h .ws) w (e .1)) in
+    (parts-ready (a .t2) (a .c) (a .labels) (h .r) t (h .ws) (h .ws) w (e .sound)) in
     let rest = drop-later (h .r * share + share) (a .m * share) (v .last .0) (h .ws) (next-share (h .r) (a .m) share l) (v .ensures .1 .high) ∙ h .inv .rest in (
       made-over (a .t2) (a .c) (a .labels) (h .r) (a .m) (machines (h .counts) (h .accepts) (h .looks) (Over (h .r))) (v .last .0) l refl
           (over-next (a .t2) (a .c) (a .labels) (h .r) t (h .ws) (v .last .0) w (v .result) added (c .if1 .taken)),
@@ -122,13 +122,13 @@ loop-again c =
     let w = h .inv .ready in
     let e = s .pre .1 (h .r) l in
     let added = (rw (c .before .before .before .before .before .before .before .before .before .before .before .kept .ensures, c .before .before .before .before .before .before .kept2 .ensures) at (v .ensures .0)) (getD (w .machines) (x .first) noMach) (getD (w .machines) (x .second) noMach)
-    (parts-ready (a .t2) (a .c) (a .labels) (h .r) t (h .ws) (h .ws) w (e .1)) in
+    (parts-ready (a .t2) (a .c) (a .labels) (h .r) t (h .ws) (h .ws) w (e .sound)) in
     let rest = drop-later (h .r * share + share) (a .m * share) (v .last .0) (h .ws) (next-share (h .r) (a .m) share l) (v .ensures .1 .high) ∙ h .inv .rest in
     record {
       within = omega (arith, l);
       long = v .kept .0 ∙ h .inv .long;
       wide = wide-next t (h .r) (v .result) (h .inv .wide);
-      ready = ready-next (a .t2) (a .c) (a .labels) (h .r) t (h .ws) (v .last .0) w (v .result) added (h .inv .wide) (e .0 .here-in) (omega arith) (v .ensures .1);
+      ready = ready-next (a .t2) (a .c) (a .labels) (h .r) t (h .ws) (v .last .0) w (v .result) added (h .inv .wide) (omega (arith, l, s .pre .0 .1)) (omega arith) (v .ensures .1);
       rest = rest;
     }
 
