@@ -61,12 +61,14 @@ module _ {k : ℕ} (n : ℕ) where
 
   pub build-alike : (d : ℕ) (M : Machine k ℕ) → Bounded n d M → Alike n ((build n d M) .machine) M
   unfolding build
-  build-alike d M B = numbered-alike M (reach M (below (2 ^ n)) d) (reach-start M (below (2 ^ n)) d (bound n d M B)) (reach-closed M (below (2 ^ n)) d (bound n d M B))
+  build-alike d M B =
+      numbered-alike M (reach M (below (2 ^ n)) d) (reach-start M (below (2 ^ n)) d (bound n d M B)) (reach-closed M (below (2 ^ n)) d (bound n d M B))
 
   -- pairs
   module _ (op : Bool → Bool → Bool) (c d : ℕ) (M N : Machine k ℕ) (BM : Bounded n c M) (BN : Bounded n d N) where
     pair-run : (t : Tree k) → Proper n t
-        → (run (codedProduct op d M N) t / d ≡ run M t) × (run (codedProduct op d M N) t % d ≡ run N t) × (run (codedProduct op d M N) t ≡ run M t * d + run N t)
+        → (run (codedProduct op d M N) t / d ≡ run M t) × (run (codedProduct op d M N) t % d ≡ run N t) ×
+        (run (codedProduct op d M N) t ≡ run M t * d + run N t)
     pair-run t o =
         let w = run-simulates n (codedProduct op d M N) (product op M N) (Codes n op c d M N BM BN) (product-simulates n op c d M N BM BN) t o in
         let e = run-product op M N t in
@@ -75,7 +77,8 @@ module _ {k : ℕ} (n : ℕ) where
         (p, q, sym (div-add-mod' (run (codedProduct op d M N) t) d) ∙ ap₂ (λ (x y : ℕ). x * d + y) p q)
 
     -- the pair machine tells two trees apart exactly if one of its parts does
-    pub product-kernel : (t u : Tree k) → Proper n t → Proper n u → (run (codedProduct op d M N) t ≡ run (codedProduct op d M N) u) ↔ ((run M t ≡ run M u) × (run N t ≡ run N u))
+    pub product-kernel : (t u : Tree k) → Proper n t → Proper n u
+        → (run (codedProduct op d M N) t ≡ run (codedProduct op d M N) u) ↔ ((run M t ≡ run M u) × (run N t ≡ run N u))
     product-kernel t u o o′ =
         let x = pair-run t o in let y = pair-run u o′ in (
           (λ e. (sym (x .0) ∙ ap (λ (q : ℕ). q / d) e ∙ y .0, sym (x .1) ∙ ap (λ (q : ℕ). q % d) e ∙ y .1)),
@@ -160,7 +163,8 @@ module _ {k : ℕ} (n : ℕ) where
     projection-kernel = sets-kernel x hx M E (λ w. w < 2 ^ c) (In n x c hx M B) (projection-projects n x c hx M B) same-set
 
   -- machines that are alike come to the same on variants
-  pub comes-alike : (x : ℕ) (M N : Machine k ℕ) → Alike n M N → (t u : Tree k) → ((q : ℕ) → Comes n x M t q → Comes n x M u q) → (q : ℕ) → Comes n x N t q → Comes n x N u q
+  pub comes-alike : (x : ℕ) (M N : Machine k ℕ) → Alike n M N → (t u : Tree k) → ((q : ℕ) → Comes n x M t q → Comes n x M u q) → (q : ℕ) → Comes n x N t q
+      → Comes n x N u q
   comes-alike x M N a t u f q w =
       let v = f (run M (w .0)) (w .0, w .1, w .2, refl) in
       (v .0, v .1, v .2, (a (v .0) (w .0) (v .2) (w .2)) .0 (v .3) ∙ w .3)

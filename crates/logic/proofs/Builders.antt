@@ -33,12 +33,14 @@ use Rattle.logic.proofs.Tables.{Valid, Right, table-right, subset-bound
 use Rattle.logic.proofs.Rules.{record-right}
 use Rattle.logic.proofs.Settle.{run-below, search-right}
 use Rattle.logic.proofs.Answers.{sought-right, decide-only, judge-judges}
-use Rattle.logic.proofs.Alike.{alike-sym, alike-trans, complement-alike, numbered-alike, build-alike, product-kernel, projection-kernel, sets-kernel, comes-alike}
+use Rattle.logic.proofs.Alike.{alike-sym, alike-trans, complement-alike, numbered-alike, build-alike, product-kernel, projection-kernel, sets-kernel}
+use Rattle.logic.proofs.Alike.{comes-alike}
 
 module _ {k : ℕ} (n : ℕ) where
   -- the machines of the atoms
   of-built : (f : Formula k) (d : ℕ) (M : Machine k ℕ) → Bounded n d M → Decides n M f → table n f ≡ build n d M → MachineOf n f M
-  of-built f d M B D e = record { decides = D; alike = subst (λ (a : Table k). Alike n M (a .machine)) (sym e) (alike-sym n ((build n d M) .machine) M (build-alike n d M B)) }
+  of-built f d M B D e =
+      record { decides = D; alike = subst (λ (a : Table k). Alike n M (a .machine)) (sym e) (alike-sym n ((build n d M) .machine) M (build-alike n d M B)) }
 
   pub of-subset : (x y : ℕ) → x < n → y < n → MachineOf {k = k} n (subset x y) (subsetMachine n x y)
   unfolding table
@@ -62,7 +64,8 @@ module _ {k : ℕ} (n : ℕ) where
   of-negation f M m = record {
     decides = decides-negation n M f (m .decides);
     alike = alike-trans n (complement M) M (complement ((table n f) .machine)) (complement-alike n M)
-        (alike-trans n M ((table n f) .machine) (complement ((table n f) .machine)) (m .alike) (alike-sym n (complement ((table n f) .machine)) ((table n f) .machine) (complement-alike n ((table n f) .machine))));
+        (alike-trans n M ((table n f) .machine) (complement ((table n f) .machine)) (m .alike)
+        (alike-sym n (complement ((table n f) .machine)) ((table n f) .machine) (complement-alike n ((table n f) .machine))));
   }
 
   -- a machine that behaves as another does, where R relates one state to one state
@@ -157,7 +160,8 @@ module _ {k : ℕ} (n : ℕ) where
     pub full-numbered : Full n (length L) (numbered M L)
     full-numbered = (
       numbered-bounded n M L (v .begins) (v .closed),
-      λ q h. subst (λ (z : ℕ). Reached (numbered M L) (below (2 ^ n)) z) (position-getD L (v .distinct) q h) (renumbered (getD L q 0) (v .only (getD L q 0) (getD-elem L q h))),
+      λ q h. subst (λ (z : ℕ). Reached (numbered M L) (below (2 ^ n)) z) (position-getD L (v .distinct) q h)
+          (renumbered (getD L q 0) (v .only (getD L q 0) (getD-elem L q h))),
     )
 
   -- a table that does the same at its own states will do
@@ -197,7 +201,8 @@ module _ {k : ℕ} (n d : ℕ) (M N : Machine k ℕ) (a : Alike n M N) (F : Full
   -- c different states of M: N has at least c states
   spread : (c : ℕ) (g : ℕ → ℕ) → ((i : ℕ) → i < c → Reached M (below (2 ^ n)) (g i)) → ((i j : ℕ) → i < j → j < c → g i ≡ g j → ⊥) → c ≤ d
   spread c g r apart =
-      let w = choose c (λ i q. (u : Tree k) × Proper n u × (run M u ≡ g i) × (run N u ≡ q)) (λ i h. let t = reached-tree n M (g i) (r i h) in (run N (t .0), (t .0, t .1, t .2, refl))) in
+      let w = choose c (λ i q. (u : Tree k) × Proper n u × (run M u ≡ g i) × (run N u ≡ q))
+      (λ i h. let t = reached-tree n M (g i) (r i h) in (run N (t .0), (t .0, t .1, t .2, refl))) in
       pigeon d c (w .0)
       (λ i h. let t = w .1 i h in subst (λ (z : ℕ). z < d) (t .3) (run-below n d N F (t .0) (t .1)))
       (λ i j h l e. let t = w .1 i (omega arith) in let u = w .1 j l in
@@ -226,7 +231,8 @@ module _ (k n : ℕ) (rs : List Record) (ok : Accepted k n rs) where
     over-any c L D u l = let a = at-least n (statesAt k n rs r) M ((table n (formulaAt rs r)) .machine) (m .alike) (right .0, right .2) L D u in omega arith
 
     -- the same by index
-    pub over-index : (c many : ℕ) (g : ℕ → ℕ) → ((i : ℕ) → i < many → Reached M (below (2 ^ n)) (g i)) → ((i j : ℕ) → i < j → j < many → g i ≡ g j → ⊥) → c < many → c < statesAt k n rs r
+    pub over-index : (c many : ℕ) (g : ℕ → ℕ) → ((i : ℕ) → i < many → Reached M (below (2 ^ n)) (g i)) → ((i j : ℕ) → i < j → j < many → g i ≡ g j → ⊥)
+        → c < many → c < statesAt k n rs r
     over-index c many g u apart l =
         let a = spread n (statesAt k n rs r) M ((table n (formulaAt rs r)) .machine) (m .alike) (right .0, right .2) many g u apart in omega arith
 
@@ -237,7 +243,8 @@ module _ (k n : ℕ) (rs : List Record) (ok : Accepted k n rs) where
       let e : q ≡ statesAt k n rs (lastOf rs) = states-any (lastOf rs) (let h = ok .0 in omega arith) M m q F in
       decide-only k n rs c P ok (report q (search (2 ^ n) (record { count = q; machine = M }) P))
       (subst (λ (z : ℕ). Answers n rs c P z (report q (search (2 ^ n) (record { count = q; machine = M }) P))) e
-      (sought-right k n rs c P R M (m .decides) q (search (2 ^ n) (record { count = q; machine = M }) P) (search-right n (record { count = q; machine = M }) F P)))
+      (sought-right k n rs c P R M (m .decides) q (search (2 ^ n) (record { count = q; machine = M }) P)
+      (search-right n (record { count = q; machine = M }) F P)))
 
   pub judge-any : (c : ℕ) → Roomy k n rs c → (M : Machine k ℕ) → MachineOf n (formulaAt rs (lastOf rs)) M → (t : Tree k) (A : Assignment k) → TreeOf n A t
       → say (M .accepting (run M t)) ≡ judgeOf n rs c t

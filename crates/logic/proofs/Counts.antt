@@ -24,7 +24,8 @@ unfolding Distinct position
 position-getD [] d i h = absurd (not-suc-le-zero h)
 position-getD (r ∷ L) d zero h = rw (T→true (eqb r r) (eqb-refl r)) refl
 position-getD (r ∷ L) d (suc i) h =
-    let e : eqb (getD L i 0) r ≡ false = false-of (eqb (getD L i 0) r) (λ t. d .0 (subst (λ (z : ℕ). T (elem z L)) (eqb→eq (getD L i 0) r t) (getD-elem L i (le-of-suc-le-suc h)))) in
+    let e : eqb (getD L i 0) r ≡ false = false-of (eqb (getD L i 0) r)
+    (λ t. d .0 (subst (λ (z : ℕ). T (elem z L)) (eqb→eq (getD L i 0) r t) (getD-elem L i (le-of-suc-le-suc h)))) in
     rw e (ap suc (position-getD L (d .1) i (le-of-suc-le-suc h)))
 
 -- ---- lists by index

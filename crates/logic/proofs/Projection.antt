@@ -37,10 +37,12 @@ any-elem g (r ∷ L) =
 pub one-of : (n x l l′ : ℕ) → T (elem l′ (withBit n x false l ∷ withBit n x true l ∷ [])) → (v : Bool) × (l′ ≡ withBit n x v l)
 unfolding elem
 one-of n x l l′ t =
-    ⊎-elim (λ e. (false, e)) (λ u. ⊎-elim (λ e. (true, e)) (λ z. absurd z) ((elem-cons l′ (withBit n x true l) []) .0 u)) ((elem-cons l′ (withBit n x false l) (withBit n x true l ∷ [])) .0 t)
+    ⊎-elim (λ e. (false, e)) (λ u. ⊎-elim (λ e. (true, e)) (λ z. absurd z) ((elem-cons l′ (withBit n x true l) []) .0 u))
+    ((elem-cons l′ (withBit n x false l) (withBit n x true l ∷ [])) .0 t)
 
 in-two : (n x l : ℕ) (v : Bool) → T (elem (withBit n x v l) (withBit n x false l ∷ withBit n x true l ∷ []))
-in-two n x l true = (elem-cons (withBit n x true l) (withBit n x false l) (withBit n x true l ∷ [])) .1 (inr ((elem-cons (withBit n x true l) (withBit n x true l) []) .1 (inl refl)))
+in-two n x l true = (elem-cons (withBit n x true l) (withBit n x false l) (withBit n x true l ∷ [])) .1
+    (inr ((elem-cons (withBit n x true l) (withBit n x true l) []) .1 (inl refl)))
 in-two n x l false = (elem-cons (withBit n x false l) (withBit n x false l) (withBit n x true l ∷ [])) .1 (inl refl)
 
 module _ {k : ℕ} (n x c : ℕ) (hx : x < n) (M : Machine k ℕ) (B : Bounded n c M) where
@@ -58,7 +60,8 @@ module _ {k : ℕ} (n x c : ℕ) (hx : x < n) (M : Machine k ℕ) (B : Bounded n
   of-blank q (grown v s h) = stepped (withBit n x v 0) (in-two n x 0 v) s (λ b. of-blank (s b) (h b))
 
   pub blank-bound : (q : ℕ) → Reached M blanks q → q < c
-  blank-bound q r = reached-bound n c M blanks B (λ l t. let w = one-of n x 0 l t in subst (λ (z : ℕ). z < 2 ^ n) (sym (w .1)) (put-lt n x (w .0) 0 hx (pow-pos n))) q r
+  blank-bound q r =
+      reached-bound n c M blanks B (λ l t. let w = one-of n x 0 l t in subst (λ (z : ℕ). z < 2 ^ n) (sym (w .1)) (put-lt n x (w .0) 0 hx (pow-pos n))) q r
 
   abbrev pub In : ℕ → ℕ → Type 0
   In w q = (q < c) × T (low w q)

@@ -53,7 +53,8 @@ module _ {k : ℕ} (n : ℕ) where
   child-lt i true true s = omega arith
   child-lt i true false s = cond-lt (idle s) 1 3 4 (omega arith) (omega arith)
   child-lt i false true s = cond-lt (alone 1 s i) 2 3 4 (omega arith) (omega arith)
-  child-lt i false false s = cond-lt (idle s) 0 (cond (anyOf (alone 2 s) (branches k)) 2 3) 4 (omega arith) (cond-lt (anyOf (alone 2 s) (branches k)) 2 3 4 (omega arith) (omega arith))
+  child-lt i false false s = cond-lt (idle s) 0 (cond (anyOf (alone 2 s) (branches k)) 2 3) 4 (omega arith)
+      (cond-lt (anyOf (alone 2 s) (branches k)) 2 3 4 (omega arith) (omega arith))
 
   pub successor-bounded : (i : Branch k) (x y : ℕ) → Bounded {k = k} n 4 (successorMachine n i x y)
   successor-bounded i x y = (omega arith, λ l h s u. child-lt i (bit n l x) (bit n l y) s)
@@ -97,8 +98,10 @@ module _ {k : ℕ} (n : ℕ) where
       → Decides n (product op (a .machine) (b .machine)) f → Right f (productTable n op a b)
   unfolding productTable
   pair-right op f a b A B D =
-      build-right f (a .count * b .count) (codedProduct op (b .count) (a .machine) (b .machine)) (product-bounded op (a .count) (b .count) (a .machine) (b .machine) A B)
-      (decides-simulated n (codedProduct op (b .count) (a .machine) (b .machine)) (product op (a .machine) (b .machine)) (Codes op (a .count) (b .count) (a .machine) (b .machine) A B)
+      build-right f (a .count * b .count) (codedProduct op (b .count) (a .machine) (b .machine))
+      (product-bounded op (a .count) (b .count) (a .machine) (b .machine) A B)
+      (decides-simulated n (codedProduct op (b .count) (a .machine) (b .machine)) (product op (a .machine) (b .machine))
+      (Codes op (a .count) (b .count) (a .machine) (b .machine) A B)
       (product-simulates op (a .count) (b .count) (a .machine) (b .machine) A B) f D)
 
   flip-reached : (M : Machine k ℕ) (ls : List ℕ) (q : ℕ) → Reached M ls q → Reached (complement M) ls q
@@ -113,22 +116,26 @@ module _ {k : ℕ} (n : ℕ) where
   unfolding projectionTable
   projection-right x f a hx r =
       build-right (exists x f) (2 ^ a .count) (projection n x (a .count) (a .machine)) (projection-bounded n x (a .count) hx (a .machine) (r .0))
-      (decides-exists n x hx (a .machine) (projection n x (a .count) (a .machine)) (λ w. w < 2 ^ a .count) (In n x (a .count) hx (a .machine) (r .0)) (projection-projects n x (a .count) hx (a .machine) (r .0)) f (r .1))
+      (decides-exists n x hx (a .machine) (projection n x (a .count) (a .machine)) (λ w. w < 2 ^ a .count) (In n x (a .count) hx (a .machine) (r .0))
+      (projection-projects n x (a .count) hx (a .machine) (r .0)) f (r .1))
 
   -- THE THEOREM: the machine of a formula accepts a tree exactly if the formula holds for the assignment
   pub table-right : (f : Formula k) → Valid n f → Right f (table n f)
   unfolding table Valid
   table-right (subset x y) v = build-right (subset x y) 2 (subsetMachine n x y) (subset-bounded x y) (decides-subset n x y (v .0) (v .1))
   table-right (singleton x) v = build-right (singleton x) 3 (singletonMachine n x) (singleton-bounded x) (decides-singleton n x v)
-  table-right (successor i x y) v = build-right (successor i x y) 4 (successorMachine n i x y) (successor-bounded i x y) (decides-successor n x y i (v .0) (v .1))
+  table-right (successor i x y) v =
+      build-right (successor i x y) 4 (successorMachine n i x y) (successor-bounded i x y) (decides-successor n x y i (v .0) (v .1))
   table-right (root x) v = build-right (root x) 3 (rootMachine n x) (root-bounded x) (decides-root n x v)
   table-right (negation f) v = flip-right f (table n f) (table-right f v)
   table-right (disjunction f g) v =
       let r = table-right f (v .0) in let q = table-right g (v .1) in
-      pair-right _||_ (disjunction f g) (table n f) (table n g) (r .0) (q .0) (decides-disjunction n ((table n f) .machine) f (r .1) ((table n g) .machine) g (q .1))
+      pair-right _||_ (disjunction f g) (table n f) (table n g) (r .0) (q .0)
+      (decides-disjunction n ((table n f) .machine) f (r .1) ((table n g) .machine) g (q .1))
   table-right (conjunction f g) v =
       let r = table-right f (v .0) in let q = table-right g (v .1) in
-      pair-right _&&_ (conjunction f g) (table n f) (table n g) (r .0) (q .0) (decides-conjunction n ((table n f) .machine) f (r .1) ((table n g) .machine) g (q .1))
+      pair-right _&&_ (conjunction f g) (table n f) (table n g) (r .0) (q .0)
+      (decides-conjunction n ((table n f) .machine) f (r .1) ((table n g) .machine) g (q .1))
   table-right (exists x f) v = projection-right x f (table n f) (v .0) (table-right f (v .1))
 
 -- state 0 is the state of the empty tree

@@ -142,7 +142,8 @@ loop-again c =
     let wh = c .before .before .before .before .before .before .before .before .before .before .before .before .before .before .before .before .before .pre in
     let new = c .before .before .before .before .before .before .before .if2 .left in
     let q = round-target wh (loop .inv) more (scan .ensures) new (wide .ensures) (wide2 .ensures) (cell .ensures) in
-    round-more wh (loop .inv) more (scan .ensures) new q (c .before .before .narrow .ensures) (c .before .before .before .before .before .before .if3 .left) (c .if4 .left)
+    let light = c .before .before .before .before .before .before .if3 .left in
+    round-more wh (loop .inv) more (scan .ensures) new q (c .before .before .narrow .ensures) light (c .if4 .left)
 
 returns-5 : tie.Need-returns-5 Inv-loop μ-loop
 returns-5 c =
