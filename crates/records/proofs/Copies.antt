@@ -12,6 +12,7 @@ use lib.Arith.{digits-lt}
 use lib.ListN.{length, getD, set}
 use lib.Seq.{getD-drop, getD-set-same, getD-set-other, drop-set-lt}
 use native.Mathlib.Decide.{ℕ-discrete, decLt}
+use Rattle.table.specs.Succ.{looksOf}
 use Rattle.table.specs.Entry.{entry, addr, seen}
 use Rattle.records.specs.Machine.{othersOf, Holds}
 use Rattle.records.specs.Rule.{Mach, complementOf, machineOf, OfParts, Stored, PartsStored, Added, Spared}
@@ -154,6 +155,10 @@ module _ (x : Decoded) (r c labels : ℕ) (kf kg : Summary) (ws : List ℕ) (f g
   unfolding machineOf
   made = rw is-not refl
 
+  looks-not : kf .looks ≡ looksOf (x .kind) (x .wx) (x .wy) (kf .looks) (kg .looks)
+  unfolding looksOf
+  looks-not = rw is-not refl
+
   module _ (ws′ : List ℕ) (k : Summary) (copied : TableCopied ws ws′ (x .first * share) (r * share) c (kf .looks) (kf .count) labels) where
     holds : Holds ws′ c labels (r * share) (kf .looks) (length (f .codes)) (f .step)
     unfolding entry
@@ -162,9 +167,10 @@ module _ (x : Decoded) (r c labels : ℕ) (kf kg : Summary) (ws : List ℕ) (f g
         let old = part .holds l i j hl hi hj in
         (copied .there (seen b l) i j (omega (arith, seen-le b l)) (omega (arith, seen-seen b l)) (omega (arith, part .count)) (omega (arith, part .count)) ∙ old .0, old .1)
 
-    pub added-not : k .count ≡ kf .count → k .accept ≡ othersOf (kf .accept) (kf .count) → k .looks ≡ kf .looks → Added x c labels r f g k ws ws′
+    pub added-not : k .count ≡ kf .count → k .accept ≡ othersOf (kf .accept) (kf .count) → k .looks ≡ kf .looks → Added x c labels r kf kg f g k ws ws′
     added-not ec ea el = record {
       many = λ h. absurd (omega (arith, few-part));
+      looks = λ _. el ∙ looks-not;
       few = λ _. (
         complementOf f,
         made,

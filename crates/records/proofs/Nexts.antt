@@ -99,7 +99,7 @@ module _ (xs : List Decoded) (c labels r : ℕ) (t : Machines) (ws ws′ : List 
   unfolding after
   next-is o e = upto-next xs c labels r ∙ ap (after c labels r x) (w .is) ∙ ap (more r (w .machines)) e
 
-  module _ (k : Summary) (added : Added x c labels r f g k ws ws′) where
+  module _ (k : Summary) (added : Added x c labels r (entryOf t (x .first)) (entryOf t (x .second)) f g k ws ws′) where
     pub ready-next : Wide t → r < 128 → k .count ≤ c → Spared c labels r ws ws′ → AllStored xs c labels (r + 1) (withNext t r k) ws′
     ready-next wide hr few sp = record {
       machines = w .machines ++ (new ∷ []);

@@ -228,8 +228,8 @@ module _ (x : Decoded) (r c labels : ℕ) (kf kg : Summary) (ws : List ℕ) (f g
     unfolding machineOf
     made o e = rw explored (ap (numberedBy (machFrom x f g)) (sym (same .codes) ∙ sym from-tables ∙ e))
 
-    pub added-many : c < b .count → Added x c labels r f g k ws ws′
-    added-many h = record { many = λ _. made none (rw (lt-leb (b .count) c h)); few = λ l. absurd (omega arith) }
+    pub added-many : c < b .count → Added x c labels r kf kg f g k ws ws′
+    added-many h = record { many = λ _. made none (rw (lt-leb (b .count) c h)); few = λ l. absurd (omega arith); looks = λ l. absurd (omega arith) }
 
     module _ (full : length (b .codes) ≡ 64) (few : b .count ≤ c) where
       abbrev cs : List ℕ
@@ -256,9 +256,10 @@ module _ (x : Decoded) (r c labels : ℕ) (kf kg : Summary) (ws : List ℕ) (f g
           let eq = alike ∙ same .steps cs (sym from-tables ∙ is-cs) l i j hl hi hj in
           (cell .3 ∙ eq, subst (λ (n : ℕ). n < length cs) eq (cell .2 .2))
 
-      pub added-few : k .accept ≡ acceptOf (x .kind) (kf .accept) (kg .accept) cs → k .looks ≡ plan .looks → Added x c labels r f g k ws ws′
+      pub added-few : k .accept ≡ acceptOf (x .kind) (kf .accept) (kg .accept) cs → k .looks ≡ plan .looks → Added x c labels r kf kg f g k ws ws′
       added-few ea el = record {
         many = λ h. absurd (omega arith);
+        looks = λ _. el;
         few = λ _. (
           machFrom x f g cs,
           made (some cs) is-cs,

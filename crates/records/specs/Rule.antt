@@ -161,14 +161,16 @@ pub record Placed (c labels r : ℕ) (m : Mach) (k : Summary) (ws ws′ : List �
   pub stored : Stored c labels (r * (labels * c * c)) m k ws′
   pub bytes : ShareBytes c labels (r * (labels * c * c)) m (k .looks) ws ws′
 
--- record r's machine, from the parts' machines f and g, has too many states or is placed in the record's share
-pub record Added (x : Decoded) (c labels r : ℕ) (f g : Mach) (k : Summary) (ws ws′ : List ℕ) : Type 0 where
+-- record r's machine, from the parts' machines f and g, of which kf and kg are kept, has too many states; or it is placed in the record's
+-- share, and looks at the bits that its kind and its parts give
+pub record Added (x : Decoded) (c labels r : ℕ) (kf kg : Summary) (f g : Mach) (k : Summary) (ws ws′ : List ℕ) : Type 0 where
   pub many : c < k .count → machineOf c labels x f g ≡ none
   pub few : k .count ≤ c → (m : Mach) × (machineOf c labels x f g ≡ some m) × Placed c labels r m k ws ws′
+  pub looks : k .count ≤ c → k .looks ≡ looksOf (x .kind) (x .wx) (x .wy) (kf .looks) (kg .looks)
 
 -- whatever machines of the parts are stored
 abbrev pub Adds : Decoded → ℕ → ℕ → ℕ → Summary → Summary → Summary → List ℕ → List ℕ → Type 0
-Adds x c labels r kf kg k ws ws′ = (f g : Mach) → PartsStored x c labels kf kg ws f g → Added x c labels r f g k ws ws′
+Adds x c labels r kf kg k ws ws′ = (f g : Mach) → PartsStored x c labels kf kg ws f g → Added x c labels r kf kg f g k ws ws′
 
 -- nothing but record r's share is changed
 pub record Spared (c labels r : ℕ) (ws ws′ : List ℕ) : Type 0 where
