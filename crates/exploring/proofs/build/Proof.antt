@@ -95,14 +95,5 @@ pub build-spec : {M : Type 1} → statement M
 build-spec =
     tie.close
     (tie.spec
-    Inv-loop
-    μ-loop
-    loop-holds
-    (λ c. c .before .before .before .before .loop .inv .1)
-    returns
-    visit-ring-requires
-    add-k
-    loop-less
-    loop-again
-    (λ c. c .before .before .loop .inv .1)
-    returns-2)
+    Inv-loop μ-loop loop-holds (λ c. c .before .before .before .before .loop .inv .1) returns visit-ring-requires add-k loop-less loop-again
+    (λ c. c .before .before .loop .inv .1) returns-2)

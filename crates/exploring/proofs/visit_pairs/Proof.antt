@@ -181,19 +181,5 @@ pub visit-pairs-spec : {M : Type 1} → statement M
 visit-pairs-spec =
     tie.close
     (tie.spec
-    Inv-loop
-    μ-loop
-    loop-holds
-    mul-x
-    element-copy-out-x
-    note-requires
-    put-requires
-    mul-y
-    element-copy-out-y
-    note-requires-2
-    put-requires-2
-    add-i
-    loop-less
-    loop-again
-    (λ c. c .before .loop .inv .1)
-    returns)
+    Inv-loop μ-loop loop-holds mul-x element-copy-out-x note-requires put-requires mul-y element-copy-out-y note-requires-2 put-requires-2
+    add-i loop-less loop-again (λ c. c .before .loop .inv .1) returns)

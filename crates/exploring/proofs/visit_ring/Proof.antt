@@ -145,17 +145,6 @@ pub visit-ring-spec : {M : Type 1} → statement M
 visit-ring-spec =
     tie.close
     (tie.spec
-    Inv-loop
-    μ-loop
-    loop-holds
-    (λ c. c .before .before .loop .inv .1)
-    returns
-    slice-reshare-prefix-rows-of
-    slice-aggregate-rows-of
-    rows-of-requires
-    visit-pairs-requires
-    add-l
-    (λ c. omega (arith, c .before .before .loop-test .taken))
-    loop-again
-    (λ c. c .before .loop .inv .1)
-    returns-2)
+    Inv-loop μ-loop loop-holds (λ c. c .before .before .loop .inv .1) returns slice-reshare-prefix-rows-of slice-aggregate-rows-of
+    rows-of-requires visit-pairs-requires add-l (λ c. omega (arith, c .before .before .loop-test .taken)) loop-again
+    (λ c. c .before .loop .inv .1) returns-2)

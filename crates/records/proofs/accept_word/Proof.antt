@@ -59,14 +59,5 @@ pub accept-word-spec : {M : Type 1} → statement M
 accept-word-spec =
     tie.close
     (tie.spec
-    Inv-loop
-    μ-loop
-    (λ c. (omega arith, omega arith, omega arith, λ q. rw (le-ltb q 0 (omega arith)) (mem-zero q)))
-    (λ c. search needs)
-    (λ c. search needs)
-    (λ c κs. search needs)
-    (λ c κs. search needs)
-    (λ c. search needs)
-    (λ c. search needs)
-    loop-again
-    returns)
+    Inv-loop μ-loop (λ c. (omega arith, omega arith, omega arith, λ q. rw (le-ltb q 0 (omega arith)) (mem-zero q))) (λ c. search needs)
+    (λ c. search needs) (λ c κs. search needs) (λ c κs. search needs) (λ c. search needs) (λ c. search needs) loop-again returns)

@@ -143,25 +143,6 @@ pub build-all-spec : {M : Type 1} → statement M
 build-all-spec =
     tie.close
     (tie.spec
-    Inv-loop
-    μ-loop
-    loop-holds
-    (λ c. search needs)
-    (λ c. search needs)
-    (λ c. search needs)
-    kept-requires
-    (λ c. search needs)
-    kept-requires-2
-    build-next-requires
-    (λ c. search needs)
-    same-length
-    returns
-    array-write-counts
-    mul-accepts
-    array-write-accepts
-    array-write-looks
-    add-r
-    loop-less
-    loop-again
-    (λ c. c .before .loop .inv .long)
-    returns-2)
+    Inv-loop μ-loop loop-holds (λ c. search needs) (λ c. search needs) (λ c. search needs) kept-requires (λ c. search needs) kept-requires-2
+    build-next-requires (λ c. search needs) same-length returns array-write-counts mul-accepts array-write-accepts array-write-looks add-r
+    loop-less loop-again (λ c. c .before .loop .inv .long) returns-2)

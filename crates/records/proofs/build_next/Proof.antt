@@ -33,10 +33,5 @@ pub build-next-spec : {M : Type 1} → statement M
 build-next-spec =
     tie.close
     (tie.spec
-    (λ c. search needs)
-    (λ c κs. search needs)
-    explore-next-requires
-    (λ c. search needs)
-    (λ c. search needs)
-    (λ c. search needs)
+    (λ c. search needs) (λ c κs. search needs) explore-next-requires (λ c. search needs) (λ c. search needs) (λ c. search needs)
     (λ c. search needs))

@@ -59,14 +59,5 @@ pub complement-next-spec : {M : Type 1} → statement M
 complement-next-spec =
     tie.close
     (tie.spec
-    (λ c. search needs)
-    (λ c. search needs)
-    (λ c. search needs)
-    mul-share
-    (λ c. search needs)
-    mul-copy-table
-    (λ c. search needs)
-    copy-table-requires
-    flipped-requires
-    (λ c. search needs)
-    returns)
+    (λ c. search needs) (λ c. search needs) (λ c. search needs) mul-share (λ c. search needs) mul-copy-table (λ c. search needs)
+    copy-table-requires flipped-requires (λ c. search needs) returns)

@@ -72,15 +72,5 @@ pub explore-next-spec : {M : Type 1} → statement M
 explore-next-spec =
     tie.close
     (tie.spec
-    (λ c. search needs)
-    (λ c. search needs)
-    (λ c κs. search needs)
-    build-plan-requires
-    cast-t19
-    (λ c. search needs)
-    returns
-    (λ c κs. search needs)
-    (λ c. search needs)
-    cast-t22
-    (λ c. search needs)
-    returns-2)
+    (λ c. search needs) (λ c. search needs) (λ c κs. search needs) build-plan-requires cast-t19 (λ c. search needs) returns
+    (λ c κs. search needs) (λ c. search needs) cast-t22 (λ c. search needs) returns-2)

@@ -5,12 +5,6 @@ use Rattle.records.proofs.Shares.{share-small, times-small}
 use Rattle.records.proofs.plan_of.Statement.{statement}
 use Rattle.records.proofs.plan_of.Tie as tie
 
-mul-share : tie.Need-mul-share
-mul-share c = let a = c .args in omega (arith, share-small (a .c) (a .labels) (omega arith) (omega arith))
-
-mul-share-2 : tie.Need-mul-share-2
-mul-share-2 c = let a = c .args in omega (arith, share-small (a .c) (a .labels) (omega arith) (omega arith))
-
 mul-t13 : tie.Need-mul-t13
 mul-t13 c = let a = c .before .before .before .before .args in omega (arith, times-small (a .x .first) (a .c) (a .labels) (omega arith) (omega arith) (omega arith))
 
@@ -24,14 +18,7 @@ pub plan-of-spec : {M : Type 1} → statement M
 plan-of-spec =
     tie.close
     (tie.spec
-    mul-share
-    mul-share-2
-    (λ c. search needs)
-    (λ c. search needs)
-    (λ c κs. search needs)
-    (λ c. search needs)
-    mul-t13
-    (λ c. search needs)
-    mul-t15
-    mul-t16
+    (λ c. let a = c .args in omega (arith, share-small (a .c) (a .labels) (omega arith) (omega arith)))
+    (λ c. let a = c .args in omega (arith, share-small (a .c) (a .labels) (omega arith) (omega arith))) (λ c. search needs)
+    (λ c. search needs) (λ c κs. search needs) (λ c. search needs) mul-t13 (λ c. search needs) mul-t15 mul-t16
     (λ c. rw (c .before .before .looks-of .ensures)))

@@ -29,10 +29,7 @@ loop-again c =
     ⊎-elim (λ w. (search needs, w .1 ∙ some-on accept (loop .q) _ (loop .inv .1) (w .0 .taken)))
     (λ w. (search needs, w .1 ∙ some-off accept (loop .q) _ (loop .inv .1) (w .0 .left))) (c .if1 .came)
 
-returns : tie.Need-returns Inv-loop μ-loop
-returns c = any-done _ _ _ _ (c .before .loop .inv .0) (search needs) (c .before .loop .inv .1)
-
 pub any-spec : {M : Type 1} → statement M
 any-spec =
     tie.close
-    (tie.spec Inv-loop μ-loop loop-holds (λ c. search needs) (λ c. search needs) (λ c. search needs) loop-again returns)
+    (tie.spec Inv-loop μ-loop loop-holds (λ c. search needs) (λ c. search needs) (λ c. search needs) loop-again (λ c. any-done _ _ _ _ (c .before .loop .inv .0) (search needs) (c .before .loop .inv .1)))

@@ -67,30 +67,11 @@ loop-again c =
           (c .before .before .before .before .cell .ensures) (c .consider .ensures),
     )
 
-returns : tie.Need-returns Inv-loop μ-loop
-returns c = row-done _ _ _ _ _ _ _ (c .before .loop .inv .0) (search needs) (c .before .loop .inv .1)
-
 pub row-spec : {M : Type 1} → statement M
 row-spec =
     tie.close
     (tie.spec
-    Inv-loop
-    μ-loop
-    loop-holds
-    (λ c. search needs)
-    (λ c κs. search needs)
-    (λ c. search needs)
-    (λ c κs. search needs)
-    cell-requires
-    element-copy-out-consider
-    (λ c. search needs)
-    (λ c. search needs)
-    (λ c. search needs)
-    (λ c. search needs)
-    add-consider
-    add-consider-2
-    (λ c κs. search needs)
-    (λ c. search needs)
-    (λ c. search needs)
-    loop-again
-    returns)
+    Inv-loop μ-loop loop-holds (λ c. search needs) (λ c κs. search needs) (λ c. search needs) (λ c κs. search needs) cell-requires
+    element-copy-out-consider (λ c. search needs) (λ c. search needs) (λ c. search needs) (λ c. search needs) add-consider add-consider-2
+    (λ c κs. search needs) (λ c. search needs) (λ c. search needs) loop-again
+    (λ c. row-done _ _ _ _ _ _ _ (c .before .loop .inv .0) (search needs) (c .before .loop .inv .1)))

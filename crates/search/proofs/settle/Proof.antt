@@ -156,39 +156,8 @@ pub settle-spec : {M : Type 1} → statement M
 settle-spec =
     tie.close
     (tie.spec
-    Inv-loop
-    μ-loop
-    (λ c. search needs)
-    (λ c. search needs)
-    (λ c κs. search needs)
-    returns
-    loop-holds
-    scan-requires
-    (λ c κs. search needs)
-    returns-2
-    (λ c κs. search needs)
-    returns-3
-    array-read-wide
-    (λ c κs. search needs)
-    array-read-wide-2
-    (λ c κs. search needs)
-    cell-requires
-    (λ c. search needs)
-    (λ c. search needs)
-    (λ c. search needs)
-    (λ c. search needs)
-    (λ c. search needs)
-    (λ c. search needs)
-    narrow-requires
-    (λ c. search needs)
-    (λ c. search needs)
-    (λ c. search needs)
-    array-write-done-2
-    (λ c. search needs)
-    element-copy-out-if4
-    (λ c κs. search needs)
-    returns-4
-    (λ c. search needs)
-    loop-again
-    (λ c κs. search needs)
-    returns-5)
+    Inv-loop μ-loop (λ c. search needs) (λ c. search needs) (λ c κs. search needs) returns loop-holds scan-requires (λ c κs. search needs)
+    returns-2 (λ c κs. search needs) returns-3 array-read-wide (λ c κs. search needs) array-read-wide-2 (λ c κs. search needs) cell-requires
+    (λ c. search needs) (λ c. search needs) (λ c. search needs) (λ c. search needs) (λ c. search needs) (λ c. search needs) narrow-requires
+    (λ c. search needs) (λ c. search needs) (λ c. search needs) array-write-done-2 (λ c. search needs) element-copy-out-if4
+    (λ c κs. search needs) returns-4 (λ c. search needs) loop-again (λ c κs. search needs) returns-5)

@@ -6,9 +6,6 @@ use Rattle.solver.proofs.Solving.{solve-mul}
 use Rattle.solver.proofs.last_share.Statement.{statement}
 use Rattle.solver.proofs.last_share.Tie as tie
 
-mul-result : tie.Need-mul-result
-mul-result c = let h = solve-mul (c .args .labels) (c .args .c) 256 64 (c .pre .3) (c .pre .2) in search needs
-
 mul-result-2 : tie.Need-mul-result-2
 mul-result-2 c =
     let h = solve-mul (c .args .labels) (c .args .c) 256 64 (c .pre .3) (c .pre .2) in
@@ -23,4 +20,4 @@ mul-result-3 c =
     search needs
 
 pub last-share-spec : {M : Type 1} → statement M
-last-share-spec = tie.close (tie.spec (λ c. search needs) mul-result mul-result-2 mul-result-3 (λ c. search needs))
+last-share-spec = tie.close (tie.spec (λ c. search needs) (λ c. let h = solve-mul (c .args .labels) (c .args .c) 256 64 (c .pre .3) (c .pre .2) in search needs) mul-result-2 mul-result-3 (λ c. search needs))

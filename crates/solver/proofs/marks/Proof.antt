@@ -17,9 +17,6 @@ Inv-loop w n a₀ q₀ a q = (q ≤ n) × Marking a w q
 abbrev μ-loop : tie.MeasureT-loop
 μ-loop w n a₀ q₀ a q = n - q
 
-loop-holds : tie.Need-loop-holds Inv-loop μ-loop
-loop-holds c = (omega arith, marking-first _)
-
 loop-again : tie.Need-loop-again Inv-loop μ-loop
 loop-again c =
     let loop = c .before .before .before .loop in (
@@ -30,9 +27,6 @@ loop-again c =
           (c .if1 .came),
     )
 
-returns : tie.Need-returns Inv-loop μ-loop
-returns c = marking-done _ _ _ _ (search needs) (c .before .loop .inv .1)
-
 pub marks-spec : {M : Type 1} → statement M
 marks-spec =
-    tie.close (tie.spec Inv-loop μ-loop loop-holds (λ c κs. search needs) (λ c. search needs) (λ c. search needs) (λ c. search needs) loop-again returns)
+    tie.close (tie.spec Inv-loop μ-loop (λ c. (omega arith, marking-first _)) (λ c κs. search needs) (λ c. search needs) (λ c. search needs) (λ c. search needs) loop-again (λ c. marking-done _ _ _ _ (search needs) (c .before .loop .inv .1)))

@@ -78,23 +78,6 @@ pub solve-spec : {M : Type 1} → statement M
 solve-spec =
     tie.close
     (tie.spec
-    (λ c κs. search needs)
-    (λ c. search needs)
-    (λ c. search needs)
-    (λ c. search needs)
-    (λ c. search needs)
-    (λ c. search needs)
-    (λ c. search needs)
-    (λ c. search needs)
-    (λ c. search needs)
-    (λ c. search needs)
-    marks-requires
-    (λ c κs. search needs)
-    sub-find
-    part-find-start
-    (λ c. search needs)
-    find-requires
-    (λ c. search needs)
-    returns
-    (λ c. search needs)
-    returns-2)
+    (λ c κs. search needs) (λ c. search needs) (λ c. search needs) (λ c. search needs) (λ c. search needs) (λ c. search needs)
+    (λ c. search needs) (λ c. search needs) (λ c. search needs) (λ c. search needs) marks-requires (λ c κs. search needs) sub-find
+    part-find-start (λ c. search needs) find-requires (λ c. search needs) returns (λ c. search needs) returns-2)

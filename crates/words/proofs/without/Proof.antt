@@ -5,8 +5,5 @@ use Rattle.words.proofs.Members.{member-le, shl-one, without-law}
 use Rattle.words.proofs.without.Statement.{statement}
 use Rattle.words.proofs.without.Tie as tie
 
-sub-result : tie.Need-sub-result
-sub-result c = omega (arith, member-le (c .args .q) (c .args .w) (c .pre .1), shl-one (c .args .q) (c .pre .0))
-
 pub without-spec : {M : Type 1} → statement M
-without-spec = tie.close (tie.spec (λ c. search needs) sub-result (λ c. without-law (c .args .w) (c .args .q) (c .pre .0) (c .pre .1)))
+without-spec = tie.close (tie.spec (λ c. search needs) (λ c. omega (arith, member-le (c .args .q) (c .args .w) (c .pre .1), shl-one (c .args .q) (c .pre .0))) (λ c. without-law (c .args .w) (c .args .q) (c .pre .0) (c .pre .1)))

@@ -71,18 +71,6 @@ pub conclude-spec : {M : Type 1} → statement M
 conclude-spec =
     tie.close
     (tie.spec
-    (λ c. search needs)
-    (λ c. search needs)
-    (λ c. search needs)
-    (λ c. search needs)
-    (λ c. search needs)
-    strip-bytes-requires
-    slice-relend-prefix-write-strip
-    slice-aggregate-write-strip
-    (λ c. search needs)
-    write-strip-requires
-    returns
-    returns-2
-    returns-3
-    (λ c. search needs)
-    returns-4)
+    (λ c. search needs) (λ c. search needs) (λ c. search needs) (λ c. search needs) (λ c. search needs) strip-bytes-requires
+    slice-relend-prefix-write-strip slice-aggregate-write-strip (λ c. search needs) write-strip-requires returns returns-2 returns-3
+    (λ c. search needs) returns-4)

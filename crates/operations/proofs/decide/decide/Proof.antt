@@ -29,11 +29,5 @@ pub decide-spec : {M : Type 1} → statement M
 decide-spec =
     tie.close
     (tie.spec
-    (λ c κs. search needs)
-    (λ c. search needs)
-    (λ c. search needs)
-    decide-accepted-requires
-    returns
-    (λ c. search needs)
-    (λ c. search needs)
+    (λ c κs. search needs) (λ c. search needs) (λ c. search needs) decide-accepted-requires returns (λ c. search needs) (λ c. search needs)
     returns-2)

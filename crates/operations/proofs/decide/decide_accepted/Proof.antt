@@ -54,10 +54,4 @@ pub decide-accepted-spec : {M : Type 1} → statement M
 decide-accepted-spec =
     tie.close
     (tie.spec
-    room-refusal-requires
-    returns
-    solve-rule-requires
-    conclude-requires
-    (λ c. search needs)
-    (λ c. search needs)
-    returns-2)
+    room-refusal-requires returns solve-rule-requires conclude-requires (λ c. search needs) (λ c. search needs) returns-2)

@@ -5,12 +5,6 @@ use borrow.Author.Needs.{needs}
 use Rattle.operations.proofs.decide.room_refusal.Statement.{statement}
 use Rattle.operations.proofs.decide.room_refusal.Tie as tie
 
-returns : tie.Need-returns
-returns c = room-places _ _ _ _ _ _ (c .if1 .taken)
-
-returns-2 : tie.Need-returns-2
-returns-2 c = room-work _ _ _ _ _ _ (search needs) _ (c .before .work-refusal .ensures) (c .if2 .taken)
-
 returns-3 : tie.Need-returns-3
 returns-3 c = room-short _ _ _ _ _ _ (search needs) _ (c .before .before .before .work-refusal .ensures) (search needs)
     (omega arith)
@@ -22,4 +16,4 @@ returns-4 c = room-fits _ _ _ _ _ _ (search needs) _ (c .before .before .before 
 pub room-refusal-spec : {M : Type 1} → statement M
 room-refusal-spec =
     tie.close
-    (tie.spec returns (λ c κs. search needs) returns-2 (λ c κs. search needs) returns-3 returns-4)
+    (tie.spec (λ c. room-places _ _ _ _ _ _ (c .if1 .taken)) (λ c κs. search needs) (λ c. room-work _ _ _ _ _ _ (search needs) _ (c .before .work-refusal .ensures) (c .if2 .taken)) (λ c κs. search needs) returns-3 returns-4)

@@ -48,10 +48,4 @@ pub solve-rule-spec : {M : Type 1} → statement M
 solve-rule-spec =
     tie.close
     (tie.spec
-    (λ c κs. search needs)
-    labels-requires
-    solve-requires
-    needed-requires
-    (λ c κs. search needs)
-    (λ c. search needs)
-    returns)
+    (λ c κs. search needs) labels-requires solve-requires needed-requires (λ c κs. search needs) (λ c. search needs) returns)

@@ -13,9 +13,6 @@ Inv-loop s n m records₀ at₀ i₀ records at i = Decoding s n m records at i
 abbrev μ-loop : tie.MeasureT-loop
 μ-loop s n m records₀ at₀ i₀ records at i = m - i
 
-loop-holds : tie.Need-loop-holds Inv-loop μ-loop
-loop-holds c = decoding-first (c .before .before .pre) _ refl
-
 decoded-requires-2 : tie.Need-decoded-requires-2 Inv-loop μ-loop
 decoded-requires-2 c κs =
     let w = fields-byte _ _ _ (c .fields-at .ensures) in
@@ -27,23 +24,10 @@ loop-again c =
     let a = b .before .before .before in
     decoding-next (a .pre) (b .loop .inv) (search needs) (c .before .fields-at .ensures) (c .decoded2 .ensures)
 
-returns : tie.Need-returns Inv-loop μ-loop
-returns c = decoding-last (c .before .loop .inv) (search needs)
-
 pub decode-spec : {M : Type 1} → statement M
 decode-spec =
     tie.close
     (tie.spec
-    Inv-loop
-    μ-loop
-    (λ c κs. search needs)
-    loop-holds
-    (λ c κs. (omega arith, omega arith))
-    decoded-requires-2
-    (λ c. search needs)
-    (λ c. search needs)
-    (λ c. omega arith)
-    (λ c. search needs)
-    (λ c. search needs)
-    loop-again
-    returns)
+    Inv-loop μ-loop (λ c κs. search needs) (λ c. decoding-first (c .before .before .pre) _ refl) (λ c κs. (omega arith, omega arith))
+    decoded-requires-2 (λ c. search needs) (λ c. search needs) (λ c. omega arith) (λ c. search needs) (λ c. search needs) loop-again
+    (λ c. decoding-last (c .before .loop .inv) (search needs)))

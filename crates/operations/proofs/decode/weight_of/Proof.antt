@@ -18,11 +18,5 @@ shifted n x h k =
 outside : (n x : ℕ) → n ≤ x → _≡_ {A = ℕ} 1 (weight n x)
 outside n x h = let e : n - suc x ≡ 0 = omega arith in sym (ap (λ (i : ℕ). 2 ^ i) e)
 
-returns : tie.Need-returns
-returns c = shifted _ _ (c .before .pre) (c .if1 .taken)
-
-returns-2 : tie.Need-returns-2
-returns-2 c = outside _ _ (c .if1 .left)
-
 pub weight-of-spec : {M : Type 1} → statement M
-weight-of-spec = tie.close (tie.spec (λ c. search needs) (λ c. search needs) (λ c. search needs) returns returns-2)
+weight-of-spec = tie.close (tie.spec (λ c. search needs) (λ c. search needs) (λ c. search needs) (λ c. shifted _ _ (c .before .pre) (c .if1 .taken)) (λ c. outside _ _ (c .if1 .left)))

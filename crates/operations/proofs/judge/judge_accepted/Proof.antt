@@ -69,14 +69,5 @@ pub judge-accepted-spec : {M : Type 1} → statement M
 judge-accepted-spec =
     tie.close
     (tie.spec
-    work-refusal-requires
-    returns
-    (λ c κs. search needs)
-    (λ c. search needs)
-    (λ c. search needs)
-    returns-2
-    judge-rule-requires
-    (λ c κs. search needs)
-    returns-3
-    (λ c. search needs)
-    returns-4)
+    work-refusal-requires returns (λ c κs. search needs) (λ c. search needs) (λ c. search needs) returns-2 judge-rule-requires
+    (λ c κs. search needs) returns-3 (λ c. search needs) returns-4)

@@ -50,10 +50,4 @@ pub judge-rule-spec : {M : Type 1} → statement M
 judge-rule-spec =
     tie.close
     (tie.spec
-    (λ c κs. search needs)
-    labels-requires
-    judge-requires
-    needed-requires
-    (λ c κs. search needs)
-    (λ c. search needs)
-    returns)
+    (λ c κs. search needs) labels-requires judge-requires needed-requires (λ c κs. search needs) (λ c. search needs) returns)

@@ -5,8 +5,5 @@ use Rattle.operations.proofs.Rooms.{labels-is, labels-few}
 use Rattle.operations.proofs.room.labels.Statement.{statement}
 use Rattle.operations.proofs.room.labels.Tie as tie
 
-returns : tie.Need-returns
-returns c = rw (labels-is (c .args .n) (c .pre)) (refl, labels-few (c .args .n) (c .pre))
-
 pub labels-spec : {M : Type 1} → statement M
-labels-spec = tie.close (tie.spec (λ c. search needs) returns)
+labels-spec = tie.close (tie.spec (λ c. search needs) (λ c. rw (labels-is (c .args .n) (c .pre)) (refl, labels-few (c .args .n) (c .pre))))

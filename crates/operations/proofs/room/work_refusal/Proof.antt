@@ -5,17 +5,5 @@ use borrow.Author.Needs.{needs}
 use Rattle.operations.proofs.room.work_refusal.Statement.{statement}
 use Rattle.operations.proofs.room.work_refusal.Tie as tie
 
-returns : tie.Need-returns
-returns c = work-none _ _ _ _ (c .if1 .taken)
-
-returns-2 : tie.Need-returns-2
-returns-2 c = work-many _ _ _ _ (search needs) (c .if2 .taken)
-
-returns-3 : tie.Need-returns-3
-returns-3 c = work-short _ _ _ _ (search needs) (search needs) (omega arith)
-
-returns-4 : tie.Need-returns-4
-returns-4 c = work-fits _ _ _ _ (search needs) (search needs) (omega arith)
-
 pub work-refusal-spec : {M : Type 1} → statement M
-work-refusal-spec = tie.close (tie.spec returns returns-2 (λ c κs. search needs) returns-3 returns-4)
+work-refusal-spec = tie.close (tie.spec (λ c. work-none _ _ _ _ (c .if1 .taken)) (λ c. work-many _ _ _ _ (search needs) (c .if2 .taken)) (λ c κs. search needs) (λ c. work-short _ _ _ _ (search needs) (search needs) (omega arith)) (λ c. work-fits _ _ _ _ (search needs) (search needs) (omega arith)))

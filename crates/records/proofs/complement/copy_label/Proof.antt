@@ -56,15 +56,5 @@ pub copy-label-spec : {M : Type 1} → statement M
 copy-label-spec =
     tie.close
     (tie.spec
-    Inv-loop
-    μ-loop
-    loop-holds
-    (λ c κs. omega arith)
-    add-copy
-    add-copy-2
-    copy-requires
-    (λ c. omega arith)
-    (λ c. omega arith)
-    loop-again
-    (λ c. c .before .loop .inv .1)
-    returns)
+    Inv-loop μ-loop loop-holds (λ c κs. omega arith) add-copy add-copy-2 copy-requires (λ c. omega arith) (λ c. omega arith) loop-again
+    (λ c. c .before .loop .inv .1) returns)

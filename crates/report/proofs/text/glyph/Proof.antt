@@ -5,12 +5,6 @@ use borrow.Author.Needs.{needs}
 use Rattle.report.proofs.text.glyph.Statement.{statement}
 use Rattle.report.proofs.text.glyph.Tie as tie
 
-returns : tie.Need-returns
-returns c = rw (lt-ltb _ _ (c .if1 .taken)) refl
-
-returns-2 : tie.Need-returns-2
-returns-2 c = rw (le-ltb _ _ (c .if1 .left)) refl
-
 pub glyph-spec : {M : Type 1} → statement M
 glyph-spec =
-    tie.close (tie.spec (λ c. search needs) (λ c. search needs) returns (λ c. search needs) (λ c. search needs) returns-2)
+    tie.close (tie.spec (λ c. search needs) (λ c. search needs) (λ c. rw (lt-ltb _ _ (c .if1 .taken)) refl) (λ c. search needs) (λ c. search needs) (λ c. rw (le-ltb _ _ (c .if1 .left)) refl))

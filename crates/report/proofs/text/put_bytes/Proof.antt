@@ -15,9 +15,6 @@ Inv-loop line₀ at s i₀ line i = (i ≤ length s) × (length line ≡ length 
 abbrev μ-loop : tie.MeasureT-loop
 μ-loop line₀ at s i₀ line i = length s - i
 
-loop-holds : tie.Need-loop-holds Inv-loop μ-loop
-loop-holds c = (omega arith, refl, bytes-start (c .args .line .now) (c .args .at) (c .args .s .now))
-
 loop-again : tie.Need-loop-again Inv-loop μ-loop
 loop-again c =
     let h = c .before .before .loop in
@@ -34,15 +31,6 @@ pub put-bytes-spec : {M : Type 1} → statement M
 put-bytes-spec =
     tie.close
     (tie.spec
-    Inv-loop
-    μ-loop
-    loop-holds
-    (λ c. search needs)
-    (λ c. search needs)
-    (λ c. search needs)
-    (λ c. search needs)
-    (λ c. search needs)
-    loop-again
-    (λ c. search needs)
-    (λ c. search needs)
+    Inv-loop μ-loop (λ c. (omega arith, refl, bytes-start (c .args .line .now) (c .args .at) (c .args .s .now))) (λ c. search needs)
+    (λ c. search needs) (λ c. search needs) (λ c. search needs) (λ c. search needs) loop-again (λ c. search needs) (λ c. search needs)
     returns)

@@ -16,9 +16,6 @@ read s at h =
     let e : 8 * (at / 8) + at % 8 ≡ at = omega arith in
     sym (ap (λ (k : ℕ). getD (bits s) k 0) (sym e) ∙ bits-at s (at / 8) (at % 8) (omega arith) (omega arith))
 
-returns : tie.Need-returns
-returns c = (read _ _ (c .before .pre), search needs)
-
 pub bit-at-spec : {M : Type 1} → statement M
 bit-at-spec =
-    tie.close (tie.spec (λ c. search needs) (λ c. search needs) (λ c. search needs) (λ c. search needs) returns)
+    tie.close (tie.spec (λ c. search needs) (λ c. search needs) (λ c. search needs) (λ c. search needs) (λ c. (read _ _ (c .before .pre), search needs)))

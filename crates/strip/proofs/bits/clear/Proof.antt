@@ -14,17 +14,11 @@ Inv-loop d₀ n i₀ d i = (i ≤ n) × (length d ≡ length d₀) × (d ≡ rep
 abbrev μ-loop : tie.MeasureT-loop
 μ-loop d₀ n i₀ d i = n - i
 
-loop-holds : tie.Need-loop-holds Inv-loop μ-loop
-loop-holds c = (omega arith, refl, refl)
-
 loop-again : tie.Need-loop-again Inv-loop μ-loop
 loop-again c =
     let a = c .before .before .args in
     let h = c .before .loop in
     (omega arith, length-set (h .d) (h .i) 0 ∙ h .inv .1, ap (λ l. set l (h .i) 0) (h .inv .2) ∙ fill-more (h .i) 0 (a .d .now) (omega arith))
-
-same-length : tie.Need-same-length Inv-loop μ-loop
-same-length c = c .before .loop .inv .1
 
 returns : tie.Need-returns Inv-loop μ-loop
 returns c =
@@ -37,12 +31,5 @@ pub clear-spec : {M : Type 1} → statement M
 clear-spec =
     tie.close
     (tie.spec
-    Inv-loop
-    μ-loop
-    loop-holds
-    (λ c. omega arith)
-    (λ c. omega arith)
-    (λ c. omega arith)
-    loop-again
-    same-length
-    returns)
+    Inv-loop μ-loop (λ c. (omega arith, refl, refl)) (λ c. omega arith) (λ c. omega arith) (λ c. omega arith) loop-again
+    (λ c. c .before .loop .inv .1) returns)

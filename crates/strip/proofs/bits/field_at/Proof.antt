@@ -30,9 +30,6 @@ byte c k = omega (arith, c .before .before .shared-slice-known2 .given k)
 pow-is : (b : ℕ) → b ≤ 8 → (1 * 2 ^ b) % 18446744073709551616 ≡ 2 ^ b
 pow-is b h = shl-exact {a = 1} 1 b 64 (lit< tt) (omega arith) ∙ one-mul (2 ^ b)
 
-mul-result : tie.Need-mul-result
-mul-result c = omega (arith, hi-is c, byte c (c .before .before .before .before .args .at / 8))
-
 add-result : tie.Need-add-result
 add-result c =
     let a = c .before .before .before .before .before .args in
@@ -57,17 +54,6 @@ pub field-at-spec : {M : Type 1} → statement M
 field-at-spec =
     tie.close
     (tie.spec
-    (λ c. search needs)
-    (λ c κs. search needs)
-    (λ c. search needs)
-    (λ c. search needs)
-    (λ c. search needs)
-    (λ c κs. search needs)
-    mul-result
-    add-result
-    (λ c. search needs)
-    (λ c. search needs)
-    (λ c. search needs)
-    (λ c. search needs)
-    rem-result
-    returns)
+    (λ c. search needs) (λ c κs. search needs) (λ c. search needs) (λ c. search needs) (λ c. search needs) (λ c κs. search needs)
+    (λ c. omega (arith, hi-is c, byte c (c .before .before .before .before .args .at / 8))) add-result (λ c. search needs)
+    (λ c. search needs) (λ c. search needs) (λ c. search needs) rem-result returns)

@@ -9,15 +9,9 @@ use borrow.Author.Needs.{needs}
 use Rattle.strip.proofs.bits.put_bit.Statement.{statement}
 use Rattle.strip.proofs.bits.put_bit.Tie as tie
 
-returns : tie.Need-returns
-returns c = rw (c .before .before .before .before .if1 .taken) (c .before .before .set-bit .ensures)
-
 -- a place that holds x, which is 0
 kept : (l : List ℕ) (at x : ℕ) → getD l at 0 ≡ 0 → x < 2 → (x ≡ 1 → ⊥) → l ≡ set l at x
 kept l at x z h n = let e : x ≡ getD l at 0 = omega arith in rw e (sym (set-getD l at 0))
 
-returns-2 : tie.Need-returns-2
-returns-2 c = kept _ _ _ (c .before .before .pre .1 .0) (c .before .before .pre .1 .1) (c .if1 .left)
-
 pub put-bit-spec : {M : Type 1} → statement M
-put-bit-spec = tie.close (tie.spec (λ c κs. search needs) (λ c. search needs) returns returns-2)
+put-bit-spec = tie.close (tie.spec (λ c κs. search needs) (λ c. search needs) (λ c. rw (c .before .before .before .before .if1 .taken) (c .before .before .set-bit .ensures)) (λ c. kept _ _ _ (c .before .before .pre .1 .0) (c .before .before .pre .1 .1) (c .if1 .left)))

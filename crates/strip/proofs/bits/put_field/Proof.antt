@@ -16,9 +16,6 @@ Inv-loop d₀ at b v k₀ d k = (k ≤ b) × (length d ≡ length d₀) × (bits
 abbrev μ-loop : tie.MeasureT-loop
 μ-loop d₀ at b v k₀ d k = b - k
 
-loop-holds : tie.Need-loop-holds Inv-loop μ-loop
-loop-holds c = (omega arith, refl, refl)
-
 put-bit-requires : tie.Need-put-bit-requires Inv-loop μ-loop
 put-bit-requires c κs = (
   omega arith,
@@ -51,16 +48,5 @@ pub put-field-spec : {M : Type 1} → statement M
 put-field-spec =
     tie.close
     (tie.spec
-    Inv-loop
-    μ-loop
-    loop-holds
-    (λ c. omega arith)
-    (λ c. omega arith)
-    (λ c. omega arith)
-    (λ c. omega arith)
-    put-bit-requires
-    (λ c. omega arith)
-    (λ c. omega arith)
-    loop-again
-    (λ c. omega arith)
-    returns)
+    Inv-loop μ-loop (λ c. (omega arith, refl, refl)) (λ c. omega arith) (λ c. omega arith) (λ c. omega arith) (λ c. omega arith)
+    put-bit-requires (λ c. omega arith) (λ c. omega arith) loop-again (λ c. omega arith) returns)

@@ -21,9 +21,6 @@ stored d at h =
     let p = shl-exact {a = 1} 1 (7 - at % 8) 8 (lit< tt) (omega arith) ∙ one-mul (2 ^ (7 - at % 8)) in
     rw p (bits-set d (at / 8) (at % 8) (omega arith) (omega arith) ∙ ap (λ (k : ℕ). set (bits d) k 1) e)
 
-returns : tie.Need-returns
-returns c = stored _ _ (c .before .pre)
-
 pub set-bit-spec : {M : Type 1} → statement M
 set-bit-spec =
-    tie.close (tie.spec (λ c. search needs) (λ c. search needs) (λ c. search needs) (λ c. search needs) (λ c. search needs) (λ c. search needs) returns)
+    tie.close (tie.spec (λ c. search needs) (λ c. search needs) (λ c. search needs) (λ c. search needs) (λ c. search needs) (λ c. search needs) (λ c. stored _ _ (c .before .pre)))

@@ -13,33 +13,12 @@ unrefused c = sym (c .before .head-refusal .ensures) ∙ c .if1 .left
 head : (c : tie.Else1) → Head (c .before .before .before .args .s .now)
 head c = head-facts _ (unrefused c)
 
-returns : tie.Need-returns
-returns c = check-head _ _ (c .before .head-refusal .ensures) (c .if1 .taken)
-
-field-at-requires : tie.Need-field-at-requires
-field-at-requires c κs = let h = head c in omega arith
-
-field-at-requires-2 : tie.Need-field-at-requires-2
-field-at-requires-2 c κs = let h = head (c .before) in omega arith
-
-mul-any-set : tie.Need-mul-any-set
-mul-any-set c = let h = head (c .before .before) in omega arith
-
-add-any-set : tie.Need-add-any-set
-add-any-set c = let h = head (c .before .before) in omega arith
-
-any-set-requires : tie.Need-any-set-requires
-any-set-requires c κs = let h = head (c .before .before) in omega arith
-
 returns-2 : tie.Need-returns-2
 returns-2 c =
     let b = c .before .before in
     let a = b .before .before in
     check-padding _ (unrefused a) _ _ (b .before .field-at .ensures) (b .field-at2 .ensures)
     _ (c .before .any-set .ensures) (c .if2 .taken)
-
-read-records-requires : tie.Need-read-records-requires
-read-records-requires c κs = let h = head (c .before .before .before .before) in omega arith
 
 returns-3 : tie.Need-returns-3
 returns-3 c =
@@ -61,16 +40,7 @@ pub check-rule-spec : {M : Type 1} → statement M
 check-rule-spec =
     tie.close
     (tie.spec
-    (λ c κs. search needs)
-    returns
-    field-at-requires
-    field-at-requires-2
-    mul-any-set
-    add-any-set
-    any-set-requires
-    returns-2
-    read-records-requires
-    (λ c. search needs)
-    (λ c. search needs)
-    returns-3
-    returns-4)
+    (λ c κs. search needs) (λ c. check-head _ _ (c .before .head-refusal .ensures) (c .if1 .taken)) (λ c κs. let h = head c in omega arith)
+    (λ c κs. let h = head (c .before) in omega arith) (λ c. let h = head (c .before .before) in omega arith)
+    (λ c. let h = head (c .before .before) in omega arith) (λ c κs. let h = head (c .before .before) in omega arith) returns-2
+    (λ c κs. let h = head (c .before .before .before .before) in omega arith) (λ c. search needs) (λ c. search needs) returns-3 returns-4)

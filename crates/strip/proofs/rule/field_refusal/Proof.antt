@@ -8,8 +8,5 @@ use Rattle.strip.proofs.rule.field_refusal.Tie as tie
 returns : tie.Need-returns
 returns c = rw (← c .before .before .limit .ensures, le-leb _ _ (c .before .if1 .taken)) (c .use-refusal .ensures)
 
-returns-2 : tie.Need-returns-2
-returns-2 c = rw (← c .before .limit .ensures, lt-leb _ _ (c .if1 .left)) refl
-
 pub field-refusal-spec : {M : Type 1} → statement M
-field-refusal-spec = tie.close (tie.spec (λ c κs. search needs) (λ c κs. search needs) returns returns-2)
+field-refusal-spec = tie.close (tie.spec (λ c κs. search needs) (λ c κs. search needs) returns (λ c. rw (← c .before .limit .ensures, lt-leb _ _ (c .if1 .left)) refl))

@@ -41,12 +41,6 @@ pass-4 c = ranged 128 _ _ _ false (c .before .before .field-at3 .ensures) (c .be
 few : (c : tie.Else4) → c .before .before .field-at3 .result ≤ 128
 few c = in-range 1 128 _ (sym (c .before .outside2 .ensures) ∙ c .if4 .left) .1
 
-returns : tie.Need-returns
-returns c = head-1 _ (lt-ltb _ 2 (c .if1 .taken))
-
-returns-2 : tie.Need-returns-2
-returns-2 c = head-2 _ (pass-1 (c .before .before)) (differs _ _ 1 (c .before .field-at .ensures) (c .if2 .taken))
-
 returns-3 : tie.Need-returns-3
 returns-3 c =
     let b = c .before .before .before in
@@ -59,15 +53,6 @@ returns-4 c =
     let b = d .before .before .before in
     head-4 _ (pass-1 (b .before .before)) (pass-2 b) (pass-3 d)
     (ranged 128 _ _ _ true (c .before .before .field-at3 .ensures) (c .before .outside2 .ensures) (c .if4 .taken))
-
-mul-if5 : tie.Need-mul-if5
-mul-if5 c = let h = few c in omega arith
-
-add-if5 : tie.Need-add-if5
-add-if5 c = let h = few c in omega arith
-
-add-if5-2 : tie.Need-add-if5-2
-add-if5-2 c = let h = few c in omega arith
 
 returns-5 : tie.Need-returns-5
 returns-5 c =
@@ -87,17 +72,7 @@ pub head-refusal-spec : {M : Type 1} → statement M
 head-refusal-spec =
     tie.close
     (tie.spec
-    returns
-    (λ c κs. search needs)
-    returns-2
-    (λ c κs. search needs)
-    (λ c κs. search needs)
-    returns-3
-    (λ c κs. search needs)
-    (λ c κs. search needs)
-    returns-4
-    mul-if5
-    add-if5
-    add-if5-2
-    returns-5
-    returns-6)
+    (λ c. head-1 _ (lt-ltb _ 2 (c .if1 .taken))) (λ c κs. search needs)
+    (λ c. head-2 _ (pass-1 (c .before .before)) (differs _ _ 1 (c .before .field-at .ensures) (c .if2 .taken))) (λ c κs. search needs)
+    (λ c κs. search needs) returns-3 (λ c κs. search needs) (λ c κs. search needs) returns-4 (λ c. let h = few c in omega arith)
+    (λ c. let h = few c in omega arith) (λ c. let h = few c in omega arith) returns-5 returns-6)

@@ -7,9 +7,6 @@ use borrow.Author.Tests.{le-leb, lt-leb, ltb-true, ltb-false}
 use Rattle.strip.proofs.rule.outside.Statement.{statement}
 use Rattle.strip.proofs.rule.outside.Tie as tie
 
-returns : tie.Need-returns
-returns c = rw (lt-leb 1 _ (c .if1 .taken)) refl
-
 -- a test and its converse
 flip : (a b : ℕ) → ltb a b ≡ not (leb b a)
 flip a b = go (ltb a b) refl
@@ -18,8 +15,5 @@ flip a b = go (ltb a b) refl
     go true e = rw (lt-leb b a (ltb-true a b e)) e
     go false e = rw (le-leb b a (ltb-false a b e)) e
 
-returns-2 : tie.Need-returns-2
-returns-2 c = rw (le-leb 1 _ (c .if1 .left)) (flip (c .before .args .high) (c .before .args .v))
-
 pub outside-spec : {M : Type 1} → statement M
-outside-spec = tie.close (tie.spec returns returns-2)
+outside-spec = tie.close (tie.spec (λ c. rw (lt-leb 1 _ (c .if1 .taken)) refl) (λ c. rw (le-leb 1 _ (c .if1 .left)) (flip (c .before .args .high) (c .before .args .v))))

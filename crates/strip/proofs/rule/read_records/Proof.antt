@@ -12,9 +12,6 @@ Inv-loop s n m at₀ i₀ at i = Reached s n m at i
 abbrev μ-loop : tie.MeasureT-loop
 μ-loop s n m at₀ i₀ at i = m - i
 
-loop-holds : tie.Need-loop-holds Inv-loop μ-loop
-loop-holds c = reach-first _ _ _ (c .before .pre .1 .0)
-
 returns : tie.Need-returns Inv-loop μ-loop
 returns c =
     let b = c .before .before .before .before in
@@ -25,23 +22,10 @@ loop-again c =
     let b = c .before .before .before .before in
     reach-next (b .before .loop .inv) (c .before .before .before .read-record .ensures) (c .before .r .given .1) (b .loop-test .taken)
 
-returns-2 : tie.Need-returns-2 Inv-loop μ-loop
-returns-2 c = reach-last (c .before .before .loop .inv) (c .read-record2 .ensures) (c .before .loop-test .left)
-
 pub read-records-spec : {M : Type 1} → statement M
 read-records-spec =
     tie.close
     (tie.spec
-    Inv-loop
-    μ-loop
-    loop-holds
-    (λ c. omega arith)
-    (λ c κs. omega arith)
-    (λ c. search needs)
-    (λ c. search needs)
-    returns
-    (λ c. omega arith)
-    (λ c. omega arith)
-    loop-again
-    (λ c κs. omega arith)
-    returns-2)
+    Inv-loop μ-loop (λ c. reach-first _ _ _ (c .before .pre .1 .0)) (λ c. omega arith) (λ c κs. omega arith) (λ c. search needs)
+    (λ c. search needs) returns (λ c. omega arith) (λ c. omega arith) loop-again (λ c κs. omega arith)
+    (λ c. reach-last (c .before .before .loop .inv) (c .read-record2 .ensures) (c .before .loop-test .left)))

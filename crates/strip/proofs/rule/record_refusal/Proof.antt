@@ -6,9 +6,6 @@ use Rattle.strip.proofs.RuleChecks.{record-split, record-first, record-
 use Rattle.strip.proofs.rule.record_refusal.Statement.{statement}
 use Rattle.strip.proofs.rule.record_refusal.Tie as tie
 
-returns : tie.Need-returns
-returns c = sym (record-split _ _ _ _ _ ∙ rw (le-leb 9 _ (c .if1 .taken)) refl)
-
 returns-2 : tie.Need-returns-2
 returns-2 c =
     record-first _ _ _ _ _ (c .before .before .before .if1 .left) _ (c .before .before .first-use .ensures)
@@ -22,4 +19,4 @@ returns-3 c =
 
 pub record-refusal-spec : {M : Type 1} → statement M
 record-refusal-spec =
-    tie.close (tie.spec returns (λ c κs. search needs) (λ c κs. search needs) returns-2 (λ c κs. search needs) (λ c κs. search needs) returns-3)
+    tie.close (tie.spec (λ c. sym (record-split _ _ _ _ _ ∙ rw (le-leb 9 _ (c .if1 .taken)) refl)) (λ c κs. search needs) (λ c κs. search needs) returns-2 (λ c κs. search needs) (λ c κs. search needs) returns-3)

@@ -36,10 +36,4 @@ pub check-bits-spec : {M : Type 1} → statement M
 check-bits-spec =
     tie.close
     (tie.spec
-    (λ c κs. search needs)
-    (λ c. search needs)
-    (λ c. search needs)
-    left-over-requires
-    returns
-    returns-2
-    returns-3)
+    (λ c κs. search needs) (λ c. search needs) (λ c. search needs) left-over-requires returns returns-2 returns-3)

@@ -40,9 +40,6 @@ module _ (s : List ℕ) where
           rw (ne-eqb (length s) 0 h, eq-eqb (field s 0 4) 1 (sym p ∙ e), le-leb 1 (field s 4 4) (omega arith), le-leb (field s 4 4) 8 (omega arith))
           (f ∙ ap (λ (m : ℕ). answered s (ended (parse (suc (8 * length s)) m 0 (drop 8 (bits s))))) q)
 
-returns : tie.Need-returns
-returns c = no-bytes (c .before .before .args .s .now) (c .if1 .taken)
-
 returns-2 : tie.Need-returns-2
 returns-2 c =
     let f = c .before .field-at in
@@ -77,11 +74,5 @@ pub check-tree-spec : {M : Type 1} → statement M
 check-tree-spec =
     tie.close
     (tie.spec
-    returns
-    (λ c κs. search needs)
-    returns-2
-    (λ c κs. search needs)
-    returns-3
-    returns-4
-    (λ c κs. search needs)
-    returns-5)
+    (λ c. no-bytes (c .before .before .args .s .now) (c .if1 .taken)) (λ c κs. search needs) returns-2 (λ c κs. search needs) returns-3
+    returns-4 (λ c κs. search needs) returns-5)

@@ -20,15 +20,6 @@ module _ (label met : ℕ) {all next : ℕ} {r : TreeRead} (e : r ≡ Tree all n
   labelled : (label ≡ 0 → ⊥) → Tree all next ≡ closed label met r
   labelled p = rw (e, ne-eqb label 0 p) refl
 
-returns-2 : tie.Need-returns-2
-returns-2 c = bare _ _ (c .before .before .before .second .given .1) (c .before .if1 .taken) (c .if2 .taken)
-
-returns-3 : tie.Need-returns-3
-returns-3 c = branched _ _ (c .before .before .before .second .given .1) (c .before .if1 .taken) (c .if2 .left)
-
-returns-4 : tie.Need-returns-4
-returns-4 c = labelled _ _ (c .before .before .second .given .1) (c .if1 .left)
-
 pub close-node-spec : {M : Type 1} → statement M
 close-node-spec =
-    tie.close (tie.spec (λ c. search needs) (λ c. search needs) (λ c. search needs) returns-2 returns-3 returns-4)
+    tie.close (tie.spec (λ c. search needs) (λ c. search needs) (λ c. search needs) (λ c. bare _ _ (c .before .before .before .second .given .1) (c .before .if1 .taken) (c .if2 .taken)) (λ c. branched _ _ (c .before .before .before .second .given .1) (c .before .if1 .taken) (c .if2 .left)) (λ c. labelled _ _ (c .before .before .second .given .1) (c .if1 .left)))

@@ -48,12 +48,6 @@ module _ (s : List ℕ) (n met at : ℕ) where
           q,
         ) refl
 
-returns : tie.Need-returns
-returns c = bits-end _ _ _ _ (c .if1 .taken)
-
-returns-2 : tie.Need-returns-2
-returns-2 c = no-node _ _ _ _ _ (c .before .before .if1 .left) (c .before .bit-at .ensures .0) (c .if2 .taken)
-
 returns-3 : tie.Need-returns-3
 returns-3 c = many _ _ _ _ _ (c .before .before .before .if1 .left) (c .before .before .bit-at .ensures .0) (c .before .if2 .left) (c .if3 .taken)
 
@@ -72,15 +66,6 @@ pub read-head-spec : {M : Type 1} → statement M
 read-head-spec =
     tie.close
     (tie.spec
-    returns
-    (λ c κs. search needs)
-    (λ c. search needs)
-    returns-2
-    returns-3
-    (λ c. search needs)
-    returns-4
-    (λ c. search needs)
-    (λ c κs. search needs)
-    (λ c. search needs)
-    (λ c. search needs)
-    returns-5)
+    (λ c. bits-end _ _ _ _ (c .if1 .taken)) (λ c κs. search needs) (λ c. search needs)
+    (λ c. no-node _ _ _ _ _ (c .before .before .if1 .left) (c .before .bit-at .ensures .0) (c .if2 .taken)) returns-3 (λ c. search needs)
+    returns-4 (λ c. search needs) (λ c κs. search needs) (λ c. search needs) (λ c. search needs) returns-5)

@@ -76,9 +76,4 @@ pub write-strip-spec : {M : Type 1} → statement M
 write-strip-spec =
     tie.close
     (tie.spec
-    (λ c κs. search needs)
-    put-field-requires
-    put-field-requires-2
-    write-tree-requires
-    (λ c. search needs)
-    returns)
+    (λ c κs. search needs) put-field-requires put-field-requires-2 write-tree-requires (λ c. search needs) returns)

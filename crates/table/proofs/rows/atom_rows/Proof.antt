@@ -57,31 +57,9 @@ pub atom-rows-spec : {M : Type 1} → statement M
 atom-rows-spec =
     tie.close
     (tie.spec
-    Inv-loop
-    μ-loop
-    (λ c. c .pre .0 .0)
-    (λ c. omega arith)
-    (λ c. c .pre .0 .1)
-    (λ c. omega arith)
-    (λ c. omega arith)
-    (λ c. omega (arith, c .pre .0 .2))
-    (λ c. omega (arith, c .pre .0 .2))
-    loop-holds
+    Inv-loop μ-loop (λ c. c .pre .0 .0) (λ c. omega arith) (λ c. c .pre .0 .1) (λ c. omega arith) (λ c. omega arith)
+    (λ c. omega (arith, c .pre .0 .2)) (λ c. omega (arith, c .pre .0 .2)) loop-holds
     (λ c. omega (arith, c .loop-test .taken, c .before .before .before .pre .0 .2))
-    (λ c. omega (arith, c .loop-test .taken, c .before .before .before .pre .0 .2))
-    (λ c. omega arith)
-    (λ c. omega arith)
-    (λ c. omega arith)
-    (λ c κs. omega arith)
-    mul-right
-    element-write-right
-    (λ c. omega arith)
-    (λ c. omega arith)
-    (λ c. omega arith)
-    (λ c κs. omega arith)
-    mul-left
-    element-write-left
-    add-i
-    (λ c. omega (arith, c .before .before .before .loop-test .taken))
-    loop-again
-    returns)
+    (λ c. omega (arith, c .loop-test .taken, c .before .before .before .pre .0 .2)) (λ c. omega arith) (λ c. omega arith) (λ c. omega arith)
+    (λ c κs. omega arith) mul-right element-write-right (λ c. omega arith) (λ c. omega arith) (λ c. omega arith) (λ c κs. omega arith)
+    mul-left element-write-left add-i (λ c. omega (arith, c .before .before .before .loop-test .taken)) loop-again returns)

@@ -22,9 +22,6 @@ loop-holds c =
     let f = entry (a .low .now) (a .c) (a .a) in
     (c .before .before .pre .0 .5, walk-first (a .s) (c .size .result) (λ q i. hit f (a .l) (a .m) q i (a .t)) (c .size .ensures), walk-first (a .s) (c .size .result) (λ q i. hit f (a .l) (a .m) q (a .t) i) (c .size .ensures))
 
-smallest-requires : tie.Need-smallest-requires Inv-loop μ-loop
-smallest-requires c κs = let h = c .before .loop in some-in (h .rest) (omega (arith, h .inv .1 .size, c .loop-test .taken))
-
 with-steps-requires : tie.Need-with-steps-requires Inv-loop μ-loop
 with-steps-requires c κs =
     let s = c .before .before .before .before .before in
@@ -65,15 +62,7 @@ pub both-ways-spec : {M : Type 1} → statement M
 both-ways-spec =
     tie.close
     (tie.spec
-    Inv-loop
-    μ-loop
-    (λ c κs. search needs)
-    loop-holds
-    smallest-requires
-    with-steps-requires
-    with-steps-requires-2
-    (λ c κs. (c .before .before .smallest .ensures .top, c .before .before .smallest .ensures .is))
-    (λ c. search needs)
-    (λ c. search needs)
-    loop-again
-    returns)
+    Inv-loop μ-loop (λ c κs. search needs) loop-holds
+    (λ c κs. let h = c .before .loop in some-in (h .rest) (omega (arith, h .inv .1 .size, c .loop-test .taken))) with-steps-requires
+    with-steps-requires-2 (λ c κs. (c .before .before .smallest .ensures .top, c .before .before .smallest .ensures .is))
+    (λ c. search needs) (λ c. search needs) loop-again returns)

@@ -76,13 +76,5 @@ pub exists-start-spec : {M : Type 1} → statement M
 exists-start-spec =
     tie.close
     (tie.spec
-    Inv-loop
-    μ-loop
-    loop-holds
-    followers-requires
-    (λ c κs. search needs)
-    returns
-    (λ c. search needs)
-    (λ c. search needs)
-    loop-again
+    Inv-loop μ-loop loop-holds followers-requires (λ c κs. search needs) returns (λ c. search needs) (λ c. search needs) loop-again
     returns-2)

@@ -22,9 +22,6 @@ loop-holds c =
     let a = s .args in
     (s .pre .0 .5, filling-first (entry (a .low .now) (a .c) (a .a)) (a .l) (a .m) (a .s) (a .seen) (c .size .result) (a .left .now) (a .right .now) (c .size .ensures) (s .pre .1 .1 .0) (s .pre .1 .1 .1))
 
-smallest-requires : tie.Need-smallest-requires Inv-loop μ-loop
-smallest-requires c κs = let h = c .before .loop in some-in (h .rest) (omega (arith, h .inv .1 .size, c .loop-test .taken))
-
 both-ways-requires : tie.Need-both-ways-requires Inv-loop μ-loop
 both-ways-requires c κs =
     let s = c .before .before .before .before .before in
@@ -56,18 +53,9 @@ pub fill-spec : {M : Type 1} → statement M
 fill-spec =
     tie.close
     (tie.spec
-    Inv-loop
-    μ-loop
-    (λ c κs. search needs)
-    loop-holds
-    smallest-requires
-    both-ways-requires
-    (λ c. omega (arith, c .before .smallest .ensures .top))
-    (λ c. c .before .smallest .ensures .top)
-    (λ c. omega (arith, c .before .smallest .ensures .top))
-    (λ c. c .before .smallest .ensures .top)
-    (λ c κs. (c .before .smallest .ensures .top, c .before .smallest .ensures .is))
-    (λ c. search needs)
-    (λ c. search needs)
-    loop-again
+    Inv-loop μ-loop (λ c κs. search needs) loop-holds
+    (λ c κs. let h = c .before .loop in some-in (h .rest) (omega (arith, h .inv .1 .size, c .loop-test .taken))) both-ways-requires
+    (λ c. omega (arith, c .before .smallest .ensures .top)) (λ c. c .before .smallest .ensures .top)
+    (λ c. omega (arith, c .before .smallest .ensures .top)) (λ c. c .before .smallest .ensures .top)
+    (λ c κs. (c .before .smallest .ensures .top, c .before .smallest .ensures .is)) (λ c. search needs) (λ c. search needs) loop-again
     returns)

@@ -23,9 +23,6 @@ loop-holds c =
     let f = entry (a .low .now) (a .c) (a .a) in
     (c .before .before .pre .0 .4, walk-first (a .s) (c .size .result) (λ q t. any (hitRow f (a .l) (a .m) (a .s) q t) 64) (c .size .ensures))
 
-smallest-requires : tie.Need-smallest-requires Inv-loop μ-loop
-smallest-requires c κs = let h = c .before .loop in some-in (h .rest) (omega (arith, h .inv .1 .size, c .loop-test .taken))
-
 both-ways-requires : tie.Need-both-ways-requires Inv-loop μ-loop
 both-ways-requires c κs =
     let s = c .before .before .before .before .before in
@@ -57,15 +54,7 @@ pub followers-spec : {M : Type 1} → statement M
 followers-spec =
     tie.close
     (tie.spec
-    Inv-loop
-    μ-loop
-    (λ c κs. search needs)
-    loop-holds
-    smallest-requires
-    both-ways-requires
-    (λ c κs. search needs)
-    (λ c κs. (c .before .before .smallest .ensures .top, c .before .before .smallest .ensures .is))
-    (λ c. search needs)
-    (λ c. search needs)
-    loop-again
-    returns)
+    Inv-loop μ-loop (λ c κs. search needs) loop-holds
+    (λ c κs. let h = c .before .loop in some-in (h .rest) (omega (arith, h .inv .1 .size, c .loop-test .taken))) both-ways-requires
+    (λ c κs. search needs) (λ c κs. (c .before .before .smallest .ensures .top, c .before .before .smallest .ensures .is))
+    (λ c. search needs) (λ c. search needs) loop-again returns)

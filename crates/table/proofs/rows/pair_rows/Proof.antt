@@ -57,20 +57,8 @@ pub pair-rows-spec : {M : Type 1} → statement M
 pair-rows-spec =
     tie.close
     (tie.spec
-    Inv-loop
-    μ-loop
-    (λ c. search needs)
-    (λ c. search needs)
-    loop-holds
+    Inv-loop μ-loop (λ c. search needs) (λ c. search needs) loop-holds
     (λ c. omega (arith, c .loop-test .taken, c .before .before .before .before .pre .0))
-    (λ c. omega (arith, c .loop-test .taken, c .before .before .before .before .pre .0))
-    (λ c κs. search needs)
-    mul-right
-    element-write-right
-    (λ c κs. search needs)
-    mul-left
-    element-write-left
-    add-i
-    (λ c. omega (arith, c .before .before .before .loop-test .taken))
-    loop-again
-    returns)
+    (λ c. omega (arith, c .loop-test .taken, c .before .before .before .before .pre .0)) (λ c κs. search needs) mul-right
+    element-write-right (λ c κs. search needs) mul-left element-write-left add-i
+    (λ c. omega (arith, c .before .before .before .loop-test .taken)) loop-again returns)

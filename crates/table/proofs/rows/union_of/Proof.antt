@@ -23,9 +23,6 @@ loop-holds c =
     let a = c .before .args in
     (omega arith, walk-first (a .s) (c .size .result) (λ q t. mem q (getD (a .row .now) t 0)) (c .size .ensures))
 
-smallest-requires : tie.Need-smallest-requires Inv-loop μ-loop
-smallest-requires c κs = let h = c .before .loop in some-in (h .rest) (omega (arith, h .inv .1 .size, c .loop-test .taken))
-
 loop-again : tie.Need-loop-again Inv-loop μ-loop
 loop-again c =
     let a = c .before .before .before .before .before .before .before .args in
@@ -50,16 +47,8 @@ pub union-of-spec : {M : Type 1} → statement M
 union-of-spec =
     tie.close
     (tie.spec
-    Inv-loop
-    μ-loop
-    (λ c κs. search needs)
-    loop-holds
-    smallest-requires
-    (λ c. omega (arith, c .smallest .ensures .top))
-    (λ c. c .smallest .ensures .top)
-    (λ c κs. search needs)
-    (λ c κs. (c .before .before .smallest .ensures .top, c .before .before .smallest .ensures .is))
-    (λ c. search needs)
-    (λ c. search needs)
-    loop-again
-    returns)
+    Inv-loop μ-loop (λ c κs. search needs) loop-holds
+    (λ c κs. let h = c .before .loop in some-in (h .rest) (omega (arith, h .inv .1 .size, c .loop-test .taken)))
+    (λ c. omega (arith, c .smallest .ensures .top)) (λ c. c .smallest .ensures .top) (λ c κs. search needs)
+    (λ c κs. (c .before .before .smallest .ensures .top, c .before .before .smallest .ensures .is)) (λ c. search needs) (λ c. search needs)
+    loop-again returns)

@@ -49,18 +49,8 @@ pub unions-spec : {M : Type 1} → statement M
 unions-spec =
     tie.close
     (tie.spec
-    Inv-loop
-    μ-loop
-    loop-holds
-    (λ c. omega (arith, c .loop-test .taken, c .before .before .pre))
-    (λ c. omega (arith, c .loop-test .taken, c .before .before .pre))
-    (λ c κs. search needs)
+    Inv-loop μ-loop loop-holds (λ c. omega (arith, c .loop-test .taken, c .before .before .pre))
+    (λ c. omega (arith, c .loop-test .taken, c .before .before .pre)) (λ c κs. search needs)
     (λ c. omega (arith, c .before .before .loop-test .taken, c .before .before .before .before .pre))
-    (λ c. omega (arith, c .before .before .loop-test .taken, c .before .before .before .before .pre))
-    (λ c κs. search needs)
-    mul-right
-    element-write-right
-    add-i
-    (λ c. omega (arith, c .before .before .before .loop-test .taken))
-    loop-again
-    returns)
+    (λ c. omega (arith, c .before .before .loop-test .taken, c .before .before .before .before .pre)) (λ c κs. search needs) mul-right
+    element-write-right add-i (λ c. omega (arith, c .before .before .before .loop-test .taken)) loop-again returns)
