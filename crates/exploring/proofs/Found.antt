@@ -1,20 +1,12 @@
 -- What exploration finds: distinct codes, the start first, closed under the successor; and more than c of them where it gives up.
 -- Assumes nothing.
-use Prim.Native.Nat.{ℕ, zero, suc, _≤_, _<_}
-use mathlib.Core.Bool.{Bool, true, false, cond}
-use mathlib.Core.Logic.{⊎-elim}
-use mathlib.Core.Path.{_≡_, refl, sym, ap, _∙_, subst}
-use mathlib.Core.List.{List, [], _∷_, _++_}
-use mathlib.Core.Option.{Option, none, some}
-use native.Mathlib.Nat.{le-of-suc-le-suc, not-suc-le-zero, eq-or-lt-of-le}
-use native.Mathlib.Omega.{arith}
-use borrow.Author.Tests.{ltb-true, ltb-false}
-use lib.ListN.{length, getD, length-append, List·getD-append}
-use lib.Seq.{getD-append-seam}
-use lib.Dec.{ltb}
+use Rattle.words.proofs.Vocabulary.{ℕ, _≤_, _<_, suc, zero, Bool, true, false, cond, _≡_, _∙_, refl, sym, ap, subst, ⊎-elim, List, [], _∷_, _++_}
+use Rattle.words.proofs.Vocabulary.{some, Option, none, ltb-false, ltb-true, ltb, length, getD, List·getD-append, length-append, getD-append-seam}
+use Rattle.words.proofs.Vocabulary.{le-of-suc-le-suc, not-suc-le-zero, eq-or-lt-of-le, arith}
 use Rattle.exploring.specs.Explore.{Distinct, Has, insert, visit, row, ring, next, grow, explore, found}
 use Rattle.exploring.proofs.Place.{place-in}
 use Rattle.exploring.proofs.Grow.{Grows, Long, long-down, long-grows, row-grows, visit-grows, ring-grows, grow-grows, grow-has}
+use Rattle.table.specs.Entry.{Step}
 use Rattle.logic.specs.Reach.{position}
 
 distinct-last : (x : ℕ) (cs : List ℕ) → Distinct cs → length cs ≤ position x cs → Distinct (cs ++ (x ∷ []))
@@ -23,7 +15,8 @@ distinct-last x cs d h i j hi hj e =
     ⊎-elim
     (λ (ei : i ≡ length cs). ⊎-elim
     (λ (ej : j ≡ length cs). ei ∙ sym ej)
-    (λ (lj : j < length cs). let q : getD cs j 0 ≡ x = sym (List·getD-append cs (x ∷ []) 0 j lj) ∙ sym e ∙ last i ei in let p = place-in x cs j lj q in omega arith)
+    (λ (lj : j < length cs). let q : getD cs j 0 ≡ x = sym (List·getD-append cs (x ∷ []) 0 j lj) ∙ sym e
+    ∙ last i ei in let p = place-in x cs j lj q in omega arith)
     (eq-or-lt-of-le (below j hj)))
     (λ (li : i < length cs). ⊎-elim
     (λ (ej : j ≡ length cs). let q : getD cs i 0 ≡ x = sym (List·getD-append cs (x ∷ []) 0 i li) ∙ e ∙ last j ej in let p = place-in x cs i li q in omega arith)
@@ -37,7 +30,8 @@ distinct-last x cs d h i j hi hj e =
     last : (k : ℕ) → k ≡ length cs → getD (cs ++ (x ∷ [])) k 0 ≡ x
     last k e = ap (λ (n : ℕ). getD (cs ++ (x ∷ [])) n 0) e ∙ getD-append-seam cs x [] 0
 
-all-last : (P : ℕ → Type 0) (x : ℕ) (cs : List ℕ) → ((i : ℕ) → i < length cs → P (getD cs i 0)) → P x → (i : ℕ) → i < length (cs ++ (x ∷ [])) → P (getD (cs ++ (x ∷ [])) i 0)
+all-last : (P : ℕ → Type 0) (x : ℕ) (cs : List ℕ) → ((i : ℕ) → i < length cs → P (getD cs i 0)) → P x → (i : ℕ) → i < length (cs ++ (x ∷ []))
+    → P (getD (cs ++ (x ∷ [])) i 0)
 all-last P x cs all here i h =
     ⊎-elim
     (λ (e : i ≡ length cs). subst P (sym (ap (λ (n : ℕ). getD (cs ++ (x ∷ [])) n 0) e ∙ getD-append-seam cs x [] 0)) here)
@@ -57,35 +51,35 @@ one-code P x p = record { distinct = λ i j hi hj e. omega arith; all = one }
     one zero h = p
     one (suc i) h = absurd (not-suc-le-zero (le-of-suc-le-suc h))
 
-module _ (succ : ℕ → ℕ → ℕ → ℕ) (c labels : ℕ) (P : ℕ → Type 0) (closed : (l a b : ℕ) → l < labels → P a → P b → P (succ l a b)) where
-  -- the list so far is good, or there is a list of c + 1 such codes
-  abbrev pub Good : Option (List ℕ) → Type 0
-  Good none = (cs : List ℕ) × Codes P cs × (length cs ≡ suc c)
-  Good (some cs) = Codes P cs × (length cs ≤ c)
+-- the list so far is good, or there is a list of c + 1 such codes
+abbrev pub Good : (ℕ → Type 0) → ℕ → Option (List ℕ) → Type 0
+Good P c none = (cs : List ℕ) × Codes P cs × (length cs ≡ suc c)
+Good P c (some cs) = Codes P cs × (length cs ≤ c)
 
-  insert-good : (x : ℕ) (cs : List ℕ) → Good (some cs) → P x → Good (insert c x cs)
+module _ (succ : Step) (c labels : ℕ) (P : ℕ → Type 0) (closed : (l a b : ℕ) → l < labels → P a → P b → P (succ l a b)) where
+  insert-good : (x : ℕ) (cs : List ℕ) → Good P c (some cs) → P x → Good P c (insert c x cs)
   unfolding insert
   insert-good x cs ok r = go (ltb (position x cs) (length cs)) (ltb (length cs) c) refl refl
     where
       more : length cs ≤ position x cs → Codes P (cs ++ (x ∷ []))
       more h = record { distinct = distinct-last x cs (ok .0 .distinct) h; all = all-last P x cs (ok .0 .all) r }
 
-      go : (a b : Bool) → ltb (position x cs) (length cs) ≡ a → ltb (length cs) c ≡ b → Good (cond a (some cs) (cond b (some (cs ++ (x ∷ []))) none))
+      go : (a b : Bool) → ltb (position x cs) (length cs) ≡ a → ltb (length cs) c ≡ b → Good P c (cond a (some cs) (cond b (some (cs ++ (x ∷ []))) none))
       go true b e f = ok
       go false true e f =
           let n = length-append cs (x ∷ []) in
           let h = ltb-true (length cs) c f in
-          (more (ltb-false _ _ e), omega (arith, ok .1))
+          (more (ltb-false _ _ e), omega arith)
       go false false e f =
           let h = ltb-false (length cs) c f in
-          (cs ++ (x ∷ []), more (ltb-false _ _ e), omega (arith, length-append cs (x ∷ []), ok .1))
+          (cs ++ (x ∷ []), more (ltb-false _ _ e), omega (arith, length-append cs (x ∷ [])))
 
-  pub visit-good : (l i j : ℕ) (o : Option (List ℕ)) → l < labels → Long i o → Long j o → Good o → Good (visit succ c l i j o)
+  pub visit-good : (l i j : ℕ) (o : Option (List ℕ)) → l < labels → Long i o → Long j o → Good P c o → Good P c (visit succ c l i j o)
   unfolding visit
   visit-good l i j none hl hi hj ok = ok
   visit-good l i j (some cs) hl hi hj ok = insert-good _ cs ok (closed l (getD cs i 0) (getD cs j 0) hl (ok .0 .all i hi) (ok .0 .all j hj))
 
-  pub row-good : (l k m : ℕ) (o : Option (List ℕ)) → l < labels → m ≤ suc k → Long k o → Good o → Good (row succ c l k m o)
+  pub row-good : (l k m : ℕ) (o : Option (List ℕ)) → l < labels → m ≤ suc k → Long k o → Good P c o → Good P c (row succ c l k m o)
   unfolding row
   row-good l k zero o hl h hk ok = ok
   row-good l k (suc m) o hl h hk ok =
@@ -97,28 +91,28 @@ module _ (succ : ℕ → ℕ → ℕ → ℕ) (c labels : ℕ) (P : ℕ → Type
       let sm = long-grows m r s (visit-grows succ c l m k r) rm in
       visit-good l k m s hl sk sm (visit-good l m k r hl rm rk (row-good l k m o hl (omega arith) hk ok))
 
-  pub ring-good : (k m : ℕ) (o : Option (List ℕ)) → m ≤ labels → Long k o → Good o → Good (ring succ c k m o)
+  pub ring-good : (k m : ℕ) (o : Option (List ℕ)) → m ≤ labels → Long k o → Good P c o → Good P c (ring succ c k m o)
   unfolding ring
   ring-good k zero o h hk ok = ok
   ring-good k (suc l) o h hk ok =
       row-good l k (suc k) (ring succ c k l o) (omega arith) (omega arith) (long-grows k o (ring succ c k l o) (ring-grows succ c k l o) hk)
       (ring-good k l o (omega arith) hk ok)
 
-  pub grow-good : (k : ℕ) (o : Option (List ℕ)) → Good o → Good (grow succ c labels k o)
+  pub grow-good : (k : ℕ) (o : Option (List ℕ)) → Good P c o → Good P c (grow succ c labels k o)
   unfolding grow next
   grow-good zero o ok = ok
   grow-good (suc k) o ok = from (grow succ c labels k o) (grow-good k o ok)
     where
-      from : (p : Option (List ℕ)) → Good p → Good (next succ c labels k p)
+      from : (p : Option (List ℕ)) → Good P c p → Good P c (next succ c labels k p)
       from none ok = ok
       from (some cs) ok = go (ltb k (length cs)) refl
         where
-          go : (t : Bool) → ltb k (length cs) ≡ t → Good (cond t (ring succ c k labels (some cs)) (some cs))
+          go : (t : Bool) → ltb k (length cs) ≡ t → Good P c (cond t (ring succ c k labels (some cs)) (some cs))
           go false e = ok
           go true e = ring-good k labels (some cs) (omega arith) (ltb-true k (length cs) e) ok
 
 -- ---- what exploration gives, where P holds of the start and of what follows codes of which it holds
-module _ (succ : ℕ → ℕ → ℕ → ℕ) (c labels start : ℕ) (pos : 0 < c) where
+module _ (succ : Step) (c labels start : ℕ) (pos : 0 < c) where
   -- distinct codes with the start first, at most c of them
   pub record Found (P : ℕ → Type 0) (cs : List ℕ) : Type 0 where
     pub codes : Codes P cs
@@ -127,20 +121,20 @@ module _ (succ : ℕ → ℕ → ℕ → ℕ) (c labels start : ℕ) (pos : 0 < 
     pub first : getD cs 0 0 ≡ start
 
   module _ (P : ℕ → Type 0) (at-start : P start) (closed : (l a b : ℕ) → l < labels → P a → P b → P (succ l a b)) where
-    all-good : Good succ c labels P closed (explore succ c labels start)
+    all-good : Good P c (explore succ c labels start)
     unfolding explore
     all-good = grow-good succ c labels P closed c (some (start ∷ [])) (one-code P start at-start, pos)
 
     pub explore-found : (cs : List ℕ) → explore succ c labels start ≡ some cs → Found P cs
     unfolding explore
     explore-found cs e =
-        let ok : Good succ c labels P closed (some cs) = subst (Good succ c labels P closed) e all-good in
+        let ok : Good P c (some cs) = subst (Good P c) e all-good in
         let g : Grows (some (start ∷ [])) (some cs) = subst (Grows (some (start ∷ []))) e (grow-grows succ c labels c (some (start ∷ []))) in
         record { codes = ok .0; few = ok .1; some-code = omega (arith, ap length (g .1)); first = ap (λ (l : List ℕ). getD l 0 0) (g .1) }
 
     -- or c + 1 of them
     pub explore-many : explore succ c labels start ≡ none → (cs : List ℕ) × Codes P cs × (length cs ≡ suc c)
-    explore-many e = subst (Good succ c labels P closed) e all-good
+    explore-many e = subst (Good P c) e all-good
 
   -- of any code this asks nothing
   pub explore-some : (cs : List ℕ) → explore succ c labels start ≡ some cs → Found (λ (x : ℕ). Unit {0}) cs

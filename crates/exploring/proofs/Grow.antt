@@ -1,17 +1,10 @@
 -- Laws of exploration: what is found only grows, and what is visited stays visited. Assumes nothing.
-use Prim.Native.Nat.{ℕ, zero, suc, _+_, _≤_, _<_, suc-le-suc}
-use mathlib.Core.Bool.{Bool, true, false, cond}
-use mathlib.Core.Logic.{⊎-elim}
-use mathlib.Core.Path.{_≡_, refl, sym, ap, _∙_, subst}
-use mathlib.Core.List.{List, [], _∷_, _++_, append-assoc, append-nil}
-use mathlib.Core.Option.{Option, none, some}
-use native.Mathlib.Nat.{le-of-suc-le-suc, not-suc-le-zero, eq-or-lt-of-le}
-use native.Mathlib.Omega.{arith}
-use borrow.Author.Tests.{ltb-true, ltb-false}
-use lib.ListN.{length, getD, length-append, List·getD-append}
-use lib.Dec.{ltb}
+use Rattle.words.proofs.Vocabulary.{ℕ, _≤_, _<_, _+_, suc, zero, suc-le-suc, Bool, true, false, cond, _≡_, _∙_, refl, sym, ap, subst, ⊎-elim, List}
+use Rattle.words.proofs.Vocabulary.{[], _∷_, _++_, append-assoc, append-nil, some, Option, none, ltb-false, ltb-true, ltb, length, getD}
+use Rattle.words.proofs.Vocabulary.{List·getD-append, length-append, le-of-suc-le-suc, not-suc-le-zero, eq-or-lt-of-le, arith}
 use Rattle.exploring.specs.Explore.{Has, insert, visit, row, ring, next, grow}
 use Rattle.exploring.proofs.Place.{place-append, place-last}
+use Rattle.table.specs.Entry.{Step}
 use Rattle.logic.specs.Reach.{position}
 
 -- the second has the first's codes in front, or there were too many
@@ -44,13 +37,13 @@ pub long-down : (m k : ℕ) (o : Option (List ℕ)) → m ≤ k → Long k o →
 long-down m k none h l = tt
 long-down m k (some cs) h l = omega arith
 
-module _ (succ : ℕ → ℕ → ℕ → ℕ) where
+module _ (succ : Step) where
   pub has-append : (l i j : ℕ) (cs ys : List ℕ) → Has succ l i j (some cs) → Has succ l i j (some (cs ++ ys))
   has-append l i j cs ys h =
       let e = length-append cs ys in
       let x = succ l (getD cs i 0) (getD cs j 0) in
-      let p : position x (cs ++ ys) < length (cs ++ ys) = omega (arith, h .2, place-append x cs ys (h .2)) in
-      (omega (arith, h .0), omega (arith, h .1), rw (List·getD-append cs ys 0 i (h .0), List·getD-append cs ys 0 j (h .1)) p)
+      let p : position x (cs ++ ys) < length (cs ++ ys) = omega (arith, place-append x cs ys (h .2)) in
+      (omega arith, omega arith, rw (List·getD-append cs ys 0 i (h .0), List·getD-append cs ys 0 j (h .1)) p)
 
   pub has-grows : (l i j : ℕ) (o p : Option (List ℕ)) → Grows o p → Has succ l i j o → Has succ l i j p
   has-grows l i j o none g h = tt
@@ -79,7 +72,7 @@ insert-has c x cs ds e = go (ltb (position x cs) (length cs)) (ltb (length cs) c
         subst (λ (l : List ℕ). position x l < length l) q (omega (arith, length-append cs (x ∷ [])))
     go false false t e = let z : _≡_ {A = ℕ} 0 1 = cc in omega arith
 
-module _ (succ : ℕ → ℕ → ℕ → ℕ) (c : ℕ) where
+module _ (succ : Step) (c : ℕ) where
   pub visit-grows : (l i j : ℕ) (o : Option (List ℕ)) → Grows o (visit succ c l i j o)
   unfolding visit
   visit-grows l i j none = tt
@@ -96,7 +89,8 @@ module _ (succ : ℕ → ℕ → ℕ → ℕ) (c : ℕ) where
   pub ring-grows : (k m : ℕ) (o : Option (List ℕ)) → Grows o (ring succ c k m o)
   unfolding ring
   ring-grows k zero o = grows-refl o
-  ring-grows k (suc l) o = grows-trans o (ring succ c k l o) (row succ c l k (suc k) (ring succ c k l o)) (ring-grows k l o) (row-grows l k (suc k) (ring succ c k l o))
+  ring-grows k (suc l) o =
+      grows-trans o (ring succ c k l o) (row succ c l k (suc k) (ring succ c k l o)) (ring-grows k l o) (row-grows l k (suc k) (ring succ c k l o))
 
   pub next-grows : (m k : ℕ) (o : Option (List ℕ)) → Grows o (next succ c m k o)
   unfolding next
@@ -130,7 +124,8 @@ module _ (succ : ℕ → ℕ → ℕ → ℕ) (c : ℕ) where
           let b : getD ds j 0 ≡ getD cs j 0 = ap (λ (t : List ℕ). getD t j 0) (g .1) ∙ List·getD-append cs (g .0) 0 j hj in
           (omega arith, omega arith, rw (a, b) p)
 
-  pub row-has : (l k m : ℕ) (o : Option (List ℕ)) → m ≤ suc k → Long k o → (i : ℕ) → i < m → Has succ l i k (row succ c l k m o) × Has succ l k i (row succ c l k m o)
+  pub row-has : (l k m : ℕ) (o : Option (List ℕ)) → m ≤ suc k → Long k o → (i : ℕ) → i < m
+      → Has succ l i k (row succ c l k m o) × Has succ l k i (row succ c l k m o)
   unfolding row
   row-has l k zero o h hk i hi = absurd (not-suc-le-zero hi)
   row-has l k (suc m) o h hk i hi =
@@ -149,7 +144,8 @@ module _ (succ : ℕ → ℕ → ℕ → ℕ) (c : ℕ) where
       (λ (lt : i < m). (has-grows succ l i k r t gt (old i lt .0), has-grows succ l k i r t gt (old i lt .1)))
       (eq-or-lt-of-le (le-of-suc-le-suc hi))
 
-  pub ring-has : (k m : ℕ) (o : Option (List ℕ)) → Long k o → (l i : ℕ) → l < m → i ≤ k → Has succ l i k (ring succ c k m o) × Has succ l k i (ring succ c k m o)
+  pub ring-has : (k m : ℕ) (o : Option (List ℕ)) → Long k o → (l i : ℕ) → l < m → i ≤ k
+      → Has succ l i k (ring succ c k m o) × Has succ l k i (ring succ c k m o)
   unfolding ring
   ring-has k zero o hk l i hl hi = absurd (not-suc-le-zero hl)
   ring-has k (suc m) o hk l i hl hi =
@@ -164,16 +160,19 @@ module _ (succ : ℕ → ℕ → ℕ → ℕ) (c : ℕ) where
       (eq-or-lt-of-le (le-of-suc-le-suc hl))
 
   -- the states below k are paired with each other
-  pub grow-has : (m k : ℕ) (o : Option (List ℕ)) (l i j : ℕ) → l < m → i < k → j < k → Long i (grow succ c m k o) → Long j (grow succ c m k o) → Has succ l i j (grow succ c m k o)
+  pub grow-has : (m k : ℕ) (o : Option (List ℕ)) (l i j : ℕ) → l < m → i < k → j < k → Long i (grow succ c m k o) → Long j (grow succ c m k o)
+      → Has succ l i j (grow succ c m k o)
   unfolding grow next
   grow-has m zero o l i j hl hi hj a b = absurd (not-suc-le-zero hi)
   grow-has m (suc k) o l i j hl hi hj a b = from (grow succ c m k o) (grow-has m k o l i j hl) a b
     where
-      from : (p : Option (List ℕ)) → (i < k → j < k → Long i p → Long j p → Has succ l i j p) → Long i (next succ c m k p) → Long j (next succ c m k p) → Has succ l i j (next succ c m k p)
+      from : (p : Option (List ℕ)) → (i < k → j < k → Long i p → Long j p → Has succ l i j p) → Long i (next succ c m k p) → Long j (next succ c m k p)
+          → Has succ l i j (next succ c m k p)
       from none old a b = tt
       from (some cs) old a b = go (ltb k (length cs)) refl a b
         where
-          go : (t : Bool) → ltb k (length cs) ≡ t → Long i (cond t (ring succ c k m (some cs)) (some cs)) → Long j (cond t (ring succ c k m (some cs)) (some cs)) → Has succ l i j (cond t (ring succ c k m (some cs)) (some cs))
+          go : (t : Bool) → ltb k (length cs) ≡ t → Long i (cond t (ring succ c k m (some cs)) (some cs))
+              → Long j (cond t (ring succ c k m (some cs)) (some cs)) → Has succ l i j (cond t (ring succ c k m (some cs)) (some cs))
           go false e a b = let h = ltb-false k (length cs) e in old (omega arith) (omega arith) a b
           go true e a b =
               let h : k < length cs = ltb-true k (length cs) e in

@@ -1,13 +1,6 @@
 -- Laws of `position`: where a code stands in a list. Assumes nothing.
-use Prim.Native.Nat.{ℕ, zero, suc, _≤_, _<_, zero-le, suc-le-suc}
-use mathlib.Core.Bool.{Bool, true, false, cond}
-use mathlib.Core.Path.{_≡_, refl, sym, ap, _∙_, subst}
-use mathlib.Core.List.{List, [], _∷_, _++_}
-use native.Mathlib.Nat.{le-of-suc-le-suc, not-suc-le-zero}
-use native.Mathlib.Omega.{arith}
-use borrow.Author.Tests.{eqb-true, eq-eqb}
-use lib.ListN.{length, getD}
-use lib.Dec.{eqb}
+use Rattle.words.proofs.Vocabulary.{ℕ, _≤_, _<_, suc, zero, suc-le-suc, zero-le, Bool, true, false, cond, _≡_, _∙_, refl, sym, ap, subst, List, []}
+use Rattle.words.proofs.Vocabulary.{_∷_, _++_, eq-eqb, eqb-true, eqb, length, getD, le-of-suc-le-suc, not-suc-le-zero, arith}
 use Rattle.exploring.specs.Explore.{Distinct}
 use Rattle.logic.specs.Reach.{position}
 
@@ -26,7 +19,8 @@ unfolding position
 place-at x [] h = absurd (not-suc-le-zero h)
 place-at x (y ∷ ys) h = go (eqb x y) refl h (place-at x ys)
   where
-    go : (b : Bool) → eqb x y ≡ b → cond b zero (suc (position x ys)) < suc (length ys) → (position x ys < length ys → getD ys (position x ys) 0 ≡ x) → getD (y ∷ ys) (cond b zero (suc (position x ys))) 0 ≡ x
+    go : (b : Bool) → eqb x y ≡ b → cond b zero (suc (position x ys)) < suc (length ys) → (position x ys < length ys → getD ys (position x ys) 0 ≡ x)
+        → getD (y ∷ ys) (cond b zero (suc (position x ys))) 0 ≡ x
     go true e h r = sym (eqb-true x y e)
     go false e h r = r (le-of-suc-le-suc h)
 
@@ -50,7 +44,8 @@ unfolding position
 place-append x [] ys h = absurd (not-suc-le-zero h)
 place-append x (y ∷ cs) ys h = go (eqb x y) h (place-append x cs ys)
   where
-    go : (b : Bool) → cond b zero (suc (position x cs)) < suc (length cs) → (position x cs < length cs → position x (cs ++ ys) ≡ position x cs) → cond b zero (suc (position x (cs ++ ys))) ≡ cond b zero (suc (position x cs))
+    go : (b : Bool) → cond b zero (suc (position x cs)) < suc (length cs) → (position x cs < length cs → position x (cs ++ ys) ≡ position x cs)
+        → cond b zero (suc (position x (cs ++ ys))) ≡ cond b zero (suc (position x cs))
     go true h r = refl
     go false h r = ap suc (r (le-of-suc-le-suc h))
 
@@ -60,7 +55,8 @@ unfolding position
 place-last x [] h = ap (λ (b : Bool). cond b zero (suc zero)) (eq-eqb x x refl)
 place-last x (y ∷ cs) h = go (eqb x y) h (place-last x cs)
   where
-    go : (b : Bool) → suc (length cs) ≤ cond b zero (suc (position x cs)) → (length cs ≤ position x cs → position x (cs ++ (x ∷ [])) ≡ length cs) → cond b zero (suc (position x (cs ++ (x ∷ [])))) ≡ suc (length cs)
+    go : (b : Bool) → suc (length cs) ≤ cond b zero (suc (position x cs)) → (length cs ≤ position x cs → position x (cs ++ (x ∷ [])) ≡ length cs)
+        → cond b zero (suc (position x (cs ++ (x ∷ [])))) ≡ suc (length cs)
     go true h r = absurd (not-suc-le-zero h)
     go false h r = ap suc (r (le-of-suc-le-suc h))
 

@@ -1,15 +1,9 @@
 -- What a step of the builder does to the list that it stands for. Assumes nothing.
-use Prim.Native.Nat.{ℕ, _+_, _≤_, _<_}
-use mathlib.Core.Path.{_≡_, ap}
-use mathlib.Core.List.{List}
-use mathlib.Core.Option.{some}
-use native.Mathlib.Omega.{arith}
-use native.Mathlib.Numerals.{add-one}
-use borrow.Author.Tests.{lt-ltb, le-ltb, le-leb, lt-leb}
-use lib.ListN.{length, take, set}
-use lib.Seq.{length-take-le, take-suc-set}
+use Rattle.words.proofs.Vocabulary.{ℕ, _≤_, _<_, _+_, _≡_, ap, List, some, le-leb, le-ltb, lt-leb, lt-ltb, length, take, set, length-take-le}
+use Rattle.words.proofs.Vocabulary.{take-suc-set, add-one, arith}
 use Rattle.exploring.specs.Explore.{insert}
 use Rattle.exploring.specs.Filling.{listed}
+use Rattle.exploring.specs.declared.Builder.{Builder}
 use Rattle.logic.specs.Reach.{position}
 
 module _ (c x n : ℕ) (codes : List ℕ) (full : length codes ≡ 64) (top : c ≤ 64) (fits : n ≤ c) where
@@ -25,7 +19,8 @@ module _ (c x n : ℕ) (codes : List ℕ) (full : length codes ≡ 64) (top : c 
   unfolding insert
   put-new h l =
       let e : length (take n codes) ≡ n = length-take-le n codes (omega arith) in
-      rw (le-leb (n + 1) c (omega arith), le-ltb (position x (take n codes)) (length (take n codes)) (omega arith), lt-ltb (length (take n codes)) c (omega arith))
+      let m = length (take n codes) in
+      rw (le-leb (n + 1) c (omega arith), le-ltb (position x (take n codes)) m (omega arith), lt-ltb m c (omega arith))
       (ap some (rw add-one (take-suc-set codes n x (omega arith))))
 
   -- x is new, and there is none
@@ -33,4 +28,18 @@ module _ (c x n : ℕ) (codes : List ℕ) (full : length codes ≡ 64) (top : c 
   unfolding insert
   put-full any h l =
       let e : length (take n codes) ≡ n = length-take-le n codes (omega arith) in
-      rw (lt-leb (n + 1) c (omega arith), le-ltb (position x (take n codes)) (length (take n codes)) (omega arith), le-ltb (length (take n codes)) c (omega arith))
+      let m = length (take n codes) in
+      rw (lt-leb (n + 1) c (omega arith), le-ltb (position x (take n codes)) m (omega arith), le-ltb m c (omega arith))
+
+-- a builder with a whole array that has no more codes than it may have
+pub record Sized (c : ℕ) (b : Builder) : Type 0 where
+  pub full : length (b .codes) ≡ 64
+  pub top : c ≤ 64
+  pub few : b .count ≤ c
+
+module _ {c : ℕ} {b : Builder} (s : Sized c b) where
+  pub is-list : listed c b ≡ some (take (b .count) (b .codes))
+  is-list = rw (le-leb (b .count) c (s .few))
+
+  pub list-long : length (take (b .count) (b .codes)) ≡ b .count
+  list-long = length-take-le (b .count) (b .codes) (omega arith)

@@ -51,21 +51,34 @@ pub record Noted (p : Plan) (codes : List ℕ) (count l i j x at : ℕ) (ws ws�
   pub written : count ≤ p .c → ws′ ≡ set ws (p .base + addr (p .c) l i j) at
   pub passed : p .c < count → (at < count) × (ws′ ≡ ws)
 
--- what a visit, a row and a ring of visits ensure
-abbrev pub Visited : (ℕ → ℕ → ℕ → ℕ) → Plan → Builder → Builder → List ℕ → List ℕ → ℕ → ℕ → ℕ → Type 0
-Visited succ p b r ws ws′ l i j = Built succ p b r ws ws′ (visit succ (p .c) l i j (listed (p .c) b)) × Cell succ (p .c) (p .base) (listed (p .c) r) ws′ l i j
+-- the pairs of state k under label l can be visited: both are there, the label is told from any earlier one, and no code stands twice
+pub record Visitable (p : Plan) (b : Builder) (l k : ℕ) : Type 0 where
+  pub label : l < p .labels
+  pub own : l ≤ seen (p .looks) l
+  pub state : k < b .count
+  pub few : b .count ≤ p .c
+  pub distinct : Distinct (take (b .count) (b .codes))
 
-abbrev pub Rowed : (ℕ → ℕ → ℕ → ℕ) → Plan → Builder → Builder → List ℕ → List ℕ → ℕ → ℕ → ℕ → Type 0
-Rowed succ p b r ws ws′ l k i = Built succ p b r ws ws′ (row succ (p .c) l k i (listed (p .c) b)) × Ring succ p (listed (p .c) r) ws′ l i k
+-- what a visit ensures: of the pair (i, j) under label l
+pub record Visited (succ : ℕ → ℕ → ℕ → ℕ) (p : Plan) (b r : Builder) (ws ws′ : List ℕ) (l i j : ℕ) : Type 0 where
+  pub step : Built succ p b r ws ws′ (visit succ (p .c) l i j (listed (p .c) b))
+  pub cell : Cell succ (p .c) (p .base) (listed (p .c) r) ws′ l i j
 
-abbrev pub Ringed : (ℕ → ℕ → ℕ → ℕ) → Plan → Builder → Builder → List ℕ → List ℕ → ℕ → ℕ → Type 0
-Ringed succ p b r ws ws′ k m =
-    Built succ p b r ws ws′ (ring succ (p .c) k m (listed (p .c) b)) × ((l : ℕ) → l < m → Ring succ p (listed (p .c) r) ws′ (seen (p .looks) l) (k + 1) k)
+-- what a row of visits ensures: of state k and each state below i, under label l
+pub record Rowed (succ : ℕ → ℕ → ℕ → ℕ) (p : Plan) (b r : Builder) (ws ws′ : List ℕ) (l k i : ℕ) : Type 0 where
+  pub step : Built succ p b r ws ws′ (row succ (p .c) l k i (listed (p .c) b))
+  pub cells : Ring succ p (listed (p .c) r) ws′ l i k
+
+-- what a ring of visits ensures: of state k and each state up to it, under each label below m
+pub record Ringed (succ : ℕ → ℕ → ℕ → ℕ) (p : Plan) (b r : Builder) (ws ws′ : List ℕ) (k m : ℕ) : Type 0 where
+  pub step : Built succ p b r ws ws′ (ring succ (p .c) k m (listed (p .c) b))
+  pub cells : (l : ℕ) → l < m → Ring succ p (listed (p .c) r) ws′ (seen (p .looks) l) (k + 1) k
 
 -- the entries of the states below k with each other
 abbrev pub Square : (ℕ → ℕ → ℕ → ℕ) → Plan → Builder → List ℕ → ℕ → Type 0
 Square succ p r ws k =
-    (l i j : ℕ) → l < p .labels → i < k → j < k → i < r .count → j < r .count → Cell succ (p .c) (p .base) (listed (p .c) r) ws (seen (p .looks) l) i j
+    (l i j : ℕ) → l < p .labels → i < k → j < k → i < r .count → j < r .count
+    → Cell succ (p .c) (p .base) (listed (p .c) r) ws (seen (p .looks) l) i j
 
 -- the turns for the states below k, from builder b
 pub record Grown (succ : ℕ → ℕ → ℕ → ℕ) (p : Plan) (b r : Builder) (ws ws′ : List ℕ) (k : ℕ) : Type 0 where

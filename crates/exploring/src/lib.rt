@@ -5,10 +5,10 @@ ghost use mathlib.Core.List.{[], _∷_};
 ghost use mathlib.Core.Option.{some};
 ghost use lib.ListN.{length, take};
 ghost use Rattle.exploring.specs.Explore.{Distinct, insert};
-ghost use Rattle.exploring.specs.Filling.{Guided, listed, Noted, Rowed, Ringed, Explored};
+ghost use Rattle.exploring.specs.Filling.{Guided, listed, Noted, Visitable, Rowed, Ringed, Explored};
 ghost use Rattle.table.specs.Rows.{Led, Serves};
 ghost use Rattle.table.specs.Succ.{Room, succIn, startOf};
-ghost use Rattle.table.specs.Entry.{entry, seen};
+ghost use Rattle.table.specs.Entry.{entry};
 use table::entries::cell;
 use table::entries::wide;
 use table::plan::Kind;
@@ -116,7 +116,7 @@ pub fn visit_pairs(
     hints: &mut [u8; 256],
 ) -> Builder
     requires { ⌜ Room p (length (now ws)) ⌝ }
-    requires { ⌜ (l < p .labels) × (k < b .count) × (b .count ≤ p .c) × Distinct (take (b .count) (b .codes)) × (l ≤ seen (p .looks) l) ⌝ }
+    requires { ⌜ Visitable p b l k ⌝ }
     requires { ⌜ Serves (succIn (now ws) p) l (b .codes) k (now left) (now right) ⌝ }
     ensures { λ r. ⌜ Rowed (succIn (now (ws .entry)) p) p b r (now (ws .entry)) (now (ws .exit)) l k (k + 1) ⌝ }
 {

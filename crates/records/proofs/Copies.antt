@@ -1,17 +1,8 @@
 -- A table that is copied, row by row and label by label; and the machine of "not", which has its part's table and the other states
 -- accepting. Assumes nothing.
-use Prim.Native.Nat.{ℕ, suc, _+_, _-_, _*_, _≤_, _<_}
-use mathlib.Core.Logic.{⊎-elim}
-use mathlib.Core.List.{List}
-use mathlib.Core.Option.{some}
-use mathlib.Core.Path.{_≡_, refl, sym, ap, ap₂, _∙_, subst}
-use native.Mathlib.Nat.{mul-le-mul-right, suc-mul, eq-or-lt-of-le}
-use native.Mathlib.Numerals.{add-one}
-use native.Mathlib.Omega.{arith}
-use lib.Arith.{digits-lt}
-use lib.ListN.{length, getD, set}
-use lib.Seq.{getD-drop, getD-set-same, getD-set-other, drop-set-lt}
-use native.Mathlib.Decide.{ℕ-discrete, decLt}
+use Rattle.words.proofs.Vocabulary.{ℕ, _≤_, _<_, _+_, _-_, _*_, suc, _≡_, _∙_, refl, sym, ap, subst, ap₂, ⊎-elim, List, some, digits-lt, length, getD}
+use Rattle.words.proofs.Vocabulary.{set, getD-set-other, getD-set-same, drop-set-lt, getD-drop, decLt, ℕ-discrete, eq-or-lt-of-le, mul-le-mul-right}
+use Rattle.words.proofs.Vocabulary.{suc-mul, add-one, arith}
 use Rattle.table.specs.Succ.{looksOf}
 use Rattle.table.specs.Entry.{entry, addr, seen}
 use Rattle.records.specs.Machine.{othersOf, Holds}
@@ -28,12 +19,12 @@ below-next : (m l : ℕ) → m < l + 1 → (m ≡ l → ⊥) → m < l
 below-next m l h e = ⊎-elim (λ (q : m ≡ l). absurd (e q)) (λ (q : m < l). q) (eq-or-lt-of-le (omega arith))
 
 -- ---- bytes
-pub copy-first : (ws : List ℕ) (from to : ℕ) → Copied ws ws from to 0
-copy-first ws from to = record { there = λ k h. absurd (omega arith); low = λ k h. refl; high = refl }
+pub copy-first : {ws : List ℕ} {from to : ℕ} → Copied ws ws from to 0
+copy-first = record { there = λ k h. absurd (omega arith); low = λ k h. refl; high = refl }
 
-pub copy-turn : (ws₀ ws : List ℕ) (from to n i : ℕ) → from + n ≤ to → to + n ≤ length ws → i < n → Copied ws₀ ws from to i
+pub copy-turn : {ws₀ ws : List ℕ} {from to : ℕ} (n : ℕ) {i : ℕ} → from + n ≤ to → to + n ≤ length ws → i < n → Copied ws₀ ws from to i
     → Copied ws₀ (set ws (to + i) (getD ws (from + i) 0)) from to (i + 1)
-copy-turn ws₀ ws from to n i h room hi w = record {
+copy-turn {ws₀} {ws} {from} {to} n {i} h room hi w = record {
   there = λ k hk. elim (ℕ-discrete k i) [
     | yes e ↦ rw (e, getD-set-same ws (to + i) (getD ws (from + i) 0) 0 (omega arith)) (w .low (from + i) (omega arith))
     | no e ↦ rw (getD-set-other ws (to + i) (to + k) (getD ws (from + i) 0) 0 (λ q. e (omega arith))) (w .there k (below-next k i hk e))
@@ -43,8 +34,8 @@ copy-turn ws₀ ws from to n i h room hi w = record {
 }
 
 -- a byte elsewhere is as it was
-copied-bare : (ws ws′ : List ℕ) (from to n : ℕ) → Copied ws ws′ from to n → (q : ℕ) → ((j : ℕ) → j < n → q ≡ to + j → ⊥) → getD ws′ q 0 ≡ getD ws q 0
-copied-bare ws ws′ from to n w q off = elim (decLt q to) [
+copied-bare : {ws ws′ : List ℕ} {from to n : ℕ} → Copied ws ws′ from to n → (q : ℕ) → ((j : ℕ) → j < n → q ≡ to + j → ⊥) → getD ws′ q 0 ≡ getD ws q 0
+copied-bare {ws} {ws′} {from} {to} {n} w q off = elim (decLt q to) [
   | yes h ↦ w .low q h
   | no h ↦
       let far : n ≤ q - to = elim (decLt (q - to) n) [ yes l ↦ absurd (off (q - to) l (omega arith)) | no l ↦ omega arith ] in
@@ -81,22 +72,24 @@ pub label-in : (c l labels : ℕ) → l < labels → (l * c + c) * c ≤ labels 
 label-in c l labels h = mul-le-mul-right c (next-share l labels c h)
 
 -- ---- the rows of a label
-pub rows-first : (ws : List ℕ) (from to c l n : ℕ) → RowsCopied ws ws from to c l n 0
-rows-first ws from to c l n = record { there = λ i j hi hj. absurd (omega arith); low = λ k h. refl; high = refl; bare = λ k h. refl }
+pub rows-first : {ws : List ℕ} {from to c l n : ℕ} → RowsCopied ws ws from to c l n 0
+rows-first = record { there = λ i j hi hj. absurd (omega arith); low = λ k h. refl; high = refl; bare = λ k h. refl }
 
-module _ (ws₀ ws ws′ : List ℕ) (from to c l n i k : ℕ) (hi : i < n) (hn : n ≤ c) (apart : from + (l * c + c) * c ≤ to) (ek : k ≡ addr c l i 0) where
+module _ {ws₀ ws ws′ : List ℕ} {from to c l n i k : ℕ} (hi : i < n) (hn : n ≤ c) (apart : from + (l * c + c) * c ≤ to) (ek : k ≡ addr c l i 0) where
   pub rows-turn : RowsCopied ws₀ ws from to c l n i → Copied ws ws′ (from + k) (to + k) n → RowsCopied ws₀ ws′ from to c l n (i + 1)
   rows-turn w cp = record {
     there = λ a j ha hj. ⊎-elim
         (λ (e : a ≡ i). subst (λ (b : ℕ). getD ws′ (to + addr c l b j) 0 ≡ getD ws₀ (from + addr c l b j) 0) (sym e) (here j hj))
-        (λ (h : a < i). let z : (l * c + a) * c + j < (l * c + i) * c = digits-lt (omega arith) (omega arith) in cp .low (to + addr c l a j) (omega (arith, entry-at c l a j, row-at c l i)) ∙ w .there a j h hj)
+        (λ (h : a < i).
+        let z : (l * c + a) * c + j < (l * c + i) * c = digits-lt (omega arith) (omega arith) in
+        cp .low (to + addr c l a j) (omega (arith, entry-at c l a j, row-at c l i)) ∙ w .there a j h hj)
         (eq-or-lt-of-le (omega arith));
     low = λ b hb. cp .low b (omega (arith, label-first c l, row-end c l 0 i (omega arith), row-at c l i)) ∙ w .low b hb;
     high =
         drop-later (to + k + n) (to + (l * c + (i + 1)) * c) ws′ ws (omega (arith, row-next c l i, row-at c l i)) (cp .high)
         ∙ drop-later (to + (l * c + i) * c) (to + (l * c + (i + 1)) * c) ws ws₀ (omega (arith, row-next c l i)) (w .high);
     bare = λ q off.
-        copied-bare ws ws′ (from + k) (to + k) n cp q (λ j hj e. off i j (omega arith) hj (omega (arith, entry-at c l i j, row-at c l i)))
+        copied-bare cp q (λ j hj e. off i j (omega arith) hj (omega (arith, entry-at c l i j, row-at c l i)))
         ∙ w .bare q (λ a j ha hj. off a j (omega arith) hj);
   }
     where
@@ -108,10 +101,10 @@ module _ (ws₀ ws ws′ : List ℕ) (from to c l n i k : ℕ) (hi : i < n) (hn 
           ∙ w .low (from + addr c l i j) (omega (arith, entry-at c l i j, row-room c l i (omega arith)))
 
 -- ---- the labels of a table
-pub table-first : (ws : List ℕ) (from to c bits n : ℕ) → TableCopied ws ws from to c bits n 0
-table-first ws from to c bits n = record { there = λ m i j hm hs hi hj. absurd (omega arith); low = λ k h. refl; high = refl; bare = λ k h. refl }
+pub table-first : {ws : List ℕ} {from to c bits n : ℕ} → TableCopied ws ws from to c bits n 0
+table-first = record { there = λ m i j hm hs hi hj. absurd (omega arith); low = λ k h. refl; high = refl; bare = λ k h. refl }
 
-module _ (ws₀ ws : List ℕ) (from to c bits n l : ℕ) (hn : n ≤ c) (w : TableCopied ws₀ ws from to c bits n l) where
+module _ {ws₀ ws : List ℕ} {from to c bits n l : ℕ} (hn : n ≤ c) (w : TableCopied ws₀ ws from to c bits n l) where
   upper : l * c * c ≤ (l + 1) * c * c
   upper = omega (arith, label-first c l, label-last c l, row-end c l 0 c (omega arith))
 
@@ -124,8 +117,9 @@ module _ (ws₀ ws : List ℕ) (from to c bits n l : ℕ) (hn : n ≤ c) (w : Ta
     bare = w .bare;
   }
 
-  pub table-turn : (ws′ : List ℕ) → l ≤ seen bits l → from + (l * c + c) * c ≤ to → RowsCopied ws ws′ from to c l n n → TableCopied ws₀ ws′ from to c bits n (l + 1)
-  table-turn ws′ own apart rows = record {
+  pub table-turn : {ws′ : List ℕ} → l ≤ seen bits l → from + (l * c + c) * c ≤ to → RowsCopied ws ws′ from to c l n n
+      → TableCopied ws₀ ws′ from to c bits n (l + 1)
+  table-turn {ws′} own apart rows = record {
     there = λ m i j hm hs hi hj. ⊎-elim
         (λ (e : m ≡ l). subst (λ (b : ℕ). getD ws′ (to + addr c b i j) 0 ≡ getD ws₀ (from + addr c b i j) 0) (sym e)
         (rows .there i j hi hj ∙ w .low (from + addr c l i j) (omega (arith, entry-at c l i j, row-room c l i (omega arith)))))
@@ -141,7 +135,8 @@ module _ (ws₀ ws : List ℕ) (from to c bits n l : ℕ) (hn : n ≤ c) (w : Ta
   }
 
 -- ---- the machine of "not" is its part's, with the other states accepting
-module _ (x : Decoded) (r c labels : ℕ) (kf kg : Summary) (ws : List ℕ) (f g : Mach) (is-not : x .kind ≡ Not) (stored : PartsStored x c labels kf kg ws f g) where
+module _ (x : Decoded) (r c labels : ℕ) (kf kg : Summary) (ws : List ℕ) (f g : Mach) (is-not : x .kind ≡ Not)
+    (stored : PartsStored x c labels kf kg ws f g) where
   abbrev share : ℕ
   share = labels * c * c
 
@@ -156,7 +151,6 @@ module _ (x : Decoded) (r c labels : ℕ) (kf kg : Summary) (ws : List ℕ) (f g
   made = rw is-not refl
 
   looks-not : kf .looks ≡ looksOf (x .kind) (x .wx) (x .wy) (kf .looks) (kg .looks)
-  unfolding looksOf
   looks-not = rw is-not refl
 
   module _ (ws′ : List ℕ) (k : Summary) (copied : TableCopied ws ws′ (x .first * share) (r * share) c (kf .looks) (kf .count) labels) where
@@ -164,8 +158,11 @@ module _ (x : Decoded) (r c labels : ℕ) (kf kg : Summary) (ws : List ℕ) (f g
     unfolding entry
     holds l i j hl hi hj =
         let b = kf .looks in
-        let old = part .holds l i j hl hi hj in
-        (copied .there (seen b l) i j (omega (arith, seen-le b l)) (omega (arith, seen-seen b l)) (omega (arith, part .count)) (omega (arith, part .count)) ∙ old .0, old .1)
+        let old = part .holds l i j hl hi hj in (
+          copied .there (seen b l) i j (omega (arith, seen-le b l)) (omega (arith, seen-seen b l)) (omega (arith, part .count)) (omega (arith, part .count))
+              ∙ old .0,
+          old .1,
+        )
 
     pub added-not : k .count ≡ kf .count → k .accept ≡ othersOf (kf .accept) (kf .count) → k .looks ≡ kf .looks → Added x c labels r kf kg f g k ws ws′
     added-not ec ea el = record {
@@ -180,9 +177,10 @@ module _ (x : Decoded) (r c labels : ℕ) (kf kg : Summary) (ws : List ℕ) (f g
           holds = subst (λ (l : ℕ). Holds ws′ c labels (r * share) l (length (f .codes)) (f .step)) (sym el) holds;
           some-state = part .some-state;
           few = part .few;
-        }) (λ q off. copied .bare q (λ l i j hs hi hj. off l i j (subst (λ (b : ℕ). l ≤ seen b l) (sym el) hs) (omega (arith, part .count)) (omega (arith, part .count)))),
+        }) (λ q off. copied .bare q (λ l i j hs hi hj. off l i j (subst (λ (b : ℕ). l ≤ seen b l) (sym el) hs) (omega (arith, part .count))
+            (omega (arith, part .count)))),
       );
     }
 
-pub copied-spared : (ws ws′ : List ℕ) (from c labels r bits n : ℕ) → TableCopied ws ws′ from (r * (labels * c * c)) c bits n labels → Spared c labels r ws ws′
-copied-spared ws ws′ from c labels r bits n t = record { low = t .low; high = t .high }
+pub copied-spared : {ws ws′ : List ℕ} {from c labels r bits n : ℕ} → TableCopied ws ws′ from (r * (labels * c * c)) c bits n labels → Spared c labels r ws ws′
+copied-spared t = record { low = t .low; high = t .high }

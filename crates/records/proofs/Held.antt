@@ -1,11 +1,5 @@
 -- A record's machine from tables is its machine from the steps that the tables hold. Assumes nothing.
-use Prim.Native.Nat.{ℕ, _+_, _*_, _/_, _%_, _≤_, _<_}
-use mathlib.Core.Bool.{true}
-use mathlib.Core.Path.{_≡_, refl, sym, ap, ap₂, _∙_, subst}
-use mathlib.Core.List.{List}
-use mathlib.Core.Option.{some}
-use native.Mathlib.Omega.{arith}
-use lib.ListN.{length, getD}
+use Rattle.words.proofs.Vocabulary.{ℕ, _≤_, _<_, _+_, _*_, _%_, _/_, true, _≡_, _∙_, refl, sym, ap, subst, ap₂, List, some, length, getD, arith}
 use Rattle.words.specs.Word.{Below, mem}
 use Rattle.exploring.specs.Explore.{explore}
 use Rattle.exploring.proofs.Found.{explore-found}
@@ -32,7 +26,8 @@ Valid And n m x = (x / 64 < n) × (x % 64 < m)
 Valid Exists n m x = (i : ℕ) → i < 64 → mem i x ≡ true → i < n
 
 -- ---- a record's machine
-module _ (c labels n m wx wy : ℕ) (e f d g : Step) (top : c ≤ 64) (pos : 0 < c) (zero-in : 0 < n) (few-n : n ≤ 64) (few-m : m ≤ 64) (zero-in′ : 0 < m) (bit : Bit wx labels)
+module _ (c labels n m wx wy : ℕ) (e f d g : Step) (top : c ≤ 64) (pos : 0 < c) (zero-in : 0 < n) (few-n : n ≤ 64) (few-m : m ≤ 64) (zero-in′ : 0 < m)
+    (bit : Bit wx labels)
     (same : (l i j : ℕ) → l < labels → i < n → j < n → (e l i j ≡ f l i j) × (f l i j < n))
     (same′ : (l i j : ℕ) → l < labels → i < m → j < m → (d l i j ≡ g l i j) × (g l i j < m)) where
   pair-step : (l x y : ℕ) → l < labels → (x / 64 < n) × (x % 64 < m) → (y / 64 < n) × (y % 64 < m)
@@ -46,7 +41,8 @@ module _ (c labels n m wx wy : ℕ) (e f d g : Step) (top : c ≤ 64) (pos : 0 <
       (ap₂ (λ (s t : ℕ). s * 64 + t) (a .0) (b .0), (omega arith, omega arith))
 
   -- the successor codes agree, and stay valid
-  pub kind-step : (k : Kind) (l x y : ℕ) → l < labels → Valid k n m x → Valid k n m y → (kindCode k e d wx wy l x y ≡ kindCode k f g wx wy l x y) × Valid k n m (kindCode k e d wx wy l x y)
+  pub kind-step : (k : Kind) (l x y : ℕ) → l < labels → Valid k n m x → Valid k n m y
+      → (kindCode k e d wx wy l x y ≡ kindCode k f g wx wy l x y) × Valid k n m (kindCode k e d wx wy l x y)
   unfolding kindCode
   kind-step Subset l x y hl hx hy = (refl, tt)
   kind-step Single l x y hl hx hy = (refl, tt)
@@ -111,7 +107,8 @@ pub record Part (labels : ℕ) (e f : Step) (n : ℕ) : Type 0 where
 -- what is the same of a record from tables and from steps
 pub record Same (k : Kind) (wx wy c labels : ℕ) (e f d g : Step) : Type 0 where
   pub codes : codesOf k e d wx wy c labels ≡ codesOf k f g wx wy c labels
-  pub steps : (cs : List ℕ) → codesOf k e d wx wy c labels ≡ some cs → (l i j : ℕ) → l < labels → i < length cs → j < length cs → stepOf (kindCode k e d wx wy) cs l i j ≡ stepOf (kindCode k f g wx wy) cs l i j
+  pub steps : (cs : List ℕ) → codesOf k e d wx wy c labels ≡ some cs → (l i j : ℕ) → l < labels → i < length cs → j < length cs
+      → stepOf (kindCode k e d wx wy) cs l i j ≡ stepOf (kindCode k f g wx wy) cs l i j
 
 module _ (wx wy c labels n m : ℕ) (e f d g : Step) (top : c ≤ 64) (pos : 0 < c) (bit : Bit wx labels) where
   one-part : (k : Kind) → Part labels e f n → Same k wx wy c labels e f e f

@@ -1,17 +1,9 @@
 -- The machines of the records one after the other: with one more, and after one with too many states. Assumes nothing.
-use Prim.Native.Nat.{ℕ, zero, suc, _+_, _-_, _*_, _^_, _≤_, _<_}
-use mathlib.Core.Logic.{⊎-elim}
-use mathlib.Core.Path.{_≡_, refl, sym, ap, _∙_, subst}
-use mathlib.Core.List.{List, [], _∷_, _++_}
-use mathlib.Core.Option.{Option, none, some}
-use native.Mathlib.Nat.{add-zero, add-suc, eq-or-lt-of-le}
-use native.Mathlib.Numerals.{add-one}
-use native.Mathlib.Omega.{arith}
-use lib.Arith.{digits-lt}
-use lib.Bits.{bitOr, or-lt}
-use lib.ListN.{length, getD, set, length-set, length-append, List·getD-append}
-use lib.Seq.{getD-set-same, getD-set-other, getD-append-seam}
-use Rattle.records.specs.Rule.{Mach, noMach, built, over, machineOf, more, after, upto, noDecoded, Sound, Stored, PartsStored, Placed, Added, Spared, Made, Wide, entryOf}
+use Rattle.words.proofs.Vocabulary.{ℕ, _≤_, _<_, _+_, _-_, _*_, suc, zero, _^_, _≡_, _∙_, refl, sym, ap, subst, ⊎-elim, List, [], _∷_, _++_, some}
+use Rattle.words.proofs.Vocabulary.{Option, none, digits-lt, bitOr, or-lt, length, getD, set, List·getD-append, length-append, length-set}
+use Rattle.words.proofs.Vocabulary.{getD-set-other, getD-set-same, getD-append-seam, add-zero, eq-or-lt-of-le, add-suc, add-one, arith}
+use Rattle.records.specs.Rule.{Mach, noMach, built, over, machineOf, more, after, upto, noDecoded, Sound, Stored, PartsStored, Placed, Added, Spared}
+use Rattle.records.specs.Rule.{Made, Wide, entryOf}
 use Rattle.table.specs.Entry.{entry, addr, seen}
 use Rattle.table.specs.Succ.{looksOf}
 use Rattle.table.specs.declared.plan.Kind.{Kind}
@@ -30,7 +22,6 @@ or-byte : (a b : ℕ) → a ≤ 255 → b ≤ 255 → bitOr a b ≤ 255
 or-byte a b ha hb = let h : bitOr a b < 2 ^ 8 = or-lt 8 a b (omega arith) (omega arith) in omega arith
 
 pub looks-byte : (k : Kind) (wx wy f g : ℕ) → 0 < wx → wx ≤ 128 → wy ≤ 128 → f ≤ 255 → g ≤ 255 → looksOf k wx wy f g ≤ 255
-unfolding looksOf
 looks-byte Subset wx wy f g p hx hy hf hg = or-byte wx wy (omega arith) (omega arith)
 looks-byte Single wx wy f g p hx hy hf hg = omega arith
 looks-byte Child1 wx wy f g p hx hy hf hg = or-byte wx wy (omega arith) (omega arith)
@@ -44,16 +35,17 @@ looks-byte Exists wx wy f g p hx hy hf hg = omega (arith, off-le wx f p)
 -- ---- one record more
 -- s with record r's machine
 abbrev pub withNext : Machines → ℕ → Summary → Machines
-withNext s r k = record { counts = set (s .counts) r (k .count); accepts = set (s .accepts) r (k .accept); looks = set (s .looks) r (k .looks); ending = s .ending }
+withNext s r k =
+    record { counts = set (s .counts) r (k .count); accepts = set (s .accepts) r (k .accept); looks = set (s .looks) r (k .looks); ending = s .ending }
 
 pub wide-next : (s : Machines) (r : ℕ) (k : Summary) → Wide s → Wide (withNext s r k)
 wide-next s r k w = record { counts = simp length-set (w .counts); accepts = simp length-set (w .accepts); looks = simp length-set (w .looks) }
 
 -- a machine stays stored where only a later share is changed
-stored-spared : (c labels a r : ℕ) (m : Mach) (k : Summary) (ws ws′ : List ℕ) → a < r → Spared c labels r ws ws′
+stored-spared : {c labels : ℕ} (a : ℕ) {r : ℕ} {m : Mach} {k : Summary} {ws ws′ : List ℕ} → a < r → Spared c labels r ws ws′
     → Stored c labels (a * (labels * c * c)) m k ws → Stored c labels (a * (labels * c * c)) m k ws′
 unfolding entry
-stored-spared c labels a r m k ws ws′ h sp s = record {
+stored-spared {c} {labels} a {r} {m} {k} {ws} {ws′} h sp s = record {
   count = s .count;
   accept = s .accept;
   holds = λ l i j hl hi hj.
@@ -71,18 +63,19 @@ pub record AllStored (xs : List Decoded) (c labels r : ℕ) (t : Machines) (ws :
   pub size : length machines ≡ r
   pub stored : (a : ℕ) → a < r → Stored c labels (a * (labels * c * c)) (getD machines a noMach) (entryOf t a) ws
 
-pub ready-first : (xs : List Decoded) (c labels : ℕ) (t : Machines) (ws : List ℕ) → AllStored xs c labels 0 t ws
+pub ready-first : {xs : List Decoded} {c labels : ℕ} {t : Machines} {ws : List ℕ} → AllStored xs c labels 0 t ws
 unfolding upto
-ready-first xs c labels t ws = record { machines = []; is = refl; size = refl; stored = λ a h. absurd (omega arith) }
+ready-first = record { machines = []; is = refl; size = refl; stored = λ a h. absurd (omega arith) }
 
-pub made-ready : (xs : List Decoded) (c labels r : ℕ) (t : Machines) (ws : List ℕ) → t .ending ≡ Ready → AllStored xs c labels r t ws → Made (upto xs c labels r) c labels r t ws
-made-ready xs c labels r t ws e w = rw (w .is) (e, w .size, w .stored)
+pub made-ready : {xs : List Decoded} {c labels r : ℕ} {t : Machines} {ws : List ℕ} → t .ending ≡ Ready → AllStored xs c labels r t ws
+    → Made (upto xs c labels r) c labels r t ws
+made-ready e w = rw (w .is) (e, w .size, w .stored)
 
 upto-next : (xs : List Decoded) (c labels r : ℕ) → upto xs c labels (r + 1) ≡ after c labels r (getD xs r noDecoded) (upto xs c labels r)
 unfolding upto
 upto-next xs c labels r = ap (upto xs c labels) (add-one r)
 
-module _ (xs : List Decoded) (c labels r : ℕ) (t : Machines) (ws ws′ : List ℕ) (w : AllStored xs c labels r t ws) where
+module _ {xs : List Decoded} {c labels r : ℕ} {t : Machines} {ws : List ℕ} (w : AllStored xs c labels r t ws) where
   abbrev x : Decoded
   x = getD xs r noDecoded
 
@@ -99,14 +92,15 @@ module _ (xs : List Decoded) (c labels r : ℕ) (t : Machines) (ws ws′ : List 
   unfolding after
   next-is o e = upto-next xs c labels r ∙ ap (after c labels r x) (w .is) ∙ ap (more r (w .machines)) e
 
-  module _ (k : Summary) (added : Added x c labels r (entryOf t (x .first)) (entryOf t (x .second)) f g k ws ws′) where
+  module _ {ws′ : List ℕ} {k : Summary} (added : Added x c labels r (entryOf t (x .first)) (entryOf t (x .second)) f g k ws ws′) where
     pub ready-next : Wide t → r < 128 → k .count ≤ c → Spared c labels r ws ws′ → AllStored xs c labels (r + 1) (withNext t r k) ws′
     ready-next wide hr few sp = record {
       machines = w .machines ++ (new ∷ []);
       is = next-is (some new) (made .1);
       size = length-append (w .machines) (new ∷ []) ∙ omega (arith, w .size);
       stored = λ a h. ⊎-elim
-          (λ (e : a ≡ r). subst (λ (b : ℕ). Stored c labels (b * (labels * c * c)) (getD (w .machines ++ (new ∷ [])) b noMach) (entryOf (withNext t r k) b) ws′) (sym e) here)
+          (λ (e : a ≡ r). subst (λ (b : ℕ). Stored c labels (b * (labels * c * c)) (getD (w .machines ++ (new ∷ [])) b noMach)
+          (entryOf (withNext t r k) b) ws′) (sym e) here)
           (λ (l : a < r). earlier a l)
           (eq-or-lt-of-le (omega arith));
     }
@@ -138,7 +132,7 @@ module _ (xs : List Decoded) (c labels r : ℕ) (t : Machines) (ws ws′ : List 
               getD-set-other (t .accepts) r a (k .accept) 0 no,
               getD-set-other (t .looks) r a (k .looks) 0 no,
             )
-            (stored-spared c labels a r (getD (w .machines) a noMach) (entryOf t a) ws ws′ l sp (w .stored a l))
+            (stored-spared a l sp (w .stored a l))
 
     pub over-next : c < k .count → upto xs c labels (r + 1) ≡ over r
     over-next h = next-is none (added .many h)
@@ -148,7 +142,8 @@ over-rest : (xs : List Decoded) (c labels r k d : ℕ) → upto xs c labels r �
 unfolding after
 over-rest xs c labels r k zero e = ap (upto xs c labels) (add-zero r) ∙ e
 over-rest xs c labels r k (suc d) e =
-    ap (upto xs c labels) (add-suc r d ∙ sym (add-one (r + d))) ∙ upto-next xs c labels (r + d) ∙ ap (after c labels (r + d) (getD xs (r + d) noDecoded)) (over-rest xs c labels r k d e)
+    ap (upto xs c labels) (add-suc r d ∙ sym (add-one (r + d))) ∙ upto-next xs c labels (r + d) ∙ ap (after c labels (r + d) (getD xs (r + d) noDecoded))
+    (over-rest xs c labels r k d e)
 
 pub made-over : (xs : List Decoded) (c labels r m : ℕ) (t : Machines) (ws : List ℕ) → r < m → t .ending ≡ Over r → upto xs c labels (r + 1) ≡ over r
     → Made (upto xs c labels m) c labels m t ws

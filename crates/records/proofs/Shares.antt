@@ -1,23 +1,14 @@
 -- One record: its plan has room, and its machine, explored from its parts' tables, is the machine of its parts' machines. Assumes nothing.
-use Prim.Native.Nat.{ℕ, _+_, _*_, _/_, _%_, _≤_, _<_, _-_}
-use mathlib.Core.Bool.{Bool, true, false, cond, _&&_}
-use mathlib.Core.Path.{_≡_, refl, sym, ap, ap₂, _∙_, subst}
-use mathlib.Core.List.{List}
-use mathlib.Core.Option.{Option, none, some}
-use native.Mathlib.Nat.{mul-le-mul-left, mul-le-mul-right, suc-mul, mod-lt, div-add-mod'}
-use native.Mathlib.Decide.{decLt}
-use lib.Dec.{leb, ltb}
-use native.Mathlib.Omega.{arith}
-use borrow.Author.Tests.{le-leb, lt-leb, leb-true, leb-false, ltb-true, ltb-false}
-use lib.Arith.{digits-lt}
-use lib.ListN.{length, getD, take, drop}
-use lib.Seq.{getD-take, length-take-le, drop-drop}
+use Rattle.words.proofs.Vocabulary.{ℕ, _≤_, _<_, _+_, _-_, _*_, _%_, _/_, Bool, true, false, _&&_, cond, _≡_, _∙_, refl, sym, ap, subst, ap₂, List}
+use Rattle.words.proofs.Vocabulary.{some, Option, none, le-leb, lt-leb, ltb-false, ltb-true, leb-false, leb-true, digits-lt, ltb, leb, length, getD}
+use Rattle.words.proofs.Vocabulary.{take, drop, length-take-le, getD-take, drop-drop, decLt, mul-le-mul-right, suc-mul, mod-lt, mul-le-mul-left}
+use Rattle.words.proofs.Vocabulary.{div-add-mod', arith}
 use Rattle.logic.specs.Reach.{position}
 use Rattle.table.specs.Rows.{Led}
 use Rattle.table.specs.Entry.{seen, addr, Bare, entry, through}
 use Rattle.exploring.specs.Filling.{listed, Cell, Explored}
 use Rattle.table.specs.Succ.{Room, kindCode, successorOf, succIn, startCode, startOf}
-use Rattle.records.specs.Machine.{codesOf, stepOf, acceptBy, acceptOf, Holds, shareByte}
+use Rattle.records.specs.Machine.{codesOf, stepOf, acceptOf, Holds, shareByte}
 use Rattle.records.specs.Rule.{Mach, machFrom, isNot, numberedBy, machineOf, planOf, Fits, OfParts, Sound, Stored, PartsStored, Placed, Added, Spared}
 use Rattle.table.specs.declared.plan.Kind.{Kind}
 use Rattle.table.specs.declared.plan.Kind.the-variants.{Subset, Single, Child1, Child2, Root, Not, Or, And, Exists}
@@ -92,7 +83,7 @@ parts-both Exists A A′ B B′ p q = (p, q)
 
 -- the accepting states go by those of the parts that the kind has
 accept-parts : (k : Kind) (a b a′ b′ : ℕ) (cs : List ℕ) → OfParts k (a ≡ a′) (b ≡ b′) → acceptOf k a b cs ≡ acceptOf k a′ b′ cs
-unfolding acceptOf acceptBy
+unfolding acceptOf
 accept-parts Subset a b a′ b′ cs h = refl
 accept-parts Single a b a′ b′ cs h = refl
 accept-parts Child1 a b a′ b′ cs h = refl
@@ -107,7 +98,8 @@ accept-parts Exists a b a′ b′ cs h = ap (λ (n : ℕ). acceptOf Exists n b c
 pub placed : (c labels r : ℕ) (m : Mach) (k : Summary) (ws ws′ : List ℕ) → Stored c labels (r * (labels * c * c)) m k ws′
     → ((q : ℕ) → Bare (r * (labels * c * c)) c (k .looks) (length (m .codes)) q → getD ws′ q 0 ≡ getD ws q 0) → Placed c labels r m k ws ws′
 unfolding shareByte entry addr
-placed c labels r m k ws ws′ s bare = record { stored = s; bytes = λ q h. byte q h (leb (q / c / c) (seen (k .looks) (q / c / c))) (ltb (q / c % c) n) (ltb (q % c) n) refl refl refl }
+placed c labels r m k ws ws′ s bare =
+    record { stored = s; bytes = λ q h. byte q h (leb (q / c / c) (seen (k .looks) (q / c / c))) (ltb (q / c % c) n) (ltb (q % c) n) refl refl refl }
   where
     base : ℕ
     base = r * (labels * c * c)
@@ -155,7 +147,8 @@ placed c labels r m k ws ws′ s bare = record { stored = s; bytes = λ q h. byt
             → getD ws′ (base + q) 0 ≡ cond (u && (v && w)) (m .step l i j) (getD ws (base + q) 0)
         go true true true eu ev ew =
             let e : seen (k .looks) l ≡ l = omega (arith, leb-true l (seen (k .looks) l) eu, seen-le (k .looks) l) in
-            ap (λ (z : ℕ). getD ws′ (base + z) 0) (whole ∙ ap (λ (z : ℕ). (z * c + i) * c + j) (sym e)) ∙ s .holds l i j label (ltb-true i n ev) (ltb-true j n ew) .0
+            ap (λ (z : ℕ). getD ws′ (base + z) 0) (whole ∙ ap (λ (z : ℕ). (z * c + i) * c + j) (sym e)) ∙ s .holds l i j label (ltb-true i n ev)
+            (ltb-true j n ew) .0
         go false v w eu ev ew = old (λ a b d. omega (arith, leb-false l (seen (k .looks) l) eu))
         go true false w eu ev ew = old (λ a b d. omega (arith, ltb-false i n ev))
         go true true false eu ev ew = old (λ a b d. omega (arith, ltb-false j n ew))
@@ -194,18 +187,21 @@ module _ (x : Decoded) (r c labels : ℕ) (kf kg : Summary) (ws : List ℕ) (f g
 
   parts : OfParts (x .kind) ((x .first < r) × Stored c labels (x .first * share) f kf ws) ((x .second < r) × Stored c labels (x .second * share) g kg ws)
   parts =
-      parts-both (x .kind) (x .first < r) (Stored c labels (x .first * share) f kf ws) (x .second < r) (Stored c labels (x .second * share) g kg ws) (sound .before) stored
+      parts-both (x .kind) (x .first < r) (Stored c labels (x .first * share) f kf ws) (x .second < r) (Stored c labels (x .second * share) g kg ws)
+      (sound .before) stored
 
   same : Same (x .kind) (x .wx) (x .wy) c labels first (f .step) second (g .step)
   same =
-      record-same (x .wx) (x .wy) c labels (length (f .codes)) (length (g .codes)) first (f .step) second (g .step) (fits .ceiling) (fits .some-state) (sound .bit) (x .kind)
+      record-same (x .wx) (x .wy) c labels (length (f .codes)) (length (g .codes)) first (f .step) second (g .step) (fits .ceiling) (fits .some-state)
+      (sound .bit) (x .kind)
       (parts-map (x .kind) (λ w. part-at (x .first) kf f (w .0) (w .1)) (λ w. part-at (x .second) kg g (w .0) (w .1)) parts)
 
   -- the table of the part of an "exists" lies before the share, and leads to the part's states
   pub led-of : Led low plan
   unfolding through
   led-of e =
-      let w = subst (λ (k : Kind). OfParts k ((x .first < r) × Stored c labels (x .first * share) f kf ws) ((x .second < r) × Stored c labels (x .second * share) g kg ws)) e parts in
+      let w = subst (λ (k : Kind). OfParts k ((x .first < r) × Stored c labels (x .first * share) f kf ws)
+      ((x .second < r) × Stored c labels (x .second * share) g kg ws)) e parts in
       let p = part-at (x .first) kf f (w .0) (w .1) in (
         length (f .codes),
         record {
@@ -243,7 +239,8 @@ module _ (x : Decoded) (r c labels : ℕ) (kf kg : Summary) (ws : List ℕ) (f g
 
       found : Found (kindCode (x .kind) first second (x .wx) (x .wy)) c labels (startCode (x .kind) first (x .wx)) (fits .some-state) (λ (z : ℕ). Unit {0}) cs
       unfolding codesOf
-      found = explore-some (kindCode (x .kind) first second (x .wx) (x .wy)) c labels (startCode (x .kind) first (x .wx)) (fits .some-state) cs (sym from-tables ∙ is-cs)
+      found = explore-some (kindCode (x .kind) first second (x .wx) (x .wy)) c labels (startCode (x .kind) first (x .wx)) (fits .some-state) cs
+          (sym from-tables ∙ is-cs)
 
       new-holds : Holds ws′ c labels (r * share) (plan .looks) (length cs) (machFrom x f g cs .step)
       unfolding entry stepOf successorOf
@@ -265,11 +262,13 @@ module _ (x : Decoded) (r c labels : ℕ) (kf kg : Summary) (ws : List ℕ) (f g
           made (some cs) is-cs,
           placed c labels r (machFrom x f g cs) k ws ws′ (record {
             count = is-count ∙ sym count-cs;
-            accept = ea ∙ accept-parts (x .kind) (kf .accept) (kg .accept) (f .accept) (g .accept) cs (parts-map (x .kind) (λ s. s .accept) (λ s. s .accept) stored);
+            accept =
+                ea ∙ accept-parts (x .kind) (kf .accept) (kg .accept) (f .accept) (g .accept) cs (parts-map (x .kind) (λ s. s .accept) (λ s. s .accept) stored);
             holds = subst (λ (l : ℕ). Holds ws′ c labels (r * share) l (length cs) (machFrom x f g cs .step)) (sym el) new-holds;
             some-state = found .some-code;
             few = found .few;
-          }) (λ q off. done .bare q (λ l i j hs hi hj. off l i j (subst (λ (b : ℕ). l ≤ seen b l) (sym el) hs) (omega (arith, count-cs)) (omega (arith, count-cs)))),
+          }) (λ q off. done .bare q (λ l i j hs hi hj. off l i j (subst (λ (b : ℕ). l ≤ seen b l) (sym el) hs) (omega (arith, count-cs))
+              (omega (arith, count-cs)))),
         );
       }
 

@@ -34,7 +34,7 @@ unfoldable pub shareByte : ℕ → ℕ → ℕ → Step → ℕ → ℕ → ℕ
 shareByte c b n f k old = cond (leb (k / c / c) (seen b (k / c / c)) && (ltb (k / c % c) n && ltb (k % c) n)) (f (k / c / c) (k / c % c) (k % c)) old
 
 -- does the state with code x accept, where a and b are the accepting states of the parts; "not" is not explored
-unfoldable pub acceptBy : Kind → ℕ → ℕ → ℕ → Bool
+abbrev pub acceptBy : Kind → ℕ → ℕ → ℕ → Bool
 acceptBy Subset a b x = eqb x 0
 acceptBy Single a b x = eqb x 1
 acceptBy Child1 a b x = eqb x 2

@@ -154,7 +154,8 @@ SomeParts x c labels kf kg ws = (f : Mach) × (g : Mach) × PartsStored x c labe
 -- machine m is stored, with the bits b looked at, in the share at base: each of the share's bytes is given by the machine and the byte
 -- that was there
 abbrev pub ShareBytes : ℕ → ℕ → ℕ → Mach → ℕ → List ℕ → List ℕ → Type 0
-ShareBytes c labels base m b ws ws′ = (k : ℕ) → k < labels * c * c → getD ws′ (base + k) 0 ≡ shareByte c b (length (m .codes)) (m .step) k (getD ws (base + k) 0)
+ShareBytes c labels base m b ws ws′ =
+    (k : ℕ) → k < labels * c * c → getD ws′ (base + k) 0 ≡ shareByte c b (length (m .codes)) (m .step) k (getD ws (base + k) 0)
 
 -- record r's machine m is k's, and fills the record's share
 pub record Placed (c labels r : ℕ) (m : Mach) (k : Summary) (ws ws′ : List ℕ) : Type 0 where
@@ -184,7 +185,8 @@ entryOf s a = record { count = getD (s .counts) a 0; accept = getD (s .accepts) 
 -- the machines of the first r records are stored, or the first record with too many states is named
 abbrev pub Made : Outcome → ℕ → ℕ → ℕ → Machines → List ℕ → Type 0
 Made (over k) c labels r s ws = s .ending ≡ Over k
-Made (built ms) c labels r s ws = (s .ending ≡ Ready) × (length ms ≡ r) × ((a : ℕ) → a < r → Stored c labels (a * (labels * c * c)) (getD ms a noMach) (entryOf s a) ws)
+Made (built ms) c labels r s ws =
+    (s .ending ≡ Ready) × (length ms ≡ r) × ((a : ℕ) → a < r → Stored c labels (a * (labels * c * c)) (getD ms a noMach) (entryOf s a) ws)
 
 -- s has an entry for each possible record
 pub record Wide (s : Machines) : Type 0 where

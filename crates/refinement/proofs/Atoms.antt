@@ -1,10 +1,7 @@
 -- The builder's atoms, from their tables, are machines of the atoms.
 -- Assumes nothing.
-use Prim.Native.Nat.{ℕ, zero, suc, _/_, _%_, _≤_, _<_}
-use mathlib.Core.Path.{_≡_, refl, sym, ap, ap₂, subst, _∙_, fun-ext}
-use mathlib.Core.Bool.{Bool, true, false}
-use native.Mathlib.Omega.{arith}
-use lib.Dec.{T, eqb, eqb→eq}
+use Rattle.words.proofs.Vocabulary.{ℕ, _≤_, _<_, suc, _%_, zero, _/_, Bool, true, false, _≡_, _∙_, refl, sym, ap, subst, ap₂, fun-ext, eqb, T, eqb→eq}
+use Rattle.words.proofs.Vocabulary.{arith}
 use Rattle.logic.specs.Meaning.{Branch, Formula, subset, singleton, successor, root}
 use Rattle.logic.specs.Tree.{downFrom, sumOf, bit}
 use Rattle.logic.specs.Machine.{Machine, bitOf, allOf, anyOf}
@@ -31,7 +28,8 @@ digit (suc zero) h = refl
 digit (suc (suc a)) h = absurd (omega arith)
 
 -- a machine that steps by f on the bits of x and y
-module _ (n x y m : ℕ) (rule : ℕ → ℕ → ℕ → ℕ → ℕ) (f : Bool → Bool → (Branch 2 → ℕ) → ℕ) (acc : ℕ → Bool) (few : m ≤ 4) (test : (v w : Bool) → T (agrees m rule f v w)) where
+module _ (n x y m : ℕ) (rule : ℕ → ℕ → ℕ → ℕ → ℕ) (f : Bool → Bool → (Branch 2 → ℕ) → ℕ) (acc : ℕ → Bool) (few : m ≤ 4)
+    (test : (v w : Bool) → T (agrees m rule f v w)) where
   abbrev M : Machine 2 ℕ
   M = record { start = 0; step = λ l s. f (bit n l x) (bit n l y) s; accepting = acc }
 
@@ -43,7 +41,8 @@ module _ (n x y m : ℕ) (rule : ℕ → ℕ → ℕ → ℕ → ℕ) (f : Bool 
   unfolding agrees
   rule-is v w s h k = sym (
       eqb→eq _ _ (all-elem (λ b. eqb (rule (bitOf v) (bitOf w) (s one) b) (f v w (pairOf (s one) b))) (below m)
-      (all-elem (λ a. allOf (λ b. eqb (rule (bitOf v) (bitOf w) a b) (f v w (pairOf a b))) (below m)) (below m) (test v w) (s one) ((elem-below (s one) m) .1 h))
+      (all-elem (λ a. allOf (λ b. eqb (rule (bitOf v) (bitOf w) a b) (f v w (pairOf a b))) (below m)) (below m) (test v w) (s one)
+      ((elem-below (s one) m) .1 h))
       (s two) ((elem-below (s two) m) .1 k))
       ∙ ap (f v w) (two-branches s))
 
@@ -114,7 +113,8 @@ module _ (n x y : ℕ) (hx : x < n) where
   atomOf rule acc = branching 0 (λ l i j. ruleAt rule (atomIndex (weight n x) (weight n y) l i j)) acc
 
   pub atom-single : MachineOf n (singleton x) (atomOf singleRule (λ q. eqb q 1))
-  atom-single = of-atom n x y 3 singleRule (λ v w. singletonStep v) (λ q. eqb q 1) (omega arith) single-test (singleton-bounded n x) (singleton x) (of-singleton n x hx)
+  atom-single =
+      of-atom n x y 3 singleRule (λ v w. singletonStep v) (λ q. eqb q 1) (omega arith) single-test (singleton-bounded n x) (singleton x) (of-singleton n x hx)
 
   pub atom-root : MachineOf n (root x) (atomOf rootRule (λ q. eqb q 1))
   atom-root = of-atom n x y 3 rootRule (λ v w. rootStep v) (λ q. eqb q 1) (omega arith) root-test (root-bounded n x) (root x) (of-root n x hx)
@@ -125,8 +125,10 @@ module _ (n x y : ℕ) (hx : x < n) where
 
     pub atom-first : MachineOf n (successor one x y) (atomOf child1Rule (λ q. eqb q 2))
     atom-first =
-        of-atom n x y 4 child1Rule (successorStep one) (λ q. eqb q 2) (omega arith) first-test (successor-bounded n one x y) (successor one x y) (of-successor n one x y hx hy)
+        of-atom n x y 4 child1Rule (successorStep one) (λ q. eqb q 2) (omega arith) first-test (successor-bounded n one x y) (successor one x y)
+        (of-successor n one x y hx hy)
 
     pub atom-second : MachineOf n (successor two x y) (atomOf child2Rule (λ q. eqb q 2))
     atom-second =
-        of-atom n x y 4 child2Rule (successorStep two) (λ q. eqb q 2) (omega arith) second-test (successor-bounded n two x y) (successor two x y) (of-successor n two x y hx hy)
+        of-atom n x y 4 child2Rule (successorStep two) (λ q. eqb q 2) (omega arith) second-test (successor-bounded n two x y) (successor two x y)
+        (of-successor n two x y hx hy)

@@ -1,12 +1,7 @@
 -- From the bytes that the builder leaves to decide's answer by the search over them.
 -- Assumes nothing.
-use Prim.Native.Nat.{ℕ, _+_, _-_, _*_, _^_, _≤_, _<_}
-use mathlib.Core.Path.{_≡_, refl, sym, ap, subst, _∙_}
-use mathlib.Core.List.{List}
-use native.Mathlib.Omega.{arith}
-use lib.Bits.{bitAnd}
-use lib.ListN.{length, getD, drop}
-use lib.Seq.{getD-drop}
+use Rattle.words.proofs.Vocabulary.{ℕ, _≤_, _<_, _+_, _-_, _*_, _^_, _≡_, _∙_, refl, sym, ap, subst, List, bitAnd, length, getD, drop, getD-drop}
+use Rattle.words.proofs.Vocabulary.{arith}
 use Rattle.logic.specs.Meaning.{Assignment}
 use Rattle.logic.specs.Tree.{Tree, TreeOf}
 use Rattle.logic.specs.Rule.{noRecord, Record, formulaAt, lastOf, Accepted}
@@ -114,7 +109,9 @@ module _ (n c : ℕ) (pos : 0 < c) (top : c ≤ 64) (rs : List Record) (acc : Ac
           let k : ℕ = length (m .codes) in
           let f : count ≡ k = at-last .count in
           let B : Bounded n k (machOf m) = good-last .full .0 in
-          let M : MachineOf n (formulaAt rs last) (machineIn looks table c accept) = of-agrees n k (machOf m) (machineIn looks table c accept) B agrees (formulaAt rs last) (good-last .machine) in
+          let M : MachineOf n (formulaAt rs last) (machineIn looks table c accept) =
+          of-agrees n k (machOf m) (machineIn looks table c accept) B agrees (formulaAt rs last) (good-last .machine) in
           let F : Full n k (machineIn looks table c accept) = full-agrees n k (machOf m) (machineIn looks table c accept) B agrees (good-last .full .1) in
           subst (λ (z : ℕ). report z (search (2 ^ n) (tableIn looks table c accept z) P) ≡ decideOf 2 n rs c P) (sym f)
-          (decide-any 2 n rs acc c P (few-states n c pos top rs acc xs decoded (length rs) ms (omega arith) (all-linked .1)) (machineIn looks table c accept) M k F)
+          (decide-any 2 n rs acc c P (few-states n c pos top rs acc xs decoded (length rs) ms (omega arith) (all-linked .1))
+          (machineIn looks table c accept) M k F)

@@ -1,13 +1,6 @@
 -- An accepted rule's records, decoded, are what the builder asks for. Assumes nothing.
-use Prim.Native.Nat.{ℕ, zero, suc, _+_, _-_, _*_, _^_, _≤_, _<_}
-use mathlib.Core.Path.{refl}
-use mathlib.Core.Bool.{Bool, true, false, cond}
-use mathlib.Core.List.{List}
-use native.Mathlib.Nat.{mul-le-mul-right, suc-mul}
-use native.Mathlib.Omega.{arith}
-use lib.Dec.{T, eqb, ltb, ltb→lt}
-use lib.ListN.{length, getD}
-use lib.Pow.{pow-pos, pow-mono}
+use Rattle.words.proofs.Vocabulary.{ℕ, _≤_, _<_, _+_, _-_, _*_, suc, zero, _^_, Bool, true, false, cond, refl, List, eqb, ltb, T, ltb→lt, length}
+use Rattle.words.proofs.Vocabulary.{getD, pow-pos, pow-mono, mul-le-mul-right, suc-mul, arith}
 use Rattle.logic.specs.Rule.{Record, noRecord, good, Accepted}
 use Rattle.records.specs.Rule.{OfParts, Sound, Buildable}
 use Rattle.table.proofs.Labels.{bit-of}
@@ -28,7 +21,8 @@ module _ (n : ℕ) (some : 1 ≤ n) (few : n ≤ 8) where
   weight-small x = let h : n - suc x ≤ 7 = omega arith in let e = pow-mono h in omega arith
 
   -- the parts come before the record, and its weight is that of a label's bit
-  sound-at : (r op a b : ℕ) → T (good 2 n r (record { op = op; first = a; second = b })) → Sound (decodedOf n (record { op = op; first = a; second = b })) r (2 ^ n)
+  sound-at : (r op a b : ℕ) → T (good 2 n r (record { op = op; first = a; second = b }))
+      → Sound (decodedOf n (record { op = op; first = a; second = b })) r (2 ^ n)
   unfolding good decodedOf
   sound-at r op a b t = record { before = parts op t; bit = bit-of n (n - suc a) (omega arith) }
     where

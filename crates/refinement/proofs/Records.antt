@@ -1,15 +1,7 @@
 -- The machine that the builder makes of a record, from its parts' machines, is a machine of the record; where it makes none, the record has
 -- more than c states. Assumes nothing.
-use Prim.Native.Nat.{ℕ, suc, _+_, _-_, _*_, _/_, _%_, _^_, _≤_, _<_}
-use mathlib.Core.Path.{_≡_, refl, sym, ap, ap₂, subst, _∙_}
-use mathlib.Core.Logic.{_↔_}
-use mathlib.Core.Bool.{Bool, not, _&&_, _||_}
-use mathlib.Core.List.{List}
-use mathlib.Core.Option.{Option, none, some}
-use native.Mathlib.Omega.{arith}
-use borrow.Author.Tests.{lt-ltb}
-use lib.Dec.{ltb}
-use lib.ListN.{length, getD}
+use Rattle.words.proofs.Vocabulary.{ℕ, _≤_, _<_, _+_, _-_, _*_, suc, _%_, _^_, _/_, Bool, _||_, _&&_, not, _≡_, _∙_, refl, sym, ap, subst, ap₂, _↔_}
+use Rattle.words.proofs.Vocabulary.{List, some, Option, none, lt-ltb, ltb, length, getD, arith}
 use Rattle.logic.specs.Meaning.{Formula, negation, disjunction, conjunction, exists as someF}
 use Rattle.logic.specs.Machine.{Machine, complement, product, Simulates}
 use Rattle.logic.specs.Reach.{below, Reached, stepped, started, numbered}
@@ -139,9 +131,11 @@ module _ (n c : ℕ) (pos : 0 < c) (top : c ≤ 64) where
       let same = others-agree f (p .few) in
       record {
         machine =
-            of-agrees n (length (f .codes)) (complement (machOf f)) (machOf (complementOf f)) (p .full .0) same (negation F) (of-negation n F (machOf f) (p .machine));
+            of-agrees n (length (f .codes)) (complement (machOf f)) (machOf (complementOf f)) (p .full .0) same (negation F)
+            (of-negation n F (machOf f) (p .machine));
         full =
-            full-agrees n (length (f .codes)) (complement (machOf f)) (machOf (complementOf f)) (p .full .0) same (λ q h. reached-other (machOf f) q (p .full .1 q h));
+            full-agrees n (length (f .codes)) (complement (machOf f)) (machOf (complementOf f)) (p .full .0) same
+            (λ q h. reached-other (machOf f) q (p .full .1 q h));
         few = p .few;
       }
 
@@ -179,16 +173,18 @@ module _ (n c : ℕ) (pos : 0 < c) (top : c ≤ 64) where
     }
 
     pub either-pair : (wx wy : ℕ) → MachineOf n (disjunction F G) (codeMachine Or f g wx wy)
-    unfolding startCode kindCode acceptBy
+    unfolding startCode kindCode
     either-pair wx wy = of-disjunction n F G vf vg (machOf f) (machOf g) (p .machine) (q .machine) (codeMachine Or f g wx wy) Pair one-pair
-        (pairs _||_ (acceptBy Or (f .accept) (g .accept)) (λ z s u. let i = parts z s u in ap₂ (λ (a b : ℕ). mem a (f .accept) || mem b (g .accept)) (i .0) (i .1)))
+        (pairs _||_ (acceptBy Or (f .accept) (g .accept))
+        (λ z s u. let i = parts z s u in ap₂ (λ (a b : ℕ). mem a (f .accept) || mem b (g .accept)) (i .0) (i .1)))
 
     pub both-pair : (wx wy : ℕ) → MachineOf n (conjunction F G) (codeMachine And f g wx wy)
-    unfolding startCode kindCode acceptBy
+    unfolding startCode kindCode
     both-pair wx wy = of-conjunction n F G vf vg (machOf f) (machOf g) (p .machine) (q .machine) (codeMachine And f g wx wy) Pair one-pair
-        (pairs _&&_ (acceptBy And (f .accept) (g .accept)) (λ z s u. let i = parts z s u in ap₂ (λ (a b : ℕ). mem a (f .accept) && mem b (g .accept)) (i .0) (i .1)))
+        (pairs _&&_ (acceptBy And (f .accept) (g .accept))
+        (λ z s u. let i = parts z s u in ap₂ (λ (a b : ℕ). mem a (f .accept) && mem b (g .accept)) (i .0) (i .1)))
 
   -- ---- "exists"
   pub some-set : (f g : Mach) (F : Formula 2) (p : Good F f) → Valid n F → (x wy : ℕ) → x < n → MachineOf n (someF x F) (codeMachine Exists f g (weight n x) wy)
-  unfolding startCode kindCode acceptBy
+  unfolding startCode kindCode
   some-set f g F p vf x wy hx = of-sets n x (length (f .codes)) hx (f .step) (f .accept) (omega (arith, p .few)) (p .full .0) F vf (p .machine)

@@ -1,15 +1,6 @@
 -- The builder's machine of "exists", over sets as words, runs the sets of its part's states. Assumes nothing.
-use Prim.Native.Nat.{ℕ, zero, suc, _+_, _-_, _%_, _^_, _≤_, _<_}
-use mathlib.Core.Path.{_≡_, refl, sym, ap, ap₂, subst, _∙_}
-use mathlib.Core.Logic.{_↔_, ⊎-elim}
-use mathlib.Core.Bool.{Bool, true, false, cond, _&&_, _||_, or-true}
-use mathlib.Core.List.{List, [], _∷_}
-use native.Mathlib.Nat.{add-zero, add-suc}
-use native.Mathlib.Omega.{arith}
-use borrow.Author.Tests.{eqb-true, eq-eqb}
-use lib.Bits.{or-lt}
-use lib.Dec.{T, eqb}
-use lib.ListN.{length}
+use Rattle.words.proofs.Vocabulary.{ℕ, _≤_, _<_, _+_, _-_, suc, _%_, zero, _^_, Bool, true, false, _||_, _&&_, cond, or-true, _≡_, _∙_, refl, sym, ap}
+use Rattle.words.proofs.Vocabulary.{subst, ap₂, ⊎-elim, _↔_, List, [], _∷_, eq-eqb, eqb-true, or-lt, eqb, T, length, add-zero, add-suc, arith}
 use Rattle.logic.specs.Meaning.{Formula, exists}
 use Rattle.logic.specs.Machine.{Machine, withBit, Blank, none, grown, Projects}
 use Rattle.logic.specs.Reach.{elem, successors, add, closure, reach}
@@ -75,10 +66,12 @@ module _ (n x m : ℕ) (hx : x < n) (f : Step) (a : ℕ) (top : m ≤ 64) (B : B
       ⊎-elim
       (λ (p : eqb (f (off w l) (i .0) (j .0) % 64) q ≡ true).
       let b = stays (off w l) (i .0) (j .0) (bit .off-label l hl) hi hj in
-      (false, i .0, j .0, (hi, bi .0), (hj, bj .0), ap (λ (k : ℕ). f k (i .0) (j .0)) (put-off n x l) ∙ omega (arith, eqb-true (f (off w l) (i .0) (j .0) % 64) q p)))
+      let same = eqb-true (f (off w l) (i .0) (j .0) % 64) q p in
+      (false, i .0, j .0, (hi, bi .0), (hj, bj .0), ap (λ (k : ℕ). f k (i .0) (j .0)) (put-off n x l) ∙ omega arith))
       (λ (p : eqb (f (on w l) (i .0) (j .0) % 64) q ≡ true).
       let b = stays (on w l) (i .0) (j .0) (bit .on-label l hl) hi hj in
-      (true, i .0, j .0, (hi, bi .0), (hj, bj .0), ap (λ (k : ℕ). f k (i .0) (j .0)) (put-on n x l) ∙ omega (arith, eqb-true (f (on w l) (i .0) (j .0) % 64) q p)))
+      let same = eqb-true (f (on w l) (i .0) (j .0) % 64) q p in
+      (true, i .0, j .0, (hi, bi .0), (hj, bj .0), ap (λ (k : ℕ). f k (i .0) (j .0)) (put-on n x l) ∙ omega arith))
       (or-cases (eqb (f (off w l) (i .0) (j .0) % 64) q) (eqb (f (on w l) (i .0) (j .0) % 64) q) (bj .1))
 
   follows-all : (l s t i j : ℕ) → l < 2 ^ n → (v : Bool) → Has s i → Has t j → Has (existsCode f w l s t) (f (withBit n x v l) i j)
@@ -87,7 +80,8 @@ module _ (n x m : ℕ) (hx : x < n) (f : Step) (a : ℕ) (top : m ≤ 64) (B : B
     where
       met : (q : ℕ) → q < m → hit f (off w l) (on w l) q i j ≡ true → Has (existsCode f w l s t) q
       met q hq h =
-          let row : any (hitRow f (off w l) (on w l) t q i) 64 ≡ true = any-in (hitRow f (off w l) (on w l) t q i) 64 j (omega (arith, hj .0)) (ap₂ _&&_ (hj .1) h) in (
+          let row : any (hitRow f (off w l) (on w l) t q i) 64 ≡ true =
+          any-in (hitRow f (off w l) (on w l) t q i) 64 j (omega (arith, hj .0)) (ap₂ _&&_ (hj .1) h) in (
             hq,
             word-mem 64 q (λ (q : ℕ). any (hitSet f (off w l) (on w l) s t q) 64) (omega arith)
                 ∙ any-in (hitSet f (off w l) (on w l) s t q) 64 i (omega (arith, hi .0)) (ap₂ _&&_ (hi .1) row),
@@ -179,7 +173,8 @@ module _ (n x m : ℕ) (hx : x < n) (f : Step) (a : ℕ) (top : m ≤ 64) (B : B
           ((elem-add q (successors M blanks (λ b. L)) L) .0 t)
 
       go : (v : Bool) → T (elem q (cond v L (closure (λ L. successors M blanks (λ b. L)) d (add (successors M blanks (λ b. L)) L))))
-          → (T (elem q (closure (λ L. successors M blanks (λ b. L)) d (add (successors M blanks (λ b. L)) L))) → Has (grows (suc e + d)) q) → Has (grows (e + suc d)) q
+          → (T (elem q (closure (λ L. successors M blanks (λ b. L)) d (add (successors M blanks (λ b. L)) L))) → Has (grows (suc e + d)) q)
+          → Has (grows (e + suc d)) q
       go true t later = grows-keep e (suc d) q (h q t)
       go false t later = subst (λ (k : ℕ). Has (grows k) q) (omega arith) (later t)
 

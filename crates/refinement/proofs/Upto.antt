@@ -1,15 +1,7 @@
 -- The builder's outcome for all records of a rule, and decide's answer from it.
 -- Assumes nothing.
-use Prim.Native.Nat.{ℕ, zero, suc, _+_, _-_, _^_, _≤_, _<_}
-use mathlib.Core.Path.{_≡_, refl, sym, ap, subst, _∙_}
-use mathlib.Core.Bool.{Bool, false, _&&_}
-use mathlib.Core.List.{List, [], _∷_}
-use mathlib.Core.Option.{Option, none, some}
-use native.Mathlib.Nat.{not-suc-le-zero}
-use native.Mathlib.Omega.{arith}
-use native.Mathlib.Decide.{decLt}
-use lib.Dec.{T, eqb, ltb, ltb→lt}
-use lib.ListN.{length, getD, length-append}
+use Rattle.words.proofs.Vocabulary.{ℕ, _≤_, _<_, _+_, _-_, suc, zero, _^_, Bool, false, _&&_, _≡_, _∙_, refl, sym, ap, subst, List, [], _∷_, some}
+use Rattle.words.proofs.Vocabulary.{Option, none, eqb, ltb, T, ltb→lt, length, getD, length-append, decLt, not-suc-le-zero, arith}
 use Rattle.refinement.specs.Decode.{weight, decodedOf}
 use Rattle.logic.specs.Meaning.{Branch, Formula, subset, singleton, successor, root, disjunction, conjunction, exists as someF}
 use Rattle.logic.specs.Tree.{Tree}
@@ -25,7 +17,6 @@ use Rattle.logic.proofs.Rules.{record-valid, record-formula, getD-snoc}
 use Rattle.logic.proofs.Answers.{decide-answers, judge-judges}
 use Rattle.logic.proofs.Builders.{states-any, over-index}
 use Rattle.table.specs.Succ.{startCode, kindCode}
-use Rattle.records.specs.Machine.{acceptBy}
 use Rattle.records.specs.Rule.{Mach, noMach, Outcome, built, over, isNot, machineOf, more, after, noDecoded, upto}
 use Rattle.records.specs.declared.Decoded.{Decoded}
 use Rattle.refinement.proofs.Atoms.{atom-subset, atom-single, atom-root, atom-first, atom-second}
@@ -36,18 +27,21 @@ both-of a b = (and-iff a b (λ t. t, λ t. t) (λ t. t, λ t. t)) .0
 
 child-first : (x y : ℕ) → successorAt {k = 2} 0 x y ≡ successor one x y
 unfolding successorAt
-child-first x y = elim (decLt 0 2) as (λ d. elim d as (λ _. Formula 2) [ yes h ↦ successor (record { number = 0; below = h }) x y | no h ↦ root 0 ] ≡ successor one x y)
+child-first x y =
+    elim (decLt 0 2) as (λ d. elim d as (λ _. Formula 2) [ yes h ↦ successor (record { number = 0; below = h }) x y | no h ↦ root 0 ] ≡ successor one x y)
     [ yes h ↦ ap (λ (b : Branch 2). successor b x y) (branch-same (record { number = 0; below = h }) one refl) | no h ↦ absurd (h (omega arith)) ]
 
 child-second : (x y : ℕ) → successorAt {k = 2} 1 x y ≡ successor two x y
 unfolding successorAt
-child-second x y = elim (decLt 1 2) as (λ d. elim d as (λ _. Formula 2) [ yes h ↦ successor (record { number = 1; below = h }) x y | no h ↦ root 0 ] ≡ successor two x y)
+child-second x y =
+    elim (decLt 1 2) as (λ d. elim d as (λ _. Formula 2) [ yes h ↦ successor (record { number = 1; below = h }) x y | no h ↦ root 0 ] ≡ successor two x y)
     [ yes h ↦ ap (λ (b : Branch 2). successor b x y) (branch-same (record { number = 1; below = h }) two refl) | no h ↦ absurd (h (omega arith)) ]
 
 good-at : (n : ℕ) (es : List Record) (i : ℕ) → T (goodFrom 2 n i es) → (j : ℕ) → j < length es → T (good 2 n (i + j) (getD es j noRecord))
 unfolding goodFrom
 good-at n [] i t j h = absurd (not-suc-le-zero h)
-good-at n (e ∷ es) i t zero h = let z : i + 0 ≡ i = omega arith in subst (λ (m : ℕ). T (good 2 n m e)) (sym z) ((both-of (good 2 n i e) (goodFrom 2 n (suc i) es) t) .0)
+good-at n (e ∷ es) i t zero h =
+    let z : i + 0 ≡ i = omega arith in subst (λ (m : ℕ). T (good 2 n m e)) (sym z) ((both-of (good 2 n i e) (goodFrom 2 n (suc i) es) t) .0)
 good-at n (e ∷ es) i t (suc j) h =
     let z : suc i + j ≡ i + suc j = omega arith in
     subst (λ (m : ℕ). T (good 2 n m (getD es j noRecord))) z (good-at n es (suc i) ((both-of (good 2 n i e) (goodFrom 2 n (suc i) es) t) .1) j (omega arith))
@@ -60,7 +54,8 @@ module _ (n c : ℕ) (pos : 0 < c) (top : c ≤ 64) where
   labels = 2 ^ n
 
   -- a rule, and the builder's records of it
-  module _ (rs : List Record) (acc : Accepted 2 n rs) (xs : List Decoded) (decoded : (r : ℕ) → r < length rs → getD xs r noDecoded ≡ decodedOf n (getD rs r noRecord)) where
+  module _ (rs : List Record) (acc : Accepted 2 n rs) (xs : List Decoded)
+      (decoded : (r : ℕ) → r < length rs → getD xs r noDecoded ≡ decodedOf n (getD rs r noRecord)) where
     abbrev GoodAt : ℕ → Mach → Type 0
     GoodAt j m = Good n c pos top (formulaAt rs j) m
 
@@ -76,13 +71,15 @@ module _ (n c : ℕ) (pos : 0 < c) (top : c ≤ 64) where
       valid j h = record-valid 2 n rs (acc .1) j (omega arith)
 
       -- an explored record, by its code machine
-      by-codes : (F : Formula 2) (x : Decoded) → isNot (x .kind) ≡ false → MachineOf n F (codeMachine (x .kind) (at (x .first)) (at (x .second)) (x .wx) (x .wy)) → MakesAs F x
+      by-codes : (F : Formula 2) (x : Decoded) → isNot (x .kind) ≡ false
+          → MachineOf n F (codeMachine (x .kind) (at (x .first)) (at (x .second)) (x .wx) (x .wy)) → MakesAs F x
       unfolding machineOf
-      by-codes F x e m = rw e (explored n c pos top (codeMachine (x .kind) (at (x .first)) (at (x .second)) (x .wx) (x .wy)) x (at (x .first)) (at (x .second)) F refl m)
+      by-codes F x e m =
+          rw e (explored n c pos top (codeMachine (x .kind) (at (x .first)) (at (x .second)) (x .wx) (x .wy)) x (at (x .first)) (at (x .second)) F refl m)
 
       by-op : (op a b : ℕ) → T (good 2 n r (record { op = op; first = a; second = b }))
           → MakesAs (formulaOf (record { op = op; first = a; second = b }) (extend [] rs)) (decodedOf n (record { op = op; first = a; second = b }))
-      unfolding good formulaOf decodedOf formulaAt machineOf startCode kindCode acceptBy
+      unfolding good formulaOf decodedOf formulaAt machineOf startCode kindCode
       by-op zero a b t =
           let w = both-of (ltb a n) (ltb b n) t in
           by-codes (subset a b) (decodedOf n (record { op = 0; first = a; second = b })) refl (atom-subset n a b (ltb→lt a n (w .0)) (ltb→lt b n (w .1)))
@@ -92,12 +89,14 @@ module _ (n c : ℕ) (pos : 0 < c) (top : c ≤ 64) where
       by-op (suc (suc zero)) a b t =
           let w = both-of (ltb a n) (ltb b n) t in
           let x = decodedOf n (record { op = 2; first = a; second = b }) in
-          by-codes (successorAt 0 a b) x refl (subst (λ (F : Formula 2). MachineOf n F (codeMachine (x .kind) (at (x .first)) (at (x .second)) (x .wx) (x .wy))) (sym (child-first a b))
+          by-codes (successorAt 0 a b) x refl
+          (subst (λ (F : Formula 2). MachineOf n F (codeMachine (x .kind) (at (x .first)) (at (x .second)) (x .wx) (x .wy))) (sym (child-first a b))
           (atom-first n a b (ltb→lt a n (w .0)) (ltb→lt b n (w .1))))
       by-op (suc (suc (suc zero))) a b t =
           let w = both-of (ltb a n) (ltb b n) t in
           let x = decodedOf n (record { op = 3; first = a; second = b }) in
-          by-codes (successorAt 1 a b) x refl (subst (λ (F : Formula 2). MachineOf n F (codeMachine (x .kind) (at (x .first)) (at (x .second)) (x .wx) (x .wy))) (sym (child-second a b))
+          by-codes (successorAt 1 a b) x refl
+          (subst (λ (F : Formula 2). MachineOf n F (codeMachine (x .kind) (at (x .first)) (at (x .second)) (x .wx) (x .wy))) (sym (child-second a b))
           (atom-second n a b (ltb→lt a n (w .0)) (ltb→lt b n (w .1))))
       by-op (suc (suc (suc (suc zero)))) a b t =
           let w = both-of (ltb a n) (eqb b 0) t in
@@ -130,7 +129,8 @@ module _ (n c : ℕ) (pos : 0 < c) (top : c ≤ 64) where
       makes =
           let e : Record = getD rs r noRecord in
           subst (MakesAs (formulaAt rs r)) (sym (decoded r hr))
-          (subst (λ (F : Formula 2). MakesAs F (decodedOf n e)) (sym (record-formula 2 n rs (acc .1) r hr)) (by-op (e .op) (e .first) (e .second) (good-here n rs r (acc .1) hr)))
+          (subst (λ (F : Formula 2). MakesAs F (decodedOf n e)) (sym (record-formula 2 n rs (acc .1) r hr))
+          (by-op (e .op) (e .first) (e .second) (good-here n rs r (acc .1) hr)))
 
     -- what the outcome for the first m records says
     unfoldable pub Linked : ℕ → Outcome → Type 0

@@ -1,13 +1,7 @@
 -- A variable's bit by its weight.
 -- Assumes nothing.
-use Prim.Native.Nat.{ℕ, zero, suc, _+_, _-_, _*_, _/_, _%_, _^_}
-use mathlib.Core.Path.{_≡_, sym, ap, ap₂, _∙_}
-use mathlib.Core.Bool.{Bool, true, false}
-use native.Mathlib.Nat.{div-div-eq-div-mul, pow-suc, mul-assoc}
-use native.Mathlib.Omega.{arith}
-use lib.Arith.{mod-mul}
-use lib.Pow.{pow-pos}
-use lib.Dec.{eqb}
+use Rattle.words.proofs.Vocabulary.{ℕ, _+_, _-_, _*_, suc, _%_, zero, _^_, _/_, Bool, true, false, _≡_, _∙_, sym, ap, ap₂, mod-mul, eqb, pow-pos}
+use Rattle.words.proofs.Vocabulary.{pow-suc, div-div-eq-div-mul, mul-assoc, arith}
 use Rattle.refinement.specs.Decode.{weight}
 use Rattle.logic.specs.Tree.{bit}
 use Rattle.logic.specs.Machine.{bitOf, setLow, withBit}
@@ -28,7 +22,8 @@ set-is (suc j) b l =
     let f : 2 * 2 ^ suc j ≡ 2 * p * 2 = omega arith in
     let d : l / (2 * 2 ^ suc j) ≡ l / 2 / (2 * p) = ap (λ (z : ℕ). l / z) (omega arith) ∙ sym (div-div-eq-div-mul l 2 (2 * p)) in
     let m : l % 2 ^ suc j ≡ (l / 2 % p) * 2 + l % 2 = ap (λ (z : ℕ). l % z) e ∙ mod-mul l {m = p} {c = 2} (pow-pos j) (omega arith) in
-    let x : l / (2 * 2 ^ suc j) * (2 * 2 ^ suc j) ≡ l / 2 / (2 * p) * (2 * p) * 2 = ap₂ (λ (a b : ℕ). a * b) d f ∙ sym (mul-assoc (l / 2 / (2 * p)) (2 * p) 2) in
+    let x : l / (2 * 2 ^ suc j) * (2 * 2 ^ suc j) ≡ l / 2 / (2 * p) * (2 * p) * 2 =
+    ap₂ (λ (a b : ℕ). a * b) d f ∙ sym (mul-assoc (l / 2 / (2 * p)) (2 * p) 2) in
     let y : bitOf b * 2 ^ suc j ≡ bitOf b * p * 2 = ap (λ (z : ℕ). bitOf b * z) e ∙ sym (mul-assoc (bitOf b) p 2) in
     omega arith
 

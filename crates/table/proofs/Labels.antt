@@ -1,10 +1,6 @@
 -- The bit of a variable in a label. Assumes nothing.
-use Prim.Native.Nat.{ℕ, suc, _+_, _-_, _*_, _/_, _%_, _^_, _≤_, _<_}
-use mathlib.Core.Path.{_≡_, sym, ap, _∙_, subst}
-use native.Mathlib.Nat.{mod-lt, pow-suc, div-add-mod', zero-div, zero-mod}
-use native.Mathlib.Omega.{arith}
-use lib.Arith.{digits-lt, mod-mul}
-use lib.Pow.{pow-pos, pow-add, pow-lt, shr-lt}
+use Rattle.words.proofs.Vocabulary.{ℕ, _≤_, _<_, _+_, _-_, _*_, suc, _%_, _^_, _/_, _≡_, _∙_, sym, ap, subst, digits-lt, mod-mul, pow-pos, pow-lt}
+use Rattle.words.proofs.Vocabulary.{pow-add, shr-lt, pow-suc, mod-lt, div-add-mod', zero-div, zero-mod, arith}
 use Rattle.table.specs.Entry.{off, on, Bit}
 
 -- a label without a bit is no larger
@@ -45,5 +41,6 @@ bit-of n k h = record { is-label = pow-lt h; off-label = λ l hl. lower l hl 0 (
     upper : (l : ℕ) → l < 2 ^ n → l / (2 * 2 ^ k) * (2 * 2 ^ k) + l % 2 ^ k + 2 ^ k < 2 ^ n
     upper l hl =
         let m : l % 2 ^ k + 2 ^ k < 2 * 2 ^ k = omega (arith, mod-lt l (pow-pos k)) in
-        let d : l / (2 * 2 ^ k) * (2 * 2 ^ k) + (l % 2 ^ k + 2 ^ k) < 2 ^ n = subst (λ (x : ℕ). l / (2 * 2 ^ k) * (2 * 2 ^ k) + (l % 2 ^ k + 2 ^ k) < x) size (digits-lt (high l hl) m) in
+        let d : l / (2 * 2 ^ k) * (2 * 2 ^ k) + (l % 2 ^ k + 2 ^ k) < 2 ^ n =
+        subst (λ (x : ℕ). l / (2 * 2 ^ k) * (2 * 2 ^ k) + (l % 2 ^ k + 2 ^ k) < x) size (digits-lt (high l hl) m) in
         omega arith

@@ -1,36 +1,13 @@
 -- The bits that a record looks at: it does not tell apart two labels that differ in other bits alone. Assumes nothing.
-use Prim.Native.Nat.{ℕ, zero, suc, _+_, _*_, _/_, _%_, _^_, _≤_, _<_}
-use mathlib.Core.Bool.{Bool, true, false, not, _&&_, _||_}
-use mathlib.Core.Path.{_≡_, refl, sym, ap, ap₂, _∙_}
-use native.Mathlib.Nat.{pow-suc, mul-assoc, div-div-eq-div-mul, add-zero}
-use native.Mathlib.Omega.{arith}
-use borrow.Author.Tests.{eq-eqb}
-use lib.Arith.{mod-mul}
-use lib.Bits.{bitOr, and-le-l, and-mask}
-use lib.Dec.{eqb, eqb·zero-suc, eqb·suc-zero, eqb·suc-suc}
-use lib.Pow.{pow-pos, pow-mono}
+use Rattle.words.proofs.Vocabulary.{ℕ, _≤_, _<_, _+_, _*_, suc, _%_, zero, _^_, _/_, Bool, true, false, _||_, _&&_, not, or-true, or-false, and-true}
+use Rattle.words.proofs.Vocabulary.{and-false, and-self, _≡_, _∙_, refl, sym, ap, ap₂, eq-eqb, mod-mul, bitOr, and-le-l, and-mask, eqb, eqb·suc-suc}
+use Rattle.words.proofs.Vocabulary.{eqb·suc-zero, eqb·zero-suc, pow-pos, pow-mono, add-zero, pow-suc, div-div-eq-div-mul, mul-assoc, arith}
 use Rattle.table.specs.Entry.{seen, Step, through, off, on, Power}
 use Rattle.table.specs.Succ.{pairCode, hit, existsCode, atomIndex, ruleAt, subsetRule, singleRule, child1Rule, child2Rule, rootRule, kindCode, looksOf}
 use Rattle.words.specs.Word.{mem, any, digit, wordOf}
 use Rattle.table.specs.declared.plan.Kind.{Kind}
 use Rattle.table.specs.declared.plan.Kind.the-variants.{Subset, Single, Child1, Child2, Root, Not, Or, And, Exists}
 use Rattle.words.proofs.WordLaws.{mem-or, mem-and, mem-one, mem-shr, digit-mem, word-ext}
-
-and-true : (a : Bool) → (a && true) ≡ a
-and-true true = refl
-and-true false = refl
-
-and-false : (a : Bool) → (a && false) ≡ false
-and-false true = refl
-and-false false = refl
-
-or-true : (a : Bool) → (a || true) ≡ true
-or-true true = refl
-or-true false = refl
-
-or-false : (a : Bool) → (a || false) ≡ a
-or-false true = refl
-or-false false = refl
 
 -- ---- numbers with the same members are the same
 lt-two : (n : ℕ) → n < 2 ^ n
@@ -64,12 +41,8 @@ seen-within f h l e =
     mem-ext (seen f (seen h l)) (seen f l) λ q.
     mem-seen q f (seen h l) ∙ ap (λ (b : Bool). b && mem q f) (mem-seen q h l) ∙ within (mem q l) (mem q h) (mem q f) (e q) ∙ sym (mem-seen q f l)
 
-twice : (a : Bool) → (a && a) ≡ a
-twice true = refl
-twice false = refl
-
 pub seen-seen : (f l : ℕ) → seen f (seen f l) ≡ seen f l
-seen-seen f l = seen-within f f l (λ q. twice (mem q f))
+seen-seen f l = seen-within f f l (λ q. and-self (mem q f))
 
 left : (a b : Bool) → (a && (a || b)) ≡ a
 left true b = refl
@@ -232,8 +205,9 @@ module _ (e d : Step) (wx wy f g : ℕ) (px : Power wx) (py : Power wy) (l x y :
   abbrev union : ℕ → ℕ → ℕ
   union a b = wordOf (λ (q : ℕ). any (λ (i : ℕ). mem i x && any (λ (j : ℕ). mem j y && (eqb (e a i j % 64) q || eqb (e b i j % 64) q)) 64) 64) 64
 
-  pub kind-blind : (k : Kind) → kindCode k (through f e) (through g d) wx wy (seen (looksOf k wx wy f g) l) x y ≡ kindCode k (through f e) (through g d) wx wy l x y
-  unfolding kindCode looksOf through pairCode existsCode hit
+  pub kind-blind : (k : Kind)
+      → kindCode k (through f e) (through g d) wx wy (seen (looksOf k wx wy f g) l) x y ≡ kindCode k (through f e) (through g d) wx wy l x y
+  unfolding kindCode through pairCode existsCode hit
   kind-blind Subset = ap (ruleAt subsetRule) (atom-seen wx wy l x y px py)
   kind-blind Single = unary-seen singleRule (λ p q q′ i j. refl) wx wy l x y px
   kind-blind Child1 = ap (ruleAt child1Rule) (atom-seen wx wy l x y px py)

@@ -1,16 +1,11 @@
 -- The places of a table's entries: small, within the table, and one entry at each. Assumes nothing.
-use Prim.Native.Nat.{ℕ, _+_, _*_, _/_, _%_, _≤_, _<_}
-use mathlib.Core.Path.{_≡_, sym, ap, _∙_, subst}
-use mathlib.Core.List.{List, map}
-use native.Mathlib.Omega.{arith}
-use lib.Arith.{digits-lt, digits-div, digits-mod}
-use lib.ListN.{length, length-map}
+use Rattle.words.proofs.Vocabulary.{ℕ, _≤_, _<_, _+_, _*_, _%_, _/_, _≡_, _∙_, sym, ap, subst, List, map, digits-lt, digits-div, digits-mod, length}
+use Rattle.words.proofs.Vocabulary.{length-map, mul-le-mul-right, suc-mul, mul-le-mul-left, add-mul, arith}
 use Rattle.table.specs.Entry.{addr}
-use native.Mathlib.Nat.{add-mul, suc-mul, mul-le-mul-right, mul-le-mul-left}
 
 -- the length of an array in a struct, as the record at a function's entry and a call's result have it
-pub id-length : (n : ℕ) (xs : List ℕ) → length (map (λ (v : ℕ). v) xs) ≡ n → length xs ≡ n
-id-length n xs e = sym (length-map xs (λ (v : ℕ). v)) ∙ e
+pub id-length : {n : ℕ} (xs : List ℕ) → length (map (λ (v : ℕ). v) xs) ≡ n → length xs ≡ n
+id-length xs e = sym (length-map xs (λ (v : ℕ). v)) ∙ e
 
 -- the parts of an entry's place are small
 pub cell-small : (c l i : ℕ) → c ≤ 64 → l < 512 → i < 64 → (l * c < 32768) × (l * c + i < 32832) × ((l * c + i) * c < 2101248)

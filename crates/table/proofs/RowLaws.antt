@@ -1,18 +1,8 @@
 -- The rows of "exists": their filling, and the successors that their unions are. Assumes nothing.
-use Prim.Native.Nat.{ℕ, _+_, _-_, _*_, _≤_, _<_}
-use mathlib.Core.Bool.{Bool, true, false, _&&_, _||_}
-use mathlib.Core.List.{List}
-use mathlib.Core.Path.{_≡_, sym, ap, _∙_}
-use native.Mathlib.Decide.{ℕ-discrete}
-use native.Mathlib.Nat.{mul-le-mul-right}
-use native.Mathlib.Omega.{arith}
-use borrow.Author.Count.{below-more}
-use borrow.Author.Tests.{ne-eqb}
-use lib.Count.{ones}
-use lib.ListN.{length, getD, set, length-set}
-use lib.Seq.{getD-set-same, getD-set-other}
+use Rattle.words.proofs.Vocabulary.{ℕ, _≤_, _<_, _+_, _-_, _*_, Bool, true, false, _||_, _&&_, _≡_, _∙_, sym, ap, List, below-more, ne-eqb, ones}
+use Rattle.words.proofs.Vocabulary.{length, getD, set, length-set, getD-set-other, getD-set-same, ℕ-discrete, mul-le-mul-right, arith}
 use Rattle.words.specs.Word.{Below, mem, any, Without}
-use Rattle.table.specs.Rows.{hitColumn, unionOf, Follows, Serves}
+use Rattle.table.specs.Rows.{hitColumn, unionOf, Follows, Serves, UnionsUpTo}
 use Rattle.table.specs.Entry.{Step, through, off, on, seen}
 use Rattle.table.specs.Succ.{hit, hitRow, hitSet, existsCode}
 use Rattle.words.proofs.Any.{and-cong, any-cong, any-in, any-swap, any-true}
@@ -26,16 +16,17 @@ pub record Filling (f : Step) (l m s seen rest n : ℕ) (left right : List ℕ) 
   pub long-right : length right ≡ 64
   pub done : (t : ℕ) → mem t seen ≡ true → mem t rest ≡ false → Follows f l m s t left right
 
-pub filling-first : (f : Step) (l m s seen n : ℕ) (left right : List ℕ) → n ≡ ones seen → length left ≡ 64 → length right ≡ 64 → Filling f l m s seen seen n left right
-filling-first f l m s seen n left right e hl hr =
+pub filling-first : {f : Step} {l m s seen n : ℕ} {left right : List ℕ} → n ≡ ones seen → length left ≡ 64 → length right ≡ 64
+    → Filling f l m s seen seen n left right
+filling-first e hl hr =
     record { size = e; long-left = hl; long-right = hr; done = λ t a b. let z : _≡_ {A = ℕ} 0 1 = cc in absurd (omega arith) }
 
-pub filling-next : (f : Step) (l m s seen rest n : ℕ) (left right : List ℕ) (t rest′ x y : ℕ) → t < 64
+pub filling-next : {f : Step} {l m s seen rest n : ℕ} {left right : List ℕ} {t rest′ : ℕ} (x y : ℕ) → t < 64
     → Filling f l m s seen rest n left right → Without rest t rest′
     → ((q : ℕ) → mem q x ≡ any (hitColumn f l m s q t) 64) → ((q : ℕ) → mem q y ≡ any (hitRow f l m s q t) 64)
     → Filling f l m s seen rest′ (n - 1) (set left t x) (set right t y)
-filling-next f l m s seen rest n left right t rest′ x y h w o ex ey = record {
-  size = omega (arith, w .size, o .less);
+filling-next {f} {l} {m} {s} {seen} {rest} {n} {left} {right} {t} {rest′} x y h w o ex ey = record {
+  size = omega arith;
   long-left = length-set left t x ∙ w .long-left;
   long-right = length-set right t y ∙ w .long-right;
   done = λ u a b. go u a b (ℕ-discrete u t);
@@ -43,8 +34,8 @@ filling-next f l m s seen rest n left right t rest′ x y h w o ex ey = record {
   where
     go : (u : ℕ) → mem u seen ≡ true → mem u rest′ ≡ false → Dec (u ≡ t) → Follows f l m s u (set left t x) (set right t y)
     go u a b (yes e) = record {
-      after = λ q. rw (e, getD-set-same left t x 0 (omega (arith, w .long-left))) (ex q);
-      before = λ q. rw (e, getD-set-same right t y 0 (omega (arith, w .long-right))) (ey q);
+      after = λ q. rw (e, getD-set-same left t x 0 (omega arith)) (ex q);
+      before = λ q. rw (e, getD-set-same right t y 0 (omega arith)) (ey q);
     }
     go u a b (no n) =
         let old = w .done u a (o .same u ∙ ap (λ (v : Bool). v || mem u rest′) (ne-eqb t u (λ e. n (sym e))) ∙ b) in
@@ -53,16 +44,19 @@ filling-next f l m s seen rest n left right t rest′ x y h w o ex ey = record {
           before = λ q. rw (getD-set-other right t u y 0 n) (old .before q);
         }
 
-pub filling-last : (f : Step) (l m s seen rest : ℕ) (left right : List ℕ) → Filling f l m s seen rest 0 left right → (t : ℕ) → mem t seen ≡ true → Follows f l m s t left right
-filling-last f l m s seen rest left right w t a = w .done t a (none-in t rest (sym (w .size)))
+pub filling-last : {f : Step} {l m s seen rest : ℕ} {left right : List ℕ} → Filling f l m s seen rest 0 left right → (t : ℕ) → mem t seen ≡ true
+    → Follows f l m s t left right
+filling-last {f} {l} {m} {s} {seen} {rest} {left} {right} w t a = w .done t a (none-in t rest (sym (w .size)))
 
 -- the rows at the labels as a part sees them are the rows of its step
-pub follows-through : (e : Step) (f l m s t : ℕ) (left right : List ℕ) → Follows e (seen f l) (seen f m) s t left right → Follows (through f e) l m s t left right
+pub follows-through : {e : Step} (f : ℕ) {l m s t : ℕ} {left right : List ℕ} → Follows e (seen f l) (seen f m) s t left right
+    → Follows (through f e) l m s t left right
 unfolding through hit
-follows-through e f l m s t left right w = record { after = w .after; before = w .before }
+follows-through f w = record { after = w .after; before = w .before }
 
 -- the union of the rows at the members of a set that was seen is the successor
-module _ (f : Step) (w l s seen : ℕ) (left right : List ℕ) (rows : (t : ℕ) → mem t seen ≡ true → Follows f (off w l) (on w l) s t left right) (x : ℕ) (within : (t : ℕ) → mem t x ≡ true → mem t seen ≡ true) where
+module _ (f : Step) (w l s seen : ℕ) (left right : List ℕ) (rows : (t : ℕ) → mem t seen ≡ true → Follows f (off w l) (on w l) s t left right) (x : ℕ)
+    (within : (t : ℕ) → mem t x ≡ true → mem t seen ≡ true) where
   pub right-is : unionOf right x ≡ existsCode f w l x s
   unfolding unionOf existsCode
   right-is =
@@ -83,7 +77,7 @@ module _ (f : Step) (w l s seen : ℕ) (left right : List ℕ) (rows : (t : ℕ)
 pub serves : (f : Step) (w l : ℕ) (sets : List ℕ) (k seen : ℕ) (lefts rights left right : List ℕ)
     → ((q : ℕ) → mem q seen ≡ any (λ (i : ℕ). mem q (getD sets i 0)) (k + 1))
     → ((t : ℕ) → mem t seen ≡ true → Follows f (off w l) (on w l) (getD sets k 0) t lefts rights)
-    → ((i : ℕ) → i ≤ k → (getD right i 0 ≡ unionOf rights (getD sets i 0)) × (getD left i 0 ≡ unionOf lefts (getD sets i 0)))
+    → UnionsUpTo k lefts rights sets left right
     → Serves (existsCode f w) l sets k left right
 serves f w l sets k seen lefts rights left right all rows is i h =
     let within : (t : ℕ) → mem t (getD sets i 0) ≡ true → mem t seen ≡ true =
@@ -97,7 +91,7 @@ pub joined-below : (n : ℕ) (sets : List ℕ) (k seen : ℕ) → ((q : ℕ) →
     → ((i : ℕ) → i ≤ k → Below n (getD sets i 0)) → Below n seen
 joined-below n sets k seen all below q h m =
     let i = any-true (λ (i : ℕ). mem q (getD sets i 0)) (k + 1) (sym (all q) ∙ m) in
-    below (i .0) (omega (arith, i .1)) q h (i .2)
+    below (i .0) (omega arith) q h (i .2)
 
 -- two arrays, whose first n words are given
 pub record Written (F G : ℕ → ℕ) (n : ℕ) (left right : List ℕ) : Type 0 where
@@ -105,18 +99,19 @@ pub record Written (F G : ℕ → ℕ) (n : ℕ) (left right : List ℕ) : Type 
   pub long-right : length right ≡ 64
   pub done : (i : ℕ) → i < n → (getD right i 0 ≡ F i) × (getD left i 0 ≡ G i)
 
-pub written-first : (F G : ℕ → ℕ) (left right : List ℕ) → length left ≡ 64 → length right ≡ 64 → Written F G 0 left right
-written-first F G left right hl hr = record { long-left = hl; long-right = hr; done = λ i h. absurd (omega arith) }
+pub written-first : {F G : ℕ → ℕ} {left right : List ℕ} → length left ≡ 64 → length right ≡ 64 → Written F G 0 left right
+written-first hl hr = record { long-left = hl; long-right = hr; done = λ i h. absurd (omega arith) }
 
-pub written-next : (F G : ℕ → ℕ) (n : ℕ) (left right : List ℕ) (x y : ℕ) → n < 64 → Written F G n left right → x ≡ F n → y ≡ G n → Written F G (n + 1) (set left n y) (set right n x)
-written-next F G n left right x y h w ex ey = record {
+pub written-next : {F G : ℕ → ℕ} {n : ℕ} {left right : List ℕ} {x y : ℕ} → n < 64 → Written F G n left right → x ≡ F n → y ≡ G n
+    → Written F G (n + 1) (set left n y) (set right n x)
+written-next {F} {G} {n} {left} {right} {x} {y} h w ex ey = record {
   long-left = length-set left n y ∙ w .long-left;
   long-right = length-set right n x ∙ w .long-right;
   done = below-more (λ (i : ℕ). (getD (set right n x) i 0 ≡ F i) × (getD (set left n y) i 0 ≡ G i)) n
       (λ i hi.
       let far : i ≡ n → ⊥ = λ e. omega arith in
       (getD-set-other right n i x 0 far ∙ w .done i hi .0, getD-set-other left n i y 0 far ∙ w .done i hi .1))
-      (getD-set-same right n x 0 (omega (arith, w .long-right)) ∙ ex, getD-set-same left n y 0 (omega (arith, w .long-left)) ∙ ey);
+      (getD-set-same right n x 0 (omega arith) ∙ ex, getD-set-same left n y 0 (omega arith) ∙ ey);
 }
 
 -- the entries of an earlier label lie before those of a later one

@@ -1,13 +1,8 @@
 -- A rule of a table, proved at all of its entries by one test that antt computes.
 -- Assumes nothing.
-use mathlib.Core.Path.{_≡_, _∙_, subst, sym}
-use mathlib.Core.Bool.{Bool, true, false}
-use mathlib.Core.List.{List, [], _∷_}
-use Prim.Native.Nat.{ℕ, zero, suc, _+_, _<_}
-use native.Mathlib.Nat.{add-zero, zero-add, add-suc, suc-add, le-of-suc-le-suc, not-suc-le-zero}
-use lib.Dec.{T, eqb, ltb, eqb→eq, ltb→lt}
+use Rattle.words.proofs.Vocabulary.{ℕ, _<_, _+_, suc, zero, Bool, true, false, _≡_, _∙_, sym, subst, List, [], _∷_, eqb, ltb, T, ltb→lt, eqb→eq}
+use Rattle.words.proofs.Vocabulary.{length, getD, le-of-suc-le-suc, not-suc-le-zero, add-zero, add-suc, suc-add, zero-add}
 use Rattle.table.specs.Succ.{ruleAt}
-use lib.ListN.{length, getD}
 
 abbrev pub both : Bool → Bool → Bool
 both true b = b

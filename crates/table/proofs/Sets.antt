@@ -1,12 +1,5 @@
 -- The sets of "exists" from two steps that agree on the states below n: they are the same, and hold such states only. Assumes nothing.
-use Prim.Native.Nat.{ℕ, zero, suc, _%_, _≤_, _<_}
-use mathlib.Core.Bool.{true, _||_}
-use mathlib.Core.Logic.{⊎-elim}
-use mathlib.Core.Path.{_≡_, refl, sym, ap, ap₂, _∙_}
-use native.Mathlib.Omega.{arith}
-use borrow.Author.Tests.{eqb-true}
-use lib.Dec.{eqb}
-use lib.Bits.{bitOr}
+use Rattle.words.proofs.Vocabulary.{ℕ, _≤_, _<_, suc, _%_, zero, true, _||_, _≡_, _∙_, refl, sym, ap, ap₂, ⊎-elim, eqb-true, bitOr, eqb, arith}
 use Rattle.words.specs.Word.{Below, mem, any}
 use Rattle.words.proofs.Any.{or-cases, and-both, and-cong, any-cong, any-true}
 use Rattle.words.proofs.WordLaws.{word-mem, mem-one, mem-or, word-cong}
@@ -23,11 +16,12 @@ module _ (labels n : ℕ) (e f : Step) (few : n ≤ 64) (same : (l i j : ℕ) �
   unfolding hit
   hit-below l m q i j hl hm hi hj t =
       ⊎-elim
-      (λ (a : eqb (f l i j % 64) q ≡ true). let s = same l i j hl hi hj in omega (arith, eqb-true (f l i j % 64) q a, s .1))
-      (λ (b : eqb (f m i j % 64) q ≡ true). let s = same m i j hm hi hj in omega (arith, eqb-true (f m i j % 64) q b, s .1))
+      (λ (a : eqb (f l i j % 64) q ≡ true). let s = same l i j hl hi hj in omega (arith, eqb-true (f l i j % 64) q a))
+      (λ (b : eqb (f m i j % 64) q ≡ true). let s = same m i j hm hi hj in omega (arith, eqb-true (f m i j % 64) q b))
       (or-cases (eqb (f l i j % 64) q) (eqb (f m i j % 64) q) t)
 
-  module _ (w : ℕ) (bit : Bit w labels) (l x y : ℕ) (hl : l < labels) (hx : (i : ℕ) → i < 64 → mem i x ≡ true → i < n) (hy : (i : ℕ) → i < 64 → mem i y ≡ true → i < n) where
+  module _ (w : ℕ) (bit : Bit w labels) (l x y : ℕ) (hl : l < labels) (hx : (i : ℕ) → i < 64 → mem i x ≡ true → i < n)
+      (hy : (i : ℕ) → i < 64 → mem i y ≡ true → i < n) where
     pub exists-cong : existsCode e w l x y ≡ existsCode f w l x y
     unfolding existsCode
     exists-cong =
@@ -56,7 +50,7 @@ module _ (labels n : ℕ) (e f : Step) (few : n ≤ 64) (same : (l i j : ℕ) �
     closing-same (suc d) =
         let ih = closing-same d in
         let s = closing f w d 1 in
-        let zero-label : 0 < labels = omega (arith, bit .is-label) in (
+        let zero-label : 0 < labels = omega arith in (
           ap₂ bitOr (ih .0) (ap (λ (z : ℕ). existsCode e w 0 z z) (ih .0) ∙ exists-cong w bit 0 s s zero-label (ih .1) (ih .1)),
           λ q hq m. ⊎-elim (λ (h : mem q s ≡ true). ih .1 q hq h)
               (λ (h : mem q (existsCode f w 0 s s) ≡ true). exists-below w bit 0 s s zero-label (ih .1) (ih .1) q hq h)

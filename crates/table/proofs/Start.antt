@@ -1,12 +1,6 @@
 -- The start of "exists": its set grows until it is closed. Assumes nothing.
-use Prim.Native.Nat.{ℕ, zero, suc, _+_, _-_, _%_, _^_, _≤_, _<_}
-use mathlib.Core.Bool.{_&&_, _||_}
-use mathlib.Core.Path.{_≡_, refl, sym, ap, _∙_}
-use mathlib.Core.List.{List}
-use native.Mathlib.Nat.{add-zero, add-suc}
-use native.Mathlib.Omega.{arith}
-use lib.Bits.{bitOr}
-use lib.Dec.{eqb}
+use Rattle.words.proofs.Vocabulary.{ℕ, _≤_, _<_, _+_, _-_, suc, _%_, zero, _^_, _||_, _&&_, _≡_, _∙_, refl, sym, ap, List, bitOr, eqb, add-zero}
+use Rattle.words.proofs.Vocabulary.{add-suc, arith}
 use Rattle.words.specs.Word.{Below, mem, any}
 use Rattle.table.specs.Rows.{Inside}
 use Rattle.table.specs.Entry.{Step, through, entry, seen}
@@ -36,13 +30,15 @@ follow-zero e f w s r h all =
     (word-ext 64 r (λ (q : ℕ). any (hitSet (through f e) 0 w s s q) 64) h (λ q l.
     all q ∙ ap (λ (m : ℕ). any (λ (i : ℕ). mem i s && any (λ (j : ℕ). mem j s && (eqb (e m i j % 64) q || eqb (e (seen f w) i j % 64) q)) 64) 64) (sym z)))
 
-pub closer-is : (e : Step) (f w s r t : ℕ) → r < 2 ^ 64 → ((q : ℕ) → mem q r ≡ any (hitSet e 0 (seen f w) s s q) 64) → ((q : ℕ) → mem q t ≡ (mem q s || mem q r))
+pub closer-is : (e : Step) (f w s r t : ℕ) → r < 2 ^ 64 → ((q : ℕ) → mem q r ≡ any (hitSet e 0 (seen f w) s s q) 64)
+    → ((q : ℕ) → mem q t ≡ (mem q s || mem q r))
     → t ≡ closer (through f e) w s
 closer-is e f w s r t h follows all = mem-ext t (bitOr s r) (λ q. all q ∙ sym (mem-or q s r)) ∙ ap (bitOr s) (follow-zero e f w s r h follows)
 
 -- the set holds states of the part only
-pub closing-below : (low : List ℕ) (p : Plan) (n : ℕ) → p .c ≤ 64 → Inside low p n → (d : ℕ) → Below n (closing (through (p .look1) (entry low (p .c) (p .first))) (p .wx) d 1)
+pub closing-below : (low : List ℕ) (p : Plan) (n : ℕ) → p .c ≤ 64 → Inside low p n → (d : ℕ)
+    → Below n (closing (through (p .look1) (entry low (p .c) (p .first))) (p .wx) d 1)
 unfolding through
 closing-below low p n top i d =
     let f = through (p .look1) (entry low (p .c) (p .first)) in
-    closing-same (p .labels) n f f (omega (arith, i .few)) (λ l j k hl hj hk. (refl, i .stays l j k hl hj hk)) (p .wx) (i .bit) (i .some-state) d .1
+    closing-same (p .labels) n f f (omega arith) (λ l j k hl hj hk. (refl, i .stays l j k hl hj hk)) (p .wx) (i .bit) (i .some-state) d .1

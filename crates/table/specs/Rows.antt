@@ -30,6 +30,11 @@ abbrev pub Serves : (ℕ → ℕ → ℕ → ℕ) → ℕ → List ℕ → ℕ �
 Serves succ l codes k left right =
     (i : ℕ) → i ≤ k → (getD right i 0 ≡ succ l (getD codes i 0) (getD codes k 0)) × (getD left i 0 ≡ succ l (getD codes k 0) (getD codes i 0))
 
+-- the unions of the rows `lefts` and `rights` for each set up to k
+abbrev pub UnionsUpTo : ℕ → List ℕ → List ℕ → List ℕ → List ℕ → List ℕ → Type 0
+UnionsUpTo k lefts rights sets left right =
+    (i : ℕ) → i ≤ k → (getD right i 0 ≡ unionOf rights (getD sets i 0)) × (getD left i 0 ≡ unionOf lefts (getD sets i 0))
+
 -- the entries that the successors of the sets up to k are taken from lie within `low`
 pub record Ready (low : List ℕ) (c a w l : ℕ) (sets : List ℕ) (k : ℕ) : Type 0 where
   pub share : a + on w l * c * c + c * c ≤ length low

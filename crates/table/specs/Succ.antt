@@ -19,6 +19,10 @@ use Rattle.table.specs.declared.plan.Kind.the-variants.{Subset, Single, 
 unfoldable pub pairCode : Step → Step → ℕ → ℕ → ℕ → ℕ
 pairCode f g l x y = f l (x / 64 % 64) (y / 64 % 64) * 64 + g l (x % 64) (y % 64)
 
+-- the same, from the tables at a and b of two machines that look at the bits f and g
+abbrev pub pairStep : List ℕ → ℕ → ℕ → ℕ → ℕ → ℕ → Step
+pairStep low c a b f g = pairCode (through f (entry low c a)) (through g (entry low c b))
+
 -- does state q follow the states i and j under the label l or m
 unfoldable pub hit : Step → ℕ → ℕ → ℕ → ℕ → ℕ → Bool
 hit f l m q i j = eqb (f l i j % 64) q || eqb (f m i j % 64) q
@@ -84,7 +88,7 @@ abbrev pub ruleAt : (ℕ → ℕ → ℕ → ℕ → ℕ) → ℕ → ℕ
 ruleAt f k = f (k / 32) (k / 16 % 2) (k / 4 % 4) (k % 4)
 
 -- an atom's successor, from the place in its table; 0 for any other kind
-unfoldable pub atomCode : Kind → ℕ → ℕ
+abbrev pub atomCode : Kind → ℕ → ℕ
 atomCode Subset k = ruleAt subsetRule k
 atomCode Single k = ruleAt singleRule k
 atomCode Child1 k = ruleAt child1Rule k
@@ -112,7 +116,7 @@ kindCode And f g wx wy l x y = pairCode f g l x y
 kindCode Exists f g wx wy l x y = existsCode f wx l x y
 
 -- the bits that a record looks at, where its variables' bits are wx and wy and its parts look at f and g
-unfoldable pub looksOf : Kind → ℕ → ℕ → ℕ → ℕ → ℕ
+abbrev pub looksOf : Kind → ℕ → ℕ → ℕ → ℕ → ℕ
 looksOf Subset wx wy f g = bitOr wx wy
 looksOf Single wx wy f g = wx
 looksOf Child1 wx wy f g = bitOr wx wy

@@ -5,8 +5,8 @@ ghost use mathlib.Core.Path.{_≡_};
 ghost use Prim.Native.Nat.{ℕ, _+_, _*_, _≤_, _<_};
 ghost use lib.ListN.{length, getD};
 ghost use Rattle.words.specs.Word.{Below, mem, any};
-ghost use Rattle.table.specs.Rows.{Inside, Ready, hitColumn, unionOf, Follows, Serves};
-ghost use Rattle.table.specs.Succ.{atomCode, atomStep, hit, hitRow, hitSet, pairCode, existsCode, existsStart, successorOf};
+ghost use Rattle.table.specs.Rows.{Inside, Ready, hitColumn, unionOf, Follows, Serves, UnionsUpTo};
+ghost use Rattle.table.specs.Succ.{atomCode, atomStep, pairStep, hit, hitRow, hitSet, pairCode, existsCode, existsStart, successorOf};
 ghost use Rattle.table.specs.Entry.{entry, through};
 use crate::atoms::child1_at;
 use crate::atoms::child2_at;
@@ -150,7 +150,7 @@ pub fn unions(
     requires { ⌜ k < 64 ⌝ }
     requires { ⌜ (length (now left) ≡ 64) × (length (now right) ≡ 64) ⌝ }
     ensures { λ _. ⌜ (length (now (left .exit)) ≡ 64) × (length (now (right .exit)) ≡ 64) ⌝ }
-    ensures { λ _. ⌜ ((i : ℕ) → i ≤ k → (getD (now (right .exit)) i 0 ≡ unionOf (now (rights .entry)) (getD (now (sets .entry)) i 0)) × (getD (now (left .exit)) i 0 ≡ unionOf (now (lefts .entry)) (getD (now (sets .entry)) i 0))) ⌝ }
+    ensures { λ _. ⌜ UnionsUpTo k (now (lefts .entry)) (now (rights .entry)) (now (sets .entry)) (now (left .exit)) (now (right .exit)) ⌝ }
 {
     let mut i = 0;
     while i <= k {
@@ -282,7 +282,7 @@ pub fn pair_rows(
     requires { ⌜ (c ≤ 64) × (l < 256) × (a < 4294967296) × (b < 4294967296) × (k < 64) ⌝ }
     requires { ⌜ (length (now left) ≡ 64) × (length (now right) ≡ 64) ⌝ }
     ensures { λ _. ⌜ (length (now (left .exit)) ≡ 64) × (length (now (right .exit)) ≡ 64) ⌝ }
-    ensures { λ _. ⌜ Serves (pairCode (through f (entry (now (low .entry)) c a)) (through g (entry (now (low .entry)) c b))) l (now (codes .entry)) k (now (left .exit)) (now (right .exit)) ⌝ }
+    ensures { λ _. ⌜ Serves (pairStep (now (low .entry)) c a b f g) l (now (codes .entry)) k (now (left .exit)) (now (right .exit)) ⌝ }
 {
     let new = codes[k];
     let mut i = 0;

@@ -1,12 +1,6 @@
 -- Laws of `any` and of the Bools that it joins. Assumes nothing.
-use Prim.Native.Nat.{ℕ, zero, suc, _≤_, _<_}
-use mathlib.Core.Bool.{Bool, true, false, _&&_, _||_, or-false, or-true}
-use mathlib.Core.Logic.{⊎-elim, _⊎_, inl, inr}
-use mathlib.Core.Path.{_≡_, refl, sym, ap, ap₂, _∙_}
-use native.Mathlib.Nat.{le-of-suc-le-suc, not-suc-le-zero, eq-or-lt-of-le}
-use native.Mathlib.Omega.{arith}
-use borrow.Author.Tests.{eqb-true, eq-eqb}
-use lib.Dec.{eqb}
+use Rattle.words.proofs.Vocabulary.{ℕ, _≤_, _<_, suc, zero, Bool, true, false, _||_, _&&_, or-true, or-false, _≡_, _∙_, refl, sym, ap, ap₂}
+use Rattle.words.proofs.Vocabulary.{⊎-elim, inl, inr, _⊎_, eq-eqb, eqb-true, eqb, le-of-suc-le-suc, not-suc-le-zero, eq-or-lt-of-le, arith}
 use Rattle.words.specs.Word.{any}
 
 pub or-cases : (a b : Bool) → (a || b) ≡ true → (a ≡ true) ⊎ (b ≡ true)
@@ -38,24 +32,28 @@ pub any-true : (f : ℕ → Bool) (n : ℕ) → any f n ≡ true → (i : ℕ) �
 unfolding any
 any-true f zero e = let z : _≡_ {A = ℕ} 0 1 = cc in absurd (omega arith)
 any-true f (suc n) e =
-    ⊎-elim (λ (a : any f n ≡ true). let r = any-true f n a in (r .0, omega (arith, r .1), r .2)) (λ (b : f n ≡ true). (n, omega arith, b)) (or-cases (any f n) (f n) e)
+    ⊎-elim (λ (a : any f n ≡ true). let r = any-true f n a in (r .0, omega (arith, r .1), r .2)) (λ (b : f n ≡ true). (n, omega arith, b))
+    (or-cases (any f n) (f n) e)
 
 pub any-in : (f : ℕ → Bool) (n i : ℕ) → i < n → f i ≡ true → any f n ≡ true
 unfolding any
 any-in f zero i h t = absurd (not-suc-le-zero h)
 any-in f (suc n) i h t =
-    ⊎-elim (λ (e : i ≡ n). ap (λ (b : Bool). any f n || b) (ap f (sym e) ∙ t) ∙ or-true (any f n)) (λ (l : i < n). ap (λ (b : Bool). b || f n) (any-in f n i l t)) (eq-or-lt-of-le (le-of-suc-le-suc h))
+    ⊎-elim (λ (e : i ≡ n). ap (λ (b : Bool). any f n || b) (ap f (sym e) ∙ t) ∙ or-true (any f n))
+    (λ (l : i < n). ap (λ (b : Bool). b || f n) (any-in f n i l t)) (eq-or-lt-of-le (le-of-suc-le-suc h))
 
 -- numbers that fail the test may be left out
 pub any-skip : (f : ℕ → Bool) (m n : ℕ) → m ≤ n → ((q : ℕ) → m ≤ q → q < n → f q ≡ false) → any f n ≡ any f m
 unfolding any
 any-skip f m zero h no′ = let e : zero ≡ m = omega arith in ap (any f) e
 any-skip f m (suc n) h no′ = ⊎-elim (λ (e : m ≡ suc n). ap (any f) (sym e))
-    (λ (l : m < suc n). ap (λ (b : Bool). any f n || b) (no′ n (le-of-suc-le-suc l) (omega arith)) ∙ or-false (any f n) ∙ any-skip f m n (le-of-suc-le-suc l) (λ q a b. no′ q a (omega arith)))
+    (λ (l : m < suc n). ap (λ (b : Bool). any f n || b) (no′ n (le-of-suc-le-suc l) (omega arith)) ∙ or-false (any f n) ∙ any-skip f m n (le-of-suc-le-suc l)
+    (λ q a b. no′ q a (omega arith)))
     (eq-or-lt-of-le h)
 
 -- the test is passed by i alone, or one of two tests is passed
-pub any-first : (i n : ℕ) (f g h : ℕ → Bool) → i < n → ((t : ℕ) → f t ≡ (eqb i t || g t)) → any (λ (t : ℕ). f t && h t) n ≡ (h i || any (λ (t : ℕ). g t && h t) n)
+pub any-first : (i n : ℕ) (f g h : ℕ → Bool) → i < n → ((t : ℕ) → f t ≡ (eqb i t || g t))
+    → any (λ (t : ℕ). f t && h t) n ≡ (h i || any (λ (t : ℕ). g t && h t) n)
 any-first i n f g h l e = bool-ext (any both n) (h i || any rest n) there back
   where
     both : ℕ → Bool

@@ -1,3 +1,4 @@
+pub mod Vocabulary
 pub mod Any
 pub mod WordLaws
 pub mod Members

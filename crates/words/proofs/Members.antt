@@ -1,15 +1,8 @@
 -- A word's members: the smallest, the word without one, and the walk through them all. Assumes nothing.
-use Prim.Native.Nat.{ℕ, zero, suc, _+_, _-_, _*_, _/_, _%_, _^_, _≤_, _<_}
-use mathlib.Core.Bool.{Bool, true, false, not, _&&_, _||_, or-false, or-true, or-assoc, and-false}
-use mathlib.Core.Path.{_≡_, refl, sym, ap, ap₂, _∙_}
-use native.Mathlib.Nat.{pow-suc, mod-eq-of-lt}
-use native.Mathlib.Decide.{decLt, ℕ-discrete}
-use native.Mathlib.Omega.{arith}
-use borrow.Author.Tests.{lt-ltb, le-ltb, eq-eqb, ne-eqb, eqb-true, eqb-false}
-use lib.Bits.{bitOr, bitAnd, and-le-l}
-use lib.Count.{ones, onesIn, ones-step, trailingZeros}
-use lib.Dec.{eqb, ltb, eqb·zero-suc, eqb·suc-zero, eqb·suc-suc}
-use lib.Pow.{pow-lt}
+use Rattle.words.proofs.Vocabulary.{ℕ, _≤_, _<_, _+_, _-_, _*_, suc, _%_, zero, _^_, _/_, Bool, true, false, _||_, _&&_, not, or-true}
+use Rattle.words.proofs.Vocabulary.{or-assoc, or-false, and-false, _≡_, _∙_, refl, sym, ap, ap₂, eq-eqb, eqb-true, le-ltb, lt-ltb, ne-eqb}
+use Rattle.words.proofs.Vocabulary.{eqb-false, bitOr, and-le-l, bitAnd, ones, trailingZeros, ones-step, onesIn, eqb, ltb, eqb·suc-suc}
+use Rattle.words.proofs.Vocabulary.{eqb·suc-zero, eqb·zero-suc, pow-lt, decLt, ℕ-discrete, pow-suc, mod-eq-of-lt, arith}
 use Rattle.words.specs.Word.{Below, mem, any, Smallest, Without}
 use Rattle.words.proofs.Any.{any-in, any-skip, any-first}
 use Rattle.words.proofs.WordLaws.{mem-zero, mem-shr, mem-or, mem-one, mem-trailing, not-below, mem-and}
@@ -93,12 +86,12 @@ pub record Walk (set rest n r : ℕ) (g : ℕ → ℕ → Bool) : Type 0 where
   pub size : n ≡ ones rest
   pub whole : (q : ℕ) → any (λ (t : ℕ). mem t set && g q t) 64 ≡ (mem q r || any (λ (t : ℕ). mem t rest && g q t) 64)
 
-pub walk-first : (set n : ℕ) (g : ℕ → ℕ → Bool) → n ≡ ones set → Walk set set n 0 g
-walk-first set n g e = record { size = e; whole = λ q. sym (ap (λ (b : Bool). b || any (λ (t : ℕ). mem t set && g q t) 64) (mem-zero q)) }
+pub walk-first : {set n : ℕ} {g : ℕ → ℕ → Bool} → n ≡ ones set → Walk set set n 0 g
+walk-first {set} {n} {g} e = record { size = e; whole = λ q. sym (ap (λ (b : Bool). b || any (λ (t : ℕ). mem t set && g q t) 64) (mem-zero q)) }
 
-pub walk-next : (set rest n r i rest′ r′ : ℕ) (g : ℕ → ℕ → Bool) → i < 64 → Walk set rest n r g → Without rest i rest′
+pub walk-next : {set rest n r i rest′ r′ : ℕ} {g : ℕ → ℕ → Bool} → i < 64 → Walk set rest n r g → Without rest i rest′
     → ((q : ℕ) → mem q r′ ≡ (mem q r || g q i)) → Walk set rest′ (n - 1) r′ g
-walk-next set rest n r i rest′ r′ g h w o e = record {
+walk-next {set} {rest} {n} {r} {i} {rest′} {r′} {g} h w o e = record {
   size = omega (arith, w .size, o .less);
   whole = λ q.
       let after = any (λ (t : ℕ). mem t rest′ && g q t) 64 in
@@ -108,9 +101,9 @@ walk-next set rest n r i rest′ r′ g h w o e = record {
       ∙ ap (λ (b : Bool). b || after) (sym (e q));
 }
 
-pub walk-last : (set rest r : ℕ) (g : ℕ → ℕ → Bool) → Walk set rest 0 r g → (q : ℕ) → mem q r ≡ any (λ (t : ℕ). mem t set && g q t) 64
+pub walk-last : {set rest r : ℕ} {g : ℕ → ℕ → Bool} → Walk set rest 0 r g → (q : ℕ) → mem q r ≡ any (λ (t : ℕ). mem t set && g q t) 64
 unfolding any
-walk-last set rest r g w q =
+walk-last {set} {rest} {r} {g} w q =
     let none : any (λ (t : ℕ). mem t rest && g q t) 64 ≡ false =
     any-skip (λ (t : ℕ). mem t rest && g q t) 0 64 (omega arith) (λ t a b. ap (λ (u : Bool). u && g q t) (none-in t rest (sym (w .size)))) in
     sym (w .whole q ∙ ap (λ (b : Bool). mem q r || b) none ∙ or-false (mem q r))
@@ -165,5 +158,5 @@ accept-same i q A R t e = go (eqb i q) refl
     go false f = e ∙ ap (λ (b : Bool). b && A q) (same-ltb i q (eqb-false i q f))
 
 -- a set without one of its members has no new one
-pub below-without : (n x q r : ℕ) → Below n x → Without x q r → Below n r
-below-without n x q r b o t h m = b t h (o .same t ∙ ap (λ (u : Bool). eqb q t || u) m ∙ or-true (eqb q t))
+pub below-without : (n : ℕ) {x q r : ℕ} → Below n x → Without x q r → Below n r
+below-without n {x} {q} {r} b o t h m = b t h (o .same t ∙ ap (λ (u : Bool). eqb q t || u) m ∙ or-true (eqb q t))

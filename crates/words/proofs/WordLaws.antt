@@ -1,14 +1,8 @@
 -- Laws of words as sets. Assumes nothing.
-use Prim.Native.Nat.{ℕ, zero, suc, _+_, _*_, _/_, _%_, _^_, _<_, max, min, zero-le, suc-le-suc}
-use mathlib.Core.Bool.{Bool, true, false, _&&_, _||_}
-use mathlib.Core.Path.{_≡_, refl, sym, ap, ap₂, _∙_}
-use native.Mathlib.Nat.{le-of-suc-le-suc, not-suc-le-zero, pow-suc}
-use native.Mathlib.Omega.{arith}
-use lib.Arith.{digits-div, digits-mod}
-use lib.Bits.{bitOr, or-step, bitAnd, and-step}
-use lib.Count.{trailingZeros, under}
-use lib.Dec.{eqb, eqb·zero-suc, eqb·suc-zero, eqb·suc-suc}
-use lib.Pow.{shr-shr}
+use Rattle.words.proofs.Vocabulary.{ℕ, _<_, _+_, _*_, suc, _%_, zero, _^_, _/_, suc-le-suc, zero-le, max, min, Bool, true, false, _||_, _&&_}
+use Rattle.words.proofs.Vocabulary.{_≡_, _∙_, refl, sym, ap, ap₂, digits-div, digits-mod, bitOr, bitAnd, and-step, or-step, trailingZeros}
+use Rattle.words.proofs.Vocabulary.{under, eqb, eqb·suc-suc, eqb·suc-zero, eqb·zero-suc, shr-shr, le-of-suc-le-suc, not-suc-le-zero, pow-suc}
+use Rattle.words.proofs.Vocabulary.{arith}
 use Rattle.words.specs.Word.{mem, digit, wordOf}
 
 or-digit : (x y : ℕ) → x < 2 → y < 2 → eqb (max x y) 1 ≡ (eqb x 1 || eqb y 1)
@@ -71,7 +65,8 @@ unfolding mem trailingZeros
 not-below zero n q h = absurd (not-suc-le-zero h)
 not-below (suc k) n q h = go (n % 2) refl q h (not-below k (n / 2))
   where
-    go : (r : ℕ) → n % 2 ≡ r → (q : ℕ) → q < under r (trailingZeros k (n / 2)) → ((q : ℕ) → q < trailingZeros k (n / 2) → mem q (n / 2) ≡ false) → mem q n ≡ false
+    go : (r : ℕ) → n % 2 ≡ r → (q : ℕ) → q < under r (trailingZeros k (n / 2)) → ((q : ℕ) → q < trailingZeros k (n / 2) → mem q (n / 2) ≡ false)
+        → mem q n ≡ false
     go zero e zero h old = ap (λ (m : ℕ). eqb m 1) e
     go zero e (suc q) h old = old q (le-of-suc-le-suc h)
     go (suc r) e q h old = absurd (not-suc-le-zero h)
@@ -86,7 +81,8 @@ pub word-ext : (k n : ℕ) (f : ℕ → Bool) → n < 2 ^ k → ((q : ℕ) → q
 unfolding mem wordOf
 word-ext zero n f h all = omega arith
 word-ext (suc k) n f h all =
-    let a : n / 2 ≡ wordOf (λ (q : ℕ). f (suc q)) k = word-ext k (n / 2) (λ (q : ℕ). f (suc q)) (omega (arith, pow-suc 2 k)) (λ q l. all (suc q) (suc-le-suc l)) in
+    let a : n / 2 ≡ wordOf (λ (q : ℕ). f (suc q)) k =
+    word-ext k (n / 2) (λ (q : ℕ). f (suc q)) (omega (arith, pow-suc 2 k)) (λ q l. all (suc q) (suc-le-suc l)) in
     let b : n % 2 ≡ digit (f zero) = sym (digit-mem (n % 2) (omega arith)) ∙ ap digit (all zero (suc-le-suc zero-le)) in
     omega arith
 
@@ -102,7 +98,8 @@ pub word-mem : (k q : ℕ) (f : ℕ → Bool) → q < k → mem q (wordOf f k) �
 unfolding mem wordOf
 word-mem zero q f h = absurd (not-suc-le-zero h)
 word-mem (suc k) zero f h = ap (λ (n : ℕ). eqb n 1) (digits-mod (wordOf (λ (q : ℕ). f (suc q)) k) (digit-lt (f zero))) ∙ eqb-digit (f zero)
-word-mem (suc k) (suc q) f h = ap (mem q) (digits-div (wordOf (λ (q : ℕ). f (suc q)) k) (digit-lt (f zero))) ∙ word-mem k q (λ (q : ℕ). f (suc q)) (le-of-suc-le-suc h)
+word-mem (suc k) (suc q) f h =
+    ap (mem q) (digits-div (wordOf (λ (q : ℕ). f (suc q)) k) (digit-lt (f zero))) ∙ word-mem k q (λ (q : ℕ). f (suc q)) (le-of-suc-le-suc h)
 
 pub word-lt : (k : ℕ) (f : ℕ → Bool) → wordOf f k < 2 ^ k
 unfolding wordOf
@@ -122,7 +119,8 @@ pub mem-and : (q a b : ℕ) → mem q (bitAnd a b) ≡ (mem q a && mem q b)
 unfolding mem
 mem-and zero a b =
     let m : min (a % 2) (b % 2) < 2 = omega arith in
-    ap (λ (n : ℕ). eqb n 1) (ap (λ (n : ℕ). n % 2) (and-step a b) ∙ digits-mod (bitAnd (a / 2) (b / 2)) m) ∙ and-digit (a % 2) (b % 2) (omega arith) (omega arith)
+    ap (λ (n : ℕ). eqb n 1) (ap (λ (n : ℕ). n % 2) (and-step a b) ∙ digits-mod (bitAnd (a / 2) (b / 2)) m) ∙ and-digit (a % 2) (b % 2) (omega arith)
+    (omega arith)
 mem-and (suc q) a b =
     let m : min (a % 2) (b % 2) < 2 = omega arith in
     ap (mem q) (ap (λ (n : ℕ). n / 2) (and-step a b) ∙ digits-div (bitAnd (a / 2) (b / 2)) m) ∙ mem-and q (a / 2) (b / 2)

@@ -1,10 +1,5 @@
 -- `find` meets its contract. The invariant: the place of x is not before i. Assumes nothing.
-use Prim.Native.Nat.{_≤_, _<_, _-_}
-use mathlib.Core.Path.{_≡_, sym, _∙_}
-use borrow.Author.Needs.{needs}
-use native.Mathlib.Omega.{arith}
-use lib.ListN.{length, take}
-use lib.Seq.{getD-take, length-take-le}
+use Rattle.words.proofs.Vocabulary.{_≤_, _<_, _-_, _≡_, _∙_, sym, needs, length, take, length-take-le, getD-take, arith}
 use Rattle.exploring.proofs.Place.{place-le, place-at, place-first}
 use Rattle.exploring.proofs.find.Statement.{statement}
 use Rattle.exploring.proofs.find.Tie as tie
@@ -22,11 +17,11 @@ returns c =
     let s = c .before .before .before .before in
     let a = s .args in
     let cs = a .codes .now in
-    let n = length-take-le (a .count) cs (omega (arith, s .pre)) in
+    let n = length-take-le (a .count) cs (omega arith) in
     let h : i < a .count = c .before .before .loop-test .taken in
     let p : position (a .x) (take (a .count) cs) ≤ i =
     place-first (a .x) (take (a .count) cs) i (omega arith) (getD-take (a .count) cs i 0 h ∙ c .if1 .taken) in
-    omega (arith, c .before .before .before .loop .inv)
+    omega arith
 
 loop-again : tie.Need-loop-again Inv-loop μ-loop
 loop-again c =
@@ -35,21 +30,20 @@ loop-again c =
     let a = s .args in
     let cs = a .codes .now in
     let h : i < a .count = c .before .before .loop-test .taken in
-    let n : length (take (a .count) cs) ≡ a .count = length-take-le (a .count) cs (omega (arith, s .pre)) in
+    let n : length (take (a .count) cs) ≡ a .count = length-take-le (a .count) cs (omega arith) in
     let no : position (a .x) (take (a .count) cs) ≡ i → ⊥ =
     λ e. c .if1 .left (sym (getD-take (a .count) cs i 0 h) ∙ (rw e at (place-at (a .x) (take (a .count) cs) (omega arith)))) in
-    (omega arith, omega (arith, c .before .before .before .loop .inv))
+    (omega arith, omega arith)
 
 returns-2 : tie.Need-returns-2 Inv-loop μ-loop
 returns-2 c =
     let s = c .before .before in
     let a = s .args in
-    let n : length (take (a .count) (a .codes .now)) ≡ a .count = length-take-le (a .count) (a .codes .now) (omega (arith, s .pre)) in
-    omega (arith, place-le (a .x) (take (a .count) (a .codes .now)), c .before .loop .inv, c .loop-test .left)
+    let n : length (take (a .count) (a .codes .now)) ≡ a .count = length-take-le (a .count) (a .codes .now) (omega arith) in
+    omega (arith, place-le (a .x) (take (a .count) (a .codes .now)))
 
 pub find-spec : {M : Type 1} → statement M
 find-spec =
     tie.close
-    (tie.spec
-    Inv-loop μ-loop (λ c. search needs) (λ c. search needs) (λ c. search needs) returns (λ c. search needs) (λ c. search needs) loop-again
+    (tie.spec Inv-loop μ-loop (λ c. search needs) (λ c. search needs) (λ c. search needs) returns (λ c. search needs) (λ c. search needs) loop-again
     returns-2)

@@ -1,11 +1,5 @@
 -- `put` meets its contract. Assumes nothing.
-use mathlib.Core.Path.{ap, _∙_}
-use mathlib.Core.Logic.{⊎-elim}
-use borrow.Author.Needs.{needs}
-use native.Mathlib.Omega.{arith}
-use Prim.Native.Nat.{ℕ, _+_}
-use mathlib.Core.List.{List}
-use mathlib.Core.Option.{Option}
+use Rattle.words.proofs.Vocabulary.{ℕ, _+_, _∙_, ap, ⊎-elim, List, Option, needs, arith}
 use Rattle.exploring.specs.Filling.{listed}
 use Rattle.exploring.specs.declared.Builder.{Builder}
 use Rattle.table.proofs.Places.{id-length}
@@ -16,12 +10,13 @@ use Rattle.exploring.proofs.put.Tie as tie
 returns : tie.Need-returns
 returns c =
     let a = c .before .args in
-    (omega arith, omega arith, put-old (a .c) (a .x) (a .b .count) (a .b .codes) (id-length 64 (a .b .codes) (c .before .good .0 .1 .1 .0 .1 .0 .1)) (omega arith) (omega arith) (omega arith))
+    let n = id-length (a .b .codes) (c .before .good .0 .1 .1 .0 .1 .0 .1) in
+    (omega arith, omega arith, put-old (a .c) (a .x) (a .b .count) (a .b .codes) n (omega arith) (omega arith) (omega arith))
 
 returns-2 : tie.Need-returns-2
 returns-2 c =
     let a = c .before .before .args in
-    let n = id-length 64 (a .b .codes) (c .before .before .good .0 .1 .1 .0 .1 .0 .1) in
+    let n = id-length (a .b .codes) (c .before .before .good .0 .1 .1 .0 .1 .0 .1) in
     let then : (r : Builder) → Option (List ℕ) = λ r. listed (a .c) (record { codes = r .codes; count = a .b .count + 1 }) in (
       omega arith,
       omega arith,

@@ -1,15 +1,10 @@
 -- `start_code` meets its contract. Only "exists" has a start code other than 0. Assumes nothing.
-use Prim.Native.Nat.{ℕ}
-use mathlib.Core.List.{[], _∷_}
-use types.Run.{OneOf, miss}
-use denote.Enum.Declared.{tagOf}
+use Rattle.words.proofs.Vocabulary.{ℕ, _≡_, refl, [], _∷_, needs, tagOf, OneOf, miss}
 use Rattle.table.proofs.plan.Kind.{the-type}
 use Rattle.table.specs.declared.plan.Kind.{Kind}
 use Rattle.table.specs.declared.plan.Kind.the-variants.{Subset, Single, Child1, Child2, Root, Not, Or, And, Exists}
-use mathlib.Core.Path.{_≡_, refl}
 use Rattle.table.specs.Entry.{Step}
 use Rattle.table.specs.Succ.{startCode}
-use borrow.Author.Needs.{needs}
 use Rattle.exploring.proofs.start_code.Statement.{statement}
 use Rattle.exploring.proofs.start_code.Tie as tie
 
@@ -31,4 +26,7 @@ unfolding startCode
 returns c = rw (c .before .enum-told .given .1) (c .exists-start .ensures)
 
 pub start-code-spec : {M : Type 1} → statement M
-start-code-spec = tie.close (tie.spec (λ c. search needs) (λ c κs. let s = c .before .before .before in (s .pre .0, s .pre .1 (c .enum-told .given .1))) returns (λ c. let a = c .before .before .args in other (a .p .kind) _ (a .p .wx) (c .match .keys2)))
+start-code-spec =
+    tie.close
+    (tie.spec (λ c. search needs) (λ c κs. let s = c .before .before .before in (s .pre .0, s .pre .1 (c .enum-told .given .1))) returns
+    (λ c. let a = c .before .before .args in other (a .p .kind) _ (a .p .wx) (c .match .keys2)))

@@ -1,16 +1,15 @@
 -- `visit_pairs` meets its contract. The invariant: the pairs of k with the states below i have their entries, both ways. Assumes nothing.
-use mathlib.Core.Path.{_≡_, refl, sym, _∙_, subst}
-use mathlib.Core.Logic.{⊎-elim}
-use Prim.Native.Nat.{_+_, _-_, _≤_, _<_}
-use native.Mathlib.Omega.{arith}
-use lib.ListN.{length, getD}
+use Rattle.words.proofs.Vocabulary.{_≤_, _<_, _+_, _-_, _≡_, _∙_, refl, sym, subst, ⊎-elim, List, ℕ, length, arith}
 use Rattle.exploring.specs.Explore.{row}
 use Rattle.table.specs.Succ.{Room, succIn}
 use Rattle.exploring.specs.Filling.{listed, Visited, Rowed}
+use Rattle.table.specs.declared.plan.Plan.{Plan}
+use Rattle.exploring.specs.declared.Builder.{Builder}
 use Rattle.exploring.proofs.Fill.{no-more, entered-old, entered-new}
 use Rattle.exploring.proofs.Grow.{grows-trans}
 use Rattle.exploring.proofs.Guide.{row-apart, visit-apart}
 use Rattle.exploring.proofs.Loops.{built-start, row-step, code-again, rowed-grows, visited-grows}
+use Rattle.exploring.proofs.Steps.{Sized}
 use Rattle.table.proofs.Places.{id-length}
 use Rattle.exploring.proofs.visit_pairs.Statement.{statement}
 use Rattle.exploring.proofs.visit_pairs.Tie as tie
@@ -19,9 +18,15 @@ use Rattle.exploring.proofs.visit_pairs.Lts as lts
 use Rattle.exploring.proofs.note.Reads as note-reads
 use Rattle.exploring.proofs.put.Reads as put-reads
 
+-- what holds before the pairs of k and i
+record Turn (ws₀ ws : List ℕ) (p : Plan) (b r : Builder) (l k i : ℕ) : Type 0 where
+  pub within : i ≤ k + 1
+  pub long : length ws ≡ length ws₀
+  pub full : length (r .codes) ≡ 64
+  pub rowed : Rowed (succIn ws₀ p) p b r ws₀ ws l k i
+
 abbrev Inv-loop : tie.InvT-loop
-Inv-loop ws₀ p l k left right hints₀ c r₀ i₀ ws hints r i =
-    (i ≤ k + 1) × (length ws ≡ length ws₀) × (length (r .codes) ≡ 64) × Rowed (succIn ws₀ p) p r₀ r ws₀ ws l k i
+Inv-loop ws₀ p l k left right hints₀ c r₀ i₀ ws hints r i = Turn ws₀ ws p r₀ r l k i
 
 abbrev μ-loop : tie.MeasureT-loop
 μ-loop ws₀ p l k left right hints₀ c r₀ i₀ ws hints r i = k + 1 - i
@@ -30,18 +35,12 @@ loop-holds : tie.Need-loop-holds Inv-loop μ-loop
 unfolding row
 loop-holds c =
     let s = c .before in
-    let a = s .args in (
-      omega arith,
-      refl,
-      id-length 64 (a .b .codes) (s .good .1 .1 .0 .1 .1 .0 .1 .0 .1),
-      (built-start (succIn (a .ws .now) (a .p)) (a .p) (a .b) (a .ws .now) (omega (arith, s .pre .1 .0)), λ i h. absurd (omega arith)),
-    )
-
-mul-x : tie.Need-mul-x Inv-loop μ-loop
-mul-x c = omega (arith, c .loop-test .taken, c .before .before .before .pre .1 .0, c .before .before .before .pre .0 .ceiling)
-
-element-copy-out-x : tie.Need-element-copy-out-x Inv-loop μ-loop
-element-copy-out-x c = omega (arith, c .loop-test .taken, c .before .before .before .pre .1 .0, c .before .before .before .pre .0 .ceiling)
+    record {
+      within = omega arith;
+      long = refl;
+      full = id-length (s .args .b .codes) (s .good .1 .1 .0 .1 .1 .0 .1 .0 .1);
+      rowed = record { step = built-start (omega arith); cells = λ i h. absurd (omega arith) };
+    }
 
 note-requires : tie.Need-note-requires Inv-loop μ-loop
 note-requires c κs =
@@ -49,137 +48,134 @@ note-requires c κs =
     let a = s .args in
     let h = c .before .before .before .before .before .before .loop in
     let t = c .before .before .before .before .before .loop-test .taken in
-    let f = h .inv .3 in (
-      subst (Room (a .p)) (sym (h .inv .1)) (s .pre .0),
+    let v = s .pre .1 .0 in
+    let sb : Sized (a .p .c) (a .b) =
+    record { full = id-length (a .b .codes) (s .good .1 .1 .0 .1 .1 .0 .1 .0 .1); top = s .pre .0 .ceiling; few = v .few } in (
+      subst (Room (a .p)) (sym (h .inv .long)) (s .pre .0),
       (
-        (s .pre .1 .0 .0, omega (arith, s .pre .1 .0, t, f .0 .more), omega (arith, s .pre .1 .0, t, f .0 .more), h .inv .2),
-        λ few. row-apart (succIn (a .ws .now) (a .p)) (a .p) (a .b) (h .r) (h .r) (a .ws .now) (h .ws) (h .ws) (a .l) (a .k) (h .i) (s .pre .0 .ceiling) (s .pre .1 .0 .0) (s .pre .1 .0 .1) t
-            (id-length 64 (a .b .codes) (s .good .1 .1 .0 .1 .1 .0 .1 .0 .1)) (h .inv .2) (h .inv .2) (s .pre .1 .0 .2) few (s .pre .1 .0 .3) f,
+        (v .label, omega (arith, h .inv .rowed .step .more), omega (arith, h .inv .rowed .step .more), h .inv .full),
+        λ few. row-apart sb (record { full = h .inv .full; top = sb .top; few = few }) (v .label) (v .state) t (v .distinct) (h .inv .rowed),
       ),
     )
 
 put-requires : tie.Need-put-requires Inv-loop μ-loop
 put-requires c κs =
     let s = c .before .before .before .before .before .before .before .before .before .before .before .before in
-    let few = no-more (s .args .p) (c .before .before .before .before .before .before .before .before .before .before .loop .r .count) (c .before .before .before .note .result) (c .if1 .taken) (λ h. c .before .before .before .note .ensures .passed h .0) in
-    ((few, s .pre .0 .ceiling), c .before .before .before .note .ensures .found few)
+    let h = c .before .before .before .before .before .before .before .before .before .before .loop in
+    let n = c .before .before .before .note in
+    let few = no-more (s .args .p) (h .r .count) (n .result) (c .if1 .taken) (λ h. n .ensures .passed h .0) in
+    ((few, s .pre .0 .ceiling), n .ensures .found few)
+
+-- what a visit of i and j leaves: from builder b to r, from table ws to ws′
+record Left (ws₀ ws ws′ : List ℕ) (p : Plan) (b r : Builder) (l i j : ℕ) : Type 0 where
+  pub long : length ws′ ≡ length ws₀
+  pub full : length (r .codes) ≡ 64
+  pub visited : Visited (succIn ws₀ p) p b r ws ws′ l i j
 
 -- the first of the two visits
 first : (c : lts.Joined1 (note-reads.Asked, note-reads.Learnt, put-reads.Asked, put-reads.Learnt) reads.Pre reads.Post Inv-loop μ-loop)
-    → (length (c .before .before .before .note .last .0) ≡ length (c .before .before .before .before .before .before .before .before .before .before .before .before .args .ws .now)) × (length (c .if1 .r .codes) ≡ 64)
-    × Visited (succIn (c .before .before .before .before .before .before .before .before .before .before .before .before .args .ws .now) (c .before .before .before .before .before .before .before .before .before .before .before .before .args .p)) (c .before .before .before .before .before .before .before .before .before .before .before .before .args .p) (c .before .before .before .before .before .before .before .before .before .before .loop .r) (c .if1 .r) (c .before .before .before .before .before .before .before .before .before .before .loop .ws) (c .before .before .before .note .last .0) (c .before .before .before .before .before .before .before .before .before .before .before .before .args .l) (c .before .before .before .before .before .before .before .before .before .before .loop .i) (c .before .before .before .before .before .before .before .before .before .before .before .before .args .k)
+    → let a = c .before .before .before .before .before .before .before .before .before .before .before .before .args in
+    let h = c .before .before .before .before .before .before .before .before .before .before .loop in
+    Left (a .ws .now) (h .ws) (c .before .before .before .note .last .0) (a .p) (h .r) (c .if1 .r) (a .l) (h .i) (a .k)
 first c =
     let s = c .before .before .before .before .before .before .before .before .before .before .before .before in
     let a = s .args in
     let h = c .before .before .before .before .before .before .before .before .before .before .loop in
     let t = c .before .before .before .before .before .before .before .before .before .loop-test .taken in
     let n = c .before .before .before .note in
-    let f = h .inv .3 in
-    let succ = succIn (a .ws .now) (a .p) in
-    let room : Room (a .p) (length (h .ws)) = subst (Room (a .p)) (sym (h .inv .1)) (s .pre .0) in
-    let hi : h .i < h .r .count = omega (arith, s .pre .1 .0, t, f .0 .more) in
-    let hk : a .k < h .r .count = omega (arith, s .pre .1 .0, f .0 .more) in
-    let ex =
-    code-again (a .p) (a .b) (h .r) (a .ws .now) (a .l) (h .i) (a .k) (getD (a .right .now) (h .i) 0) (id-length 64 (a .b .codes) (s .good .1 .1 .0 .1 .1 .0 .1 .0 .1)) (s .pre .0 .ceiling) (s .pre .1 .0 .2) (f .0 .more) (omega (arith, s .pre .1 .0, t)) (s .pre .1 .0 .1)
-    (rowed-grows succ (a .p) (a .b) (h .r) (a .ws .now) (h .ws) (a .l) (a .k) (h .i) f) (s .pre .1 .1 (h .i) t .0) in
-    let done : (length (c .if1 .r .codes) ≡ 64) × Visited succ (a .p) (h .r) (c .if1 .r) (h .ws) (n .last .0) (a .l) (h .i) (a .k) =
+    let v = s .pre .1 .0 in
+    let f = h .inv .rowed in
+    let room = subst (Room (a .p)) (sym (h .inv .long)) (s .pre .0) in
+    let sb : Sized (a .p .c) (a .b) =
+    record { full = id-length (a .b .codes) (s .good .1 .1 .0 .1 .1 .0 .1 .0 .1); top = s .pre .0 .ceiling; few = v .few } in
+    let hi : h .i < h .r .count = omega (arith, f .step .more) in
+    let hk : a .k < h .r .count = omega (arith, f .step .more) in
+    let served = s .pre .1 .1 (h .i) t in
+    let ex = code-again (a .p) (a .b) (h .r) (a .ws .now) (a .l) (h .i) (a .k) sb (f .step .more) (omega arith) (v .state) (rowed-grows f) (served .0) in
     ⊎-elim
-    (λ w. (
-      rw (w .2) (id-length 64 (w .1 .result .codes) (w .1 .ok .1 .1 .0 .1 .0 .1)),
-      rw (w .2) (entered-new succ (a .p) (h .r) (h .ws) (n .last .0) (a .l) (h .i) (a .k) (getD (a .right .now) (h .i) 0) (n .result) room (s .pre .1 .0 .0) (s .pre .1 .0 .4) hi hk (f .0 .most) (h .inv .2) ex (n .ensures) (w .1 .result) (w .0 .taken) (w .1 .ensures)),
-    ))
-    (λ w. (
-      rw (w .1) (h .inv .2),
-      rw (w .1) (entered-old succ (a .p) (h .r) (h .ws) (n .last .0) (a .l) (h .i) (a .k) (getD (a .right .now) (h .i) 0) (n .result) room (s .pre .1 .0 .0) (s .pre .1 .0 .4) hi hk (f .0 .most) (h .inv .2) ex (n .ensures) (w .0 .left)),
-    ))
-    (c .if1 .came) in
-    (n .kept .0 ∙ h .inv .1, done .0, done .1)
-
-mul-y : tie.Need-mul-y Inv-loop μ-loop
-mul-y c = omega (arith, c .before .before .before .before .before .before .before .before .before .loop-test .taken, c .before .before .before .before .before .before .before .before .before .before .before .before .pre .1 .0, c .before .before .before .before .before .before .before .before .before .before .before .before .pre .0 .ceiling)
-
-element-copy-out-y : tie.Need-element-copy-out-y Inv-loop μ-loop
-element-copy-out-y c = omega (arith, c .before .before .before .before .before .before .before .before .before .loop-test .taken, c .before .before .before .before .before .before .before .before .before .before .before .before .pre .1 .0, c .before .before .before .before .before .before .before .before .before .before .before .before .pre .0 .ceiling)
+    (λ w. rw (w .2) (record {
+      long = n .kept .0 ∙ h .inv .long;
+      full = id-length (w .1 .result .codes) (w .1 .ok .1 .1 .0 .1 .0 .1);
+      visited = entered-new room (v .label) (v .own) hi hk (f .step .most) (h .inv .full) ex (n .ensures) (w .0 .taken) (w .1 .ensures);
+    }))
+    (λ w. rw (w .1) (record {
+      long = n .kept .0 ∙ h .inv .long;
+      full = h .inv .full;
+      visited = entered-old room (v .label) (v .own) hi hk (f .step .most) (h .inv .full) ex (n .ensures) (w .0 .left);
+    }))
+    (c .if1 .came)
 
 note-requires-2 : tie.Need-note-requires-2 Inv-loop μ-loop
 note-requires-2 c κs =
-    let s = c .before .before .before .before .before .before .before .before .before .before .before .before .before .before .before .before .before in
+    let j = c .before .before .before .before .before in
+    let s = j .before .before .before .before .before .before .before .before .before .before .before .before in
     let a = s .args in
-    let h = c .before .before .before .before .before .before .before .before .before .before .before .before .before .before .before .loop in
-    let t = c .before .before .before .before .before .before .before .before .before .before .before .before .before .before .loop-test .taken in
-    let f = h .inv .3 in
-    let r = c .before .before .before .before .before .if1 .r in
-    let v = first (c .before .before .before .before .before) in
-    let more = v .2 .0 .more in (
-      subst (Room (a .p)) (sym (v .0)) (s .pre .0),
+    let h = j .before .before .before .before .before .before .before .before .before .before .loop in
+    let t = j .before .before .before .before .before .before .before .before .before .loop-test .taken in
+    let v = s .pre .1 .0 in
+    let d = first j in
+    let more : h .r .count ≤ j .if1 .r .count = d .visited .step .more in
+    let older : a .b .count ≤ h .r .count = h .inv .rowed .step .more in
+    let sb : Sized (a .p .c) (a .b) =
+    record { full = id-length (a .b .codes) (s .good .1 .1 .0 .1 .1 .0 .1 .0 .1); top = s .pre .0 .ceiling; few = v .few } in (
+      subst (Room (a .p)) (sym (d .long)) (s .pre .0),
       (
-        (s .pre .1 .0 .0, omega (arith, s .pre .1 .0, f .0 .more, more), omega (arith, s .pre .1 .0, t, f .0 .more, more), v .1),
-        λ few. visit-apart (succIn (a .ws .now) (a .p)) (a .p) (a .b) (h .r) r (a .ws .now) (h .ws) (c .before .before .before .before .before .before .before .before .note .last .0) (a .l) (a .k) (h .i) (s .pre .0 .ceiling) (s .pre .1 .0 .0) (s .pre .1 .0 .1) t
-            (id-length 64 (a .b .codes) (s .good .1 .1 .0 .1 .1 .0 .1 .0 .1)) (h .inv .2) (v .1) (s .pre .1 .0 .2) (omega (arith, more, few)) (s .pre .1 .0 .3) f few (v .2),
+        (v .label, omega arith, omega arith, d .full),
+        λ few. visit-apart sb (record { full = h .inv .full; top = sb .top; few = omega arith }) (v .label) (v .state) t (v .distinct) (h .inv .rowed)
+            (record { full = d .full; top = sb .top; few = few }) (d .visited),
       ),
     )
 
 put-requires-2 : tie.Need-put-requires-2 Inv-loop μ-loop
 put-requires-2 c κs =
-    let s = c .before .before .before .before .before .before .before .before .before .before .before .before .before .before .before .before .before .before .before .before .before in
-    let few = no-more (s .args .p) (c .before .before .before .before .before .before .before .before .before .if1 .r .count) (c .before .before .before .note2 .result) (c .if2 .taken) (λ h. c .before .before .before .note2 .ensures .passed h .0) in
-    ((few, s .pre .0 .ceiling), c .before .before .before .note2 .ensures .found few)
-
-add-i : tie.Need-add-i Inv-loop μ-loop
-add-i c = omega (arith, c .before .before .before .before .before .before .before .before .before .before .before .before .before .before .before .before .before .before .loop-test .taken, c .before .before .before .before .before .before .before .before .before .before .before .before .before .before .before .before .before .before .before .before .before .pre .1 .0, c .before .before .before .before .before .before .before .before .before .before .before .before .before .before .before .before .before .before .before .before .before .pre .0 .ceiling)
-
-loop-less : tie.Need-loop-less Inv-loop μ-loop
-loop-less c = omega (arith, c .before .before .before .before .before .before .before .before .before .before .before .before .before .before .before .before .before .before .loop-test .taken)
+    let j = c .before .before .before .before .before .before .before .before .before in
+    let s = j .before .before .before .before .before .before .before .before .before .before .before .before in
+    let n = c .before .before .before .note2 in
+    let few = no-more (s .args .p) (j .if1 .r .count) (n .result) (c .if2 .taken) (λ h. n .ensures .passed h .0) in
+    ((few, s .pre .0 .ceiling), n .ensures .found few)
 
 loop-again : tie.Need-loop-again Inv-loop μ-loop
 loop-again c =
-    let s = c .before .before .before .before .before .before .before .before .before .before .before .before .before .before .before .before .before .before .before .before .before in
+    let j = c .before .before .before .before .before .before .before .before .before in
+    let s = j .before .before .before .before .before .before .before .before .before .before .before .before in
     let a = s .args in
-    let h = c .before .before .before .before .before .before .before .before .before .before .before .before .before .before .before .before .before .before .before .loop in
-    let t = c .before .before .before .before .before .before .before .before .before .before .before .before .before .before .before .before .before .before .loop-test .taken in
-    let f = h .inv .3 in
-    let m = c .before .before .before .before .before .before .before .before .before .before .before .before .note in
-    let r = c .before .before .before .before .before .before .before .before .before .if1 .r in
-    let v = first (c .before .before .before .before .before .before .before .before .before) in
+    let h = j .before .before .before .before .before .before .before .before .before .before .loop in
+    let t = j .before .before .before .before .before .before .before .before .before .loop-test .taken in
     let n = c .before .before .before .note2 in
+    let v = s .pre .1 .0 in
+    let f = h .inv .rowed in
+    let d = first j in
+    let g = d .visited in
+    let r = j .if1 .r in
     let succ = succIn (a .ws .now) (a .p) in
-    let more = v .2 .0 .more in
-    let room : Room (a .p) (length (m .last .0)) = subst (Room (a .p)) (sym (v .0)) (s .pre .0) in
-    let hi : h .i < r .count = omega (arith, s .pre .1 .0, t, f .0 .more, more) in
-    let hk : a .k < r .count = omega (arith, s .pre .1 .0, f .0 .more, more) in
-    let ex =
-    code-again (a .p) (a .b) r (a .ws .now) (a .l) (a .k) (h .i) (getD (a .left .now) (h .i) 0) (id-length 64 (a .b .codes) (s .good .1 .1 .0 .1 .1 .0 .1 .0 .1)) (s .pre .0 .ceiling) (s .pre .1 .0 .2) (omega (arith, f .0 .more, more)) (s .pre .1 .0 .1) (omega (arith, s .pre .1 .0, t))
-    (grows-trans (listed (a .p .c) (a .b)) (listed (a .p .c) (h .r)) (listed (a .p .c) r)
-    (rowed-grows succ (a .p) (a .b) (h .r) (a .ws .now) (h .ws) (a .l) (a .k) (h .i) f)
-    (visited-grows succ (a .p) (h .r) r (h .ws) (m .last .0) (a .l) (h .i) (a .k) (v .2)))
-    (s .pre .1 .1 (h .i) t .1) in
-    let done : (length (c .if2 .r .codes) ≡ 64) × Visited succ (a .p) r (c .if2 .r) (m .last .0) (n .last .0) (a .l) (a .k) (h .i) =
+    let mid = j .before .before .before .note .last .0 in
+    let older : a .b .count ≤ h .r .count = f .step .more in
+    let more : h .r .count ≤ r .count = g .step .more in
+    let room = subst (Room (a .p)) (sym (d .long)) (s .pre .0) in
+    let sb : Sized (a .p .c) (a .b) =
+    record { full = id-length (a .b .codes) (s .good .1 .1 .0 .1 .1 .0 .1 .0 .1); top = s .pre .0 .ceiling; few = v .few } in
+    let hi : h .i < r .count = omega arith in
+    let hk : a .k < r .count = omega arith in
+    let grows = grows-trans (listed (a .p .c) (a .b)) (listed (a .p .c) (h .r)) (listed (a .p .c) r) (rowed-grows f) (visited-grows g) in
+    let ex = code-again (a .p) (a .b) r (a .ws .now) (a .l) (a .k) (h .i) sb (omega arith) (v .state) (omega arith) grows (s .pre .1 .1 (h .i) t .1) in
+    let done : (length (c .if2 .r .codes) ≡ 64) × Visited succ (a .p) r (c .if2 .r) mid (n .last .0) (a .l) (a .k) (h .i) =
     ⊎-elim
-    (λ w. (
-      rw (w .2) (id-length 64 (w .1 .result .codes) (w .1 .ok .1 .1 .0 .1 .0 .1)),
-      rw (w .2) (entered-new succ (a .p) r (m .last .0) (n .last .0) (a .l) (a .k) (h .i) (getD (a .left .now) (h .i) 0) (n .result) room (s .pre .1 .0 .0) (s .pre .1 .0 .4) hk hi (v .2 .0 .most) (v .1) ex (n .ensures) (w .1 .result) (w .0 .taken) (w .1 .ensures)),
+    (λ w. rw (w .2) (
+      id-length (w .1 .result .codes) (w .1 .ok .1 .1 .0 .1 .0 .1),
+      entered-new room (v .label) (v .own) hk hi (g .step .most) (d .full) ex (n .ensures) (w .0 .taken) (w .1 .ensures),
     ))
-    (λ w. (
-      rw (w .1) (v .1),
-      rw (w .1) (entered-old succ (a .p) r (m .last .0) (n .last .0) (a .l) (a .k) (h .i) (getD (a .left .now) (h .i) 0) (n .result) room (s .pre .1 .0 .0) (s .pre .1 .0 .4) hk hi (v .2 .0 .most) (v .1) ex (n .ensures) (w .0 .left)),
-    ))
-    (c .if2 .came) in (
-      omega (arith, t),
-      n .kept .0 ∙ v .0,
-      done .0,
-      row-step succ (a .p) (a .b) (h .r) r (c .if2 .r) (a .ws .now) (h .ws) (m .last .0) (n .last .0) (a .l) (a .k) (h .i) (s .pre .1 .0 .0) f (v .2) (done .1),
-    )
+    (λ w. rw (w .1) (d .full, entered-old room (v .label) (v .own) hk hi (g .step .most) (d .full) ex (n .ensures) (w .0 .left)))
+    (c .if2 .came) in
+    record { within = omega arith; long = n .kept .0 ∙ d .long; full = done .0; rowed = row-step (v .label) f g (done .1) }
 
 returns : tie.Need-returns Inv-loop μ-loop
 returns c =
-    let a = c .before .before .before .args in
     let h = c .before .loop in
-    let e : h .i ≡ a .k + 1 = omega (arith, c .loop-test .left, h .inv .0) in
-    (rw e at (h .inv .3 .0), rw e at (h .inv .3 .1))
+    let e : h .i ≡ c .before .before .before .args .k + 1 = omega (arith, h .inv .within) in
+    rw e at (h .inv .rowed)
 
 pub visit-pairs-spec : {M : Type 1} → statement M
 visit-pairs-spec =
     tie.close
-    (tie.spec
-    Inv-loop μ-loop loop-holds mul-x element-copy-out-x note-requires put-requires mul-y element-copy-out-y note-requires-2 put-requires-2
-    add-i loop-less loop-again (λ c. c .before .loop .inv .1) returns)
+    (tie.spec Inv-loop μ-loop loop-holds (λ c. omega arith) (λ c. omega arith) note-requires put-requires (λ c. omega arith) (λ c. omega arith)
+    note-requires-2 put-requires-2 (λ c. omega arith) (λ c. omega arith) loop-again (λ c. c .before .loop .inv .long) returns)

@@ -1,14 +1,6 @@
 -- `accept_word` meets its contract. The invariant: the word holds the accepting states below i. Assumes nothing.
-use borrow.Author.Needs.{needs}
-use Prim.Native.Nat.{ℕ, _-_, _^_, _≤_, _<_, _%_}
-use mathlib.Core.Bool.{Bool, _||_, _&&_}
-use mathlib.Core.Logic.{⊎-elim}
-use mathlib.Core.Path.{_≡_, sym, ap, _∙_}
-use native.Mathlib.Omega.{arith}
-use borrow.Author.Tests.{le-ltb}
-use lib.Dec.{eqb, ltb}
-use lib.ListN.{length, getD, take}
-use lib.Seq.{getD-take, length-take-le}
+use Rattle.words.proofs.Vocabulary.{ℕ, _≤_, _<_, _-_, _%_, _^_, Bool, _||_, _&&_, _≡_, _∙_, sym, ap, ⊎-elim, needs, le-ltb, eqb, ltb, length, getD}
+use Rattle.words.proofs.Vocabulary.{take, length-take-le, getD-take, arith}
 use Rattle.words.specs.Word.{mem}
 use Rattle.words.proofs.WordLaws.{mem-zero, word-ext}
 use Rattle.records.specs.Machine.{acceptBy, acceptOf}
@@ -36,11 +28,12 @@ loop-again c =
     let m : h .i % 64 ≡ h .i = omega arith in (
       omega arith,
       omega arith,
-      omega (arith, w .2, w .1 .ok),
+      omega arith,
       λ q.
-          ap (mem q) (w .2) ∙ w .1 .ensures q ∙ ap (λ (k : ℕ). mem q (h .r) || eqb k q) m ∙ accept-more (h .i) q A (mem q (h .r)) (sym e ∙ w .0 .taken) (h .inv .3 q),
+          ap (mem q) (w .2) ∙ w .1 .ensures q ∙ ap (λ (k : ℕ). mem q (h .r) || eqb k q) m ∙ accept-more (h .i) q A (mem q (h .r)) (sym e ∙ w .0 .taken)
+          (h .inv .3 q),
     ))
-    (λ w. (omega arith, omega arith, omega (arith, w .1, h .inv .2), λ q. ap (mem q) (w .1) ∙ accept-same (h .i) q A (mem q (h .r)) (sym e ∙ w .0 .left) (h .inv .3 q)))
+    (λ w. (omega arith, omega arith, omega arith, λ q. ap (mem q) (w .1) ∙ accept-same (h .i) q A (mem q (h .r)) (sym e ∙ w .0 .left) (h .inv .3 q)))
     (c .if1 .came)
 
 returns : tie.Need-returns Inv-loop μ-loop
@@ -50,7 +43,7 @@ returns c =
     let a = s .args in
     let h = c .before .loop in
     let cs = take (a .count) (a .codes .now) in
-    let n : length cs ≡ a .count = length-take-le (a .count) (a .codes .now) (omega (arith, s .pre)) in
+    let n : length cs ≡ a .count = length-take-le (a .count) (a .codes .now) (omega arith) in
     let e : h .i ≡ length cs = omega arith in
     let all : (q : ℕ) → mem q (h .r) ≡ (ltb q (length cs) && acceptBy (a .kind) (a .a) (a .b) (getD cs q 0)) = rw e at (h .inv .3) in
     word-ext 64 (h .r) (λ (q : ℕ). ltb q (length cs) && acceptBy (a .kind) (a .a) (a .b) (getD cs q 0)) (h .inv .2) (λ q l. all q)
@@ -58,6 +51,5 @@ returns c =
 pub accept-word-spec : {M : Type 1} → statement M
 accept-word-spec =
     tie.close
-    (tie.spec
-    Inv-loop μ-loop (λ c. (omega arith, omega arith, omega arith, λ q. rw (le-ltb q 0 (omega arith)) (mem-zero q))) (λ c. search needs)
+    (tie.spec Inv-loop μ-loop (λ c. (omega arith, omega arith, omega arith, λ q. rw (le-ltb q 0 (omega arith)) (mem-zero q))) (λ c. search needs)
     (λ c. search needs) (λ c κs. search needs) (λ c κs. search needs) (λ c. search needs) (λ c. search needs) loop-again returns)

@@ -1,10 +1,5 @@
 -- `build_next` meets its contract: the machine is made by the record's kind. Assumes nothing.
-use borrow.Author.Needs.{needs}
-use mathlib.Core.Bool.{false}
-use mathlib.Core.List.{[], _∷_}
-use mathlib.Core.Path.{_≡_, refl}
-use types.Run.{OneOf, miss}
-use denote.Enum.Declared.{tagOf}
+use Rattle.words.proofs.Vocabulary.{false, _≡_, refl, [], _∷_, needs, tagOf, OneOf, miss}
 use Rattle.records.specs.Rule.{isNot}
 use Rattle.table.specs.declared.plan.Kind.{Kind}
 use Rattle.table.specs.declared.plan.Kind.the-variants.{Subset, Single, Child1, Child2, Root, Not, Or, And, Exists}
@@ -32,6 +27,5 @@ explore-next-requires c κs =
 pub build-next-spec : {M : Type 1} → statement M
 build-next-spec =
     tie.close
-    (tie.spec
-    (λ c. search needs) (λ c κs. search needs) explore-next-requires (λ c. search needs) (λ c. search needs) (λ c. search needs)
+    (tie.spec (λ c. search needs) (λ c κs. search needs) explore-next-requires (λ c. search needs) (λ c. search needs) (λ c. search needs)
     (λ c. search needs))

@@ -1,8 +1,5 @@
 -- `complement_next` meets its contract. Assumes nothing.
-use borrow.Author.Needs.{needs}
-use Prim.Native.Nat.{_*_, _<_}
-use mathlib.Core.Path.{refl, subst}
-use native.Mathlib.Omega.{arith}
+use Rattle.words.proofs.Vocabulary.{_<_, _*_, refl, subst, needs, arith}
 use Rattle.records.specs.Rule.{OfParts}
 use Rattle.table.specs.declared.plan.Kind.{Kind}
 use Rattle.records.proofs.Copies.{few-part, added-not, copied-spared}
@@ -42,7 +39,7 @@ flipped-requires c κs =
     let s = c .before .before .before .before .before .before .before .before in
     let a = s .args in
     let w = s .pre .1 .1 .1 in
-    omega (arith, s .pre .0 .ceiling, few-part (a .x) (a .r) (a .c) (a .labels) (a .f) (a .g) (a .ws .now) (w .0) (w .1) (s .pre .1 .1 .0) (w .2))
+    omega (arith, few-part (a .x) (a .r) (a .c) (a .labels) (a .f) (a .g) (a .ws .now) (w .0) (w .1) (s .pre .1 .1 .0) (w .2))
 
 returns : tie.Need-returns
 returns c =
@@ -52,12 +49,11 @@ returns c =
     let w = c .flipped in (
       λ f g parts. added-not (a .x) (a .r) (a .c) (a .labels) (a .f) (a .g) (a .ws .now) f g (s .pre .1 .1 .0) parts (v .last .0)
           (record { count = a .f .count; accept = w .result; looks = a .f .looks }) (v .ensures) refl (w .ensures) refl,
-      copied-spared (a .ws .now) (v .last .0) (a .x .first * (a .labels * a .c * a .c)) (a .c) (a .labels) (a .r) (a .f .looks) (a .f .count) (v .ensures),
+      copied-spared (v .ensures),
     )
 
 pub complement-next-spec : {M : Type 1} → statement M
 complement-next-spec =
     tie.close
-    (tie.spec
-    (λ c. search needs) (λ c. search needs) (λ c. search needs) mul-share (λ c. search needs) mul-copy-table (λ c. search needs)
+    (tie.spec (λ c. search needs) (λ c. search needs) (λ c. search needs) mul-share (λ c. search needs) mul-copy-table (λ c. search needs)
     copy-table-requires flipped-requires (λ c. search needs) returns)

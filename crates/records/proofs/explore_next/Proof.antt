@@ -1,8 +1,5 @@
 -- `explore_next` meets its contract. Assumes nothing.
-use mathlib.Core.Path.{refl, ap}
-use Prim.Native.Nat.{_≤_}
-use native.Mathlib.Omega.{arith}
-use lib.ListN.{length, take}
+use Rattle.words.proofs.Vocabulary.{_≤_, refl, ap, needs, length, take, arith}
 use Rattle.records.specs.Rule.{planOf}
 use Rattle.table.specs.Succ.{succIn, startOf}
 use Rattle.exploring.specs.Filling.{Explored}
@@ -10,7 +7,6 @@ use Rattle.table.specs.declared.plan.Plan.{Plan}
 use Rattle.records.proofs.Nexts.{looks-byte}
 use Rattle.records.proofs.Shares.{room-of, led-of, added-many, added-few, explored-spared}
 use Rattle.table.proofs.Places.{id-length}
-use borrow.Author.Needs.{needs}
 use Rattle.records.proofs.explore_next.Statement.{statement}
 use Rattle.records.proofs.explore_next.Tie as tie
 
@@ -28,7 +24,7 @@ cast-t19 : tie.Need-cast-t19
 cast-t19 c =
     let s = c .before .before .before .before .before .before .before .before .before in
     let e = (rw (c .before .before .before .before .before .plan-of .ensures) at (c .before .before .before .build-plan .ensures)) .most in
-    omega (arith, s .pre .0 .ceiling)
+    omega arith
 
 returns : tie.Need-returns
 returns c =
@@ -38,7 +34,8 @@ returns c =
     let p = planOf (a .x) (a .r) (a .c) (a .labels) (a .f .looks) (a .g .looks) in
     let done : Explored (succIn (a .ws .now) p) p (startOf (take (p .base) (a .ws .now)) p) (b .result) (a .ws .now) (b .last .0) =
     rw (c .before .before .before .before .before .plan-of .ensures) at (b .ensures) in (
-      λ f g parts. added-many (a .x) (a .r) (a .c) (a .labels) (a .f) (a .g) (a .ws .now) f g (s .pre .0) (s .pre .1 .0) parts (s .pre .1 .1 .0) (b .result) (b .last .0) done
+      λ f g parts. added-many (a .x) (a .r) (a .c) (a .labels) (a .f) (a .g) (a .ws .now) f g (s .pre .0) (s .pre .1 .0) parts (s .pre .1 .1 .0) (b .result)
+          (b .last .0) done
           (record { count = b .result .count; accept = 0; looks = 0 }) refl (c .if1 .taken),
       explored-spared (a .x) (a .r) (a .c) (a .labels) (a .f .looks) (a .g .looks) (a .ws .now) (b .last .0) (b .result) done,
     )
@@ -61,9 +58,12 @@ returns-2 c =
     let q = c .before .before .before .before .before .before .before .before .before .plan-of in
     let w = c .before .accept-word in
     let p = planOf (a .x) (a .r) (a .c) (a .labels) (a .f .looks) (a .g .looks) in
-    let done : Explored (succIn (a .ws .now) p) p (startOf (take (p .base) (a .ws .now)) p) (b .result) (a .ws .now) (b .last .0) = rw (q .ensures) at (b .ensures) in (
-      λ f g parts. added-few (a .x) (a .r) (a .c) (a .labels) (a .f) (a .g) (a .ws .now) f g (s .pre .0) (s .pre .1 .0) parts (s .pre .1 .1 .0) (b .result) (b .last .0) done
-          (record { count = b .result .count; accept = w .result; looks = q .result .looks }) refl (id-length 64 (b .result .codes) (b .ok .1 .1 .0 .1 .0 .1)) (omega arith) (w .ensures)
+    let done : Explored (succIn (a .ws .now) p) p (startOf (take (p .base) (a .ws .now)) p) (b .result) (a .ws .now) (b .last .0) =
+    rw (q .ensures) at (b .ensures) in (
+      λ f g parts. added-few (a .x) (a .r) (a .c) (a .labels) (a .f) (a .g) (a .ws .now) f g (s .pre .0) (s .pre .1 .0) parts (s .pre .1 .1 .0) (b .result)
+          (b .last .0) done
+          (record { count = b .result .count; accept = w .result; looks = q .result .looks }) refl (id-length (b .result .codes) (b .ok .1 .1 .0 .1 .0 .1))
+          (omega arith) (w .ensures)
           (ap (λ (z : Plan). z .looks) (q .ensures)),
       explored-spared (a .x) (a .r) (a .c) (a .labels) (a .f .looks) (a .g .looks) (a .ws .now) (b .last .0) (b .result) done,
     )
@@ -71,6 +71,5 @@ returns-2 c =
 pub explore-next-spec : {M : Type 1} → statement M
 explore-next-spec =
     tie.close
-    (tie.spec
-    (λ c. search needs) (λ c. search needs) (λ c κs. search needs) build-plan-requires cast-t19 (λ c. search needs) returns
+    (tie.spec (λ c. search needs) (λ c. search needs) (λ c κs. search needs) build-plan-requires cast-t19 (λ c. search needs) returns
     (λ c κs. search needs) (λ c. search needs) cast-t22 (λ c. search needs) returns-2)

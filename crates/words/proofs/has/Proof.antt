@@ -1,6 +1,6 @@
 -- `has` meets its contract. Assumes nothing.
 use Rattle.words.proofs.Members.{has-law}
-use borrow.Author.Needs.{needs}
+use Rattle.words.proofs.Vocabulary.{needs}
 use Rattle.words.proofs.has.Statement.{statement}
 use Rattle.words.proofs.has.Tie as tie
 

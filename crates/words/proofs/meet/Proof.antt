@@ -1,5 +1,5 @@
 -- `meet` meets its contract: the common part is empty, or it has a smallest member. Assumes nothing.
-use native.Mathlib.Omega.{arith}
+use Rattle.words.proofs.Vocabulary.{arith}
 use Rattle.words.proofs.Members.{meet-law}
 use Rattle.words.proofs.meet.Statement.{statement}
 use Rattle.words.proofs.meet.Tie as tie

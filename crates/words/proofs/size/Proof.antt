@@ -1,7 +1,5 @@
 -- `size` meets its contract: a word has at most 64 members. Assumes nothing.
-use native.Mathlib.Omega.{arith}
-use lib.Count.{ones-le}
-use borrow.Author.Needs.{needs}
+use Rattle.words.proofs.Vocabulary.{needs, ones-le, arith}
 use Rattle.words.proofs.size.Statement.{statement}
 use Rattle.words.proofs.size.Tie as tie
 

@@ -1,6 +1,5 @@
 -- `smallest` meets its contract. Assumes nothing.
-use native.Mathlib.Omega.{arith}
-use lib.Count.{trailing-le}
+use Rattle.words.proofs.Vocabulary.{trailing-le, arith}
 use Rattle.words.proofs.Members.{smallest-law}
 use Rattle.words.proofs.smallest.Statement.{statement}
 use Rattle.words.proofs.smallest.Tie as tie

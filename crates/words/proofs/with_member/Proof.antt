@@ -1,8 +1,6 @@
 -- `with_member` meets its contract. Assumes nothing.
-use native.Mathlib.Omega.{arith}
-use Prim.Native.Nat.{_%_}
+use Rattle.words.proofs.Vocabulary.{_%_, needs, arith}
 use Rattle.words.proofs.Members.{with-law}
-use borrow.Author.Needs.{needs}
 use Rattle.words.proofs.with_member.Statement.{statement}
 use Rattle.words.proofs.with_member.Tie as tie
 

@@ -1,8 +1,5 @@
 -- `copy` meets its contract. The invariant: the first i bytes are copied. Assumes nothing.
-use Prim.Native.Nat.{_+_, _-_, _≤_}
-use mathlib.Core.Path.{_≡_, refl, _∙_}
-use native.Mathlib.Omega.{arith}
-use lib.ListN.{length, getD, length-set}
+use Rattle.words.proofs.Vocabulary.{_≤_, _+_, _-_, _≡_, _∙_, refl, length, getD, length-set, arith}
 use Rattle.records.specs.Complement.{Copied}
 use Rattle.records.proofs.Copies.{copy-first, copy-turn}
 use Rattle.records.proofs.complement.copy.Statement.{statement}
@@ -17,8 +14,11 @@ abbrev μ-loop : tie.MeasureT-loop
 loop-again : tie.Need-loop-again Inv-loop μ-loop
 loop-again c =
     let a = c .before .before .before .args in
-    let h = c .before .before .loop in
-    (omega arith, length-set (h .ws) (a .to + h .i) (getD (h .ws) (a .from + h .i) 0) ∙ h .inv .1, copy-turn (a .ws .now) (h .ws) (a .from) (a .to) (a .n) (h .i) (omega arith) (omega arith) (omega arith) (h .inv .2))
+    let h = c .before .before .loop in (
+      omega arith,
+      length-set (h .ws) (a .to + h .i) (getD (h .ws) (a .from + h .i) 0) ∙ h .inv .1,
+      copy-turn (a .n) (omega arith) (omega arith) (omega arith) (h .inv .2),
+    )
 
 returns : tie.Need-returns Inv-loop μ-loop
 returns c =
@@ -29,7 +29,5 @@ returns c =
 pub copy-spec : {M : Type 1} → statement M
 copy-spec =
     tie.close
-    (tie.spec
-    Inv-loop μ-loop (λ c. let a = c .args in (omega arith, refl, copy-first (a .ws .now) (a .from) (a .to))) (λ c. omega arith)
-    (λ c. omega arith) (λ c. omega arith) (λ c. omega arith) (λ c. omega arith) (λ c. omega arith) loop-again (λ c. c .before .loop .inv .1)
-    returns)
+    (tie.spec Inv-loop μ-loop (λ c. let a = c .args in (omega arith, refl, copy-first)) (λ c. omega arith)
+    (λ c. omega arith) (λ c. omega arith) (λ c. omega arith) (λ c. omega arith) (λ c. omega arith) loop-again (λ c. c .before .loop .inv .1) returns)

@@ -1,8 +1,5 @@
 -- `copy_label` meets its contract. The invariant: the rows of the states below i are copied. Assumes nothing.
-use Prim.Native.Nat.{_-_, _≤_}
-use mathlib.Core.Path.{_≡_, refl, _∙_}
-use native.Mathlib.Omega.{arith}
-use lib.ListN.{length}
+use Rattle.words.proofs.Vocabulary.{_≤_, _-_, _≡_, _∙_, refl, length, arith}
 use Rattle.records.specs.Complement.{RowsCopied}
 use Rattle.records.proofs.Copies.{row-at, row-room, rows-first, rows-turn}
 use Rattle.records.proofs.complement.copy_label.Statement.{statement}
@@ -14,26 +11,23 @@ Inv-loop ws₀ from to c l n i₀ ws i = (i ≤ n) × (length ws ≡ length ws�
 abbrev μ-loop : tie.MeasureT-loop
 μ-loop ws₀ from to c l n i₀ ws i = n - i
 
-loop-holds : tie.Need-loop-holds Inv-loop μ-loop
-loop-holds c = let a = c .before .args in (omega arith, refl, rows-first (a .ws .now) (a .from) (a .to) (a .c) (a .l) (a .n))
-
 add-copy : tie.Need-add-copy Inv-loop μ-loop
 add-copy c =
     let a = c .before .before .before .before .before .args in
     let i = c .before .before .before .loop .i in
-    omega (arith, c .before .cell .ensures, row-at (a .c) (a .l) i, row-room (a .c) (a .l) i (omega arith))
+    omega (arith, row-at (a .c) (a .l) i, row-room (a .c) (a .l) i (omega arith))
 
 add-copy-2 : tie.Need-add-copy-2 Inv-loop μ-loop
 add-copy-2 c =
     let a = c .before .before .before .before .before .args in
     let i = c .before .before .before .loop .i in
-    omega (arith, c .before .cell .ensures, row-at (a .c) (a .l) i, row-room (a .c) (a .l) i (omega arith))
+    omega (arith, row-at (a .c) (a .l) i, row-room (a .c) (a .l) i (omega arith))
 
 copy-requires : tie.Need-copy-requires Inv-loop μ-loop
 copy-requires c κs =
     let a = c .before .before .before .before .before .args in
     let i = c .before .before .before .loop .i in
-    omega (arith, c .before .before .before .loop .inv .1, c .before .cell .ensures, row-at (a .c) (a .l) i, row-room (a .c) (a .l) i (omega arith))
+    omega (arith, row-at (a .c) (a .l) i, row-room (a .c) (a .l) i (omega arith))
 
 loop-again : tie.Need-loop-again Inv-loop μ-loop
 loop-again c =
@@ -43,7 +37,7 @@ loop-again c =
     let v = c .before .before .copy in (
       omega arith,
       v .kept .0 ∙ h .inv .1,
-      rows-turn (a .ws .now) (h .ws) (v .last .0) (a .from) (a .to) (a .c) (a .l) (a .n) (h .i) (k .result) (omega arith) (omega arith) (omega arith) (k .ensures) (h .inv .2) (v .ensures),
+      rows-turn (omega arith) (omega arith) (omega arith) (k .ensures) (h .inv .2) (v .ensures),
     )
 
 returns : tie.Need-returns Inv-loop μ-loop
@@ -55,6 +49,5 @@ returns c =
 pub copy-label-spec : {M : Type 1} → statement M
 copy-label-spec =
     tie.close
-    (tie.spec
-    Inv-loop μ-loop loop-holds (λ c κs. omega arith) add-copy add-copy-2 copy-requires (λ c. omega arith) (λ c. omega arith) loop-again
-    (λ c. c .before .loop .inv .1) returns)
+    (tie.spec Inv-loop μ-loop (λ c. let a = c .before .args in (omega arith, refl, rows-first))
+    (λ c κs. omega arith) add-copy add-copy-2 copy-requires (λ c. omega arith) (λ c. omega arith) loop-again (λ c. c .before .loop .inv .1) returns)

@@ -1,12 +1,5 @@
 -- `flipped` meets its contract. The invariant: the word holds the states below i that are not in a. Assumes nothing.
-use borrow.Author.Needs.{needs}
-use Prim.Native.Nat.{ℕ, _-_, _^_, _≤_, _<_, _%_}
-use mathlib.Core.Bool.{Bool, not, _||_, _&&_}
-use mathlib.Core.Logic.{⊎-elim}
-use mathlib.Core.Path.{_≡_, sym, ap, _∙_}
-use native.Mathlib.Omega.{arith}
-use borrow.Author.Tests.{le-ltb}
-use lib.Dec.{eqb, ltb}
+use Rattle.words.proofs.Vocabulary.{ℕ, _≤_, _<_, _-_, _%_, _^_, Bool, _||_, _&&_, not, _≡_, _∙_, sym, ap, ⊎-elim, needs, le-ltb, eqb, ltb, arith}
 use Rattle.words.specs.Word.{mem}
 use Rattle.words.proofs.WordLaws.{mem-zero, word-ext}
 use Rattle.records.specs.Machine.{othersOf}
@@ -32,11 +25,12 @@ loop-again c =
     let m : h .i % 64 ≡ h .i = omega arith in (
       omega arith,
       omega arith,
-      omega (arith, w .2, w .1 .ok),
+      omega arith,
       λ q.
-          ap (mem q) (w .2) ∙ w .1 .ensures q ∙ ap (λ (k : ℕ). mem q (h .r) || eqb k q) m ∙ accept-more (h .i) q A (mem q (h .r)) (sym e ∙ w .0 .taken) (h .inv .3 q),
+          ap (mem q) (w .2) ∙ w .1 .ensures q ∙ ap (λ (k : ℕ). mem q (h .r) || eqb k q) m ∙ accept-more (h .i) q A (mem q (h .r)) (sym e ∙ w .0 .taken)
+          (h .inv .3 q),
     ))
-    (λ w. (omega arith, omega arith, omega (arith, w .1, h .inv .2), λ q. ap (mem q) (w .1) ∙ accept-same (h .i) q A (mem q (h .r)) (sym e ∙ w .0 .left) (h .inv .3 q)))
+    (λ w. (omega arith, omega arith, omega arith, λ q. ap (mem q) (w .1) ∙ accept-same (h .i) q A (mem q (h .r)) (sym e ∙ w .0 .left) (h .inv .3 q)))
     (c .if1 .came)
 
 returns : tie.Need-returns Inv-loop μ-loop
@@ -50,6 +44,5 @@ returns c =
 pub flipped-spec : {M : Type 1} → statement M
 flipped-spec =
     tie.close
-    (tie.spec
-    Inv-loop μ-loop (λ c. (omega arith, omega arith, omega arith, λ q. rw (le-ltb q 0 (omega arith)) (mem-zero q))) (λ c κs. search needs)
+    (tie.spec Inv-loop μ-loop (λ c. (omega arith, omega arith, omega arith, λ q. rw (le-ltb q 0 (omega arith)) (mem-zero q))) (λ c κs. search needs)
     (λ c κs. search needs) (λ c. search needs) (λ c. search needs) loop-again returns)

@@ -1,16 +1,9 @@
 -- `cleared` meets its contract. Assumes nothing.
-use borrow.Author.Needs.{needs}
-use Prim.Native.Nat.{_*_}
-use mathlib.Core.Path.{refl}
-use native.Mathlib.Nat.{div-mul-le-self, mod-lt}
-use native.Mathlib.Omega.{arith}
+use Rattle.words.proofs.Vocabulary.{_*_, refl, needs, mod-lt, div-mul-le-self, arith}
 use Rattle.table.specs.Entry.{off}
 use Rattle.table.proofs.Labels.{off-le}
 use Rattle.table.proofs.entries.cleared.Statement.{statement}
 use Rattle.table.proofs.entries.cleared.Tie as tie
-
-mul-result-3 : tie.Need-mul-result-3
-mul-result-3 c = let a = c .args in omega (arith, div-mul-le-self (a .l) (2 * a .w), mod-lt (a .l) {m = a .w} (omega arith))
 
 add-result : tie.Need-add-result
 unfolding off
@@ -22,4 +15,7 @@ returns c = (refl, off-le (c .args .w) (c .args .l) (c .pre .0))
 
 pub cleared-spec : {M : Type 1} → statement M
 cleared-spec =
-    tie.close (tie.spec (λ c. search needs) (λ c. search needs) (λ c. search needs) mul-result-3 (λ c. search needs) add-result returns)
+    tie.close
+    (tie.spec (λ c. search needs) (λ c. search needs) (λ c. search needs)
+    (λ c. let a = c .args in omega (arith, div-mul-le-self (a .l) (2 * a .w), mod-lt (a .l) {m = a .w} (omega arith))) (λ c. search needs) add-result
+    returns)

@@ -1,11 +1,7 @@
 -- `entry_at` meets its contract. Assumes nothing.
-use mathlib.Core.Path.{ap, _∙_}
-use Prim.Native.Nat.{ℕ, _+_}
-use native.Mathlib.Omega.{arith}
-use lib.ListN.{getD}
+use Rattle.words.proofs.Vocabulary.{ℕ, _+_, _∙_, ap, needs, getD, arith}
 use Rattle.table.specs.Entry.{entry}
 use Rattle.table.proofs.Places.{addr-small}
-use borrow.Author.Needs.{needs}
 use Rattle.table.proofs.entries.entry_at.Statement.{statement}
 use Rattle.table.proofs.entries.entry_at.Tie as tie
 

@@ -1,7 +1,5 @@
 -- `read` meets its contract. Assumes nothing.
-use mathlib.Core.Path.{sym}
-use borrow.Author.Needs.{needs}
-use lib.ListN.{List·getD-eq-default}
+use Rattle.words.proofs.Vocabulary.{sym, needs, List·getD-eq-default}
 use Rattle.table.proofs.entries.read.Statement.{statement}
 use Rattle.table.proofs.entries.read.Tie as tie
 

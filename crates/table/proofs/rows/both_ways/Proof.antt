@@ -1,7 +1,5 @@
 -- `both_ways` meets its contract. The invariant: what is left of the set is still to be walked. Assumes nothing.
-use borrow.Author.Needs.{needs}
-use mathlib.Core.Path.{_≡_}
-use native.Mathlib.Omega.{arith}
+use Rattle.words.proofs.Vocabulary.{_≡_, needs, arith}
 use Rattle.words.specs.Word.{Below}
 use Rattle.table.specs.Entry.{entry}
 use Rattle.table.specs.Succ.{hit}
@@ -20,19 +18,17 @@ loop-holds : tie.Need-loop-holds Inv-loop μ-loop
 loop-holds c =
     let a = c .before .before .args in
     let f = entry (a .low .now) (a .c) (a .a) in
-    (c .before .before .pre .0 .5, walk-first (a .s) (c .size .result) (λ q i. hit f (a .l) (a .m) q i (a .t)) (c .size .ensures), walk-first (a .s) (c .size .result) (λ q i. hit f (a .l) (a .m) q (a .t) i) (c .size .ensures))
+    (c .before .before .pre .0 .5, walk-first (c .size .ensures), walk-first (c .size .ensures))
 
 with-steps-requires : tie.Need-with-steps-requires Inv-loop μ-loop
 with-steps-requires c κs =
-    let s = c .before .before .before .before .before in
     let i = c .smallest .ensures in
-    (omega (arith, s .pre .0, c .before .before .loop .inv .0 (c .smallest .result) (i .top) (i .is)), omega (arith, s .pre .1))
+    (omega (arith, c .before .before .loop .inv .0 (c .smallest .result) (i .top) (i .is)), omega arith)
 
 with-steps-requires-2 : tie.Need-with-steps-requires-2 Inv-loop μ-loop
 with-steps-requires-2 c κs =
-    let s = c .before .before .before .before .before .before in
     let i = c .before .smallest .ensures in
-    (omega (arith, s .pre .0, c .before .before .before .loop .inv .0 (c .before .smallest .result) (i .top) (i .is)), omega (arith, s .pre .1))
+    (omega (arith, c .before .before .before .loop .inv .0 (c .before .smallest .result) (i .top) (i .is)), omega arith)
 
 loop-again : tie.Need-loop-again Inv-loop μ-loop
 loop-again c =
@@ -43,9 +39,9 @@ loop-again c =
     let y = c .before .with-steps2 in
     let o = c .without in
     let f = entry (a .low .now) (a .c) (a .a) in (
-      below-without (a .c) (h .rest) (i .result) (o .result) (h .inv .0) (o .ensures),
-      walk-next (a .s) (h .rest) (h .n) (h .left) (i .result) (o .result) (x .result) (λ q i. hit f (a .l) (a .m) q i (a .t)) (i .ensures .top) (h .inv .1) (o .ensures) (x .ensures),
-      walk-next (a .s) (h .rest) (h .n) (h .right) (i .result) (o .result) (y .result) (λ q i. hit f (a .l) (a .m) q (a .t) i) (i .ensures .top) (h .inv .2) (o .ensures) (y .ensures),
+      below-without (a .c) (h .inv .0) (o .ensures),
+      walk-next (i .ensures .top) (h .inv .1) (o .ensures) (x .ensures),
+      walk-next (i .ensures .top) (h .inv .2) (o .ensures) (y .ensures),
     )
 
 returns : tie.Need-returns Inv-loop μ-loop
@@ -53,16 +49,14 @@ returns c =
     let a = c .before .before .before .before .args in
     let h = c .before .loop in
     let f = entry (a .low .now) (a .c) (a .a) in
-    let e : h .n ≡ 0 = omega (arith, c .loop-test .left) in (
-      walk-last (a .s) (h .rest) (h .left) (λ q i. hit f (a .l) (a .m) q i (a .t)) (rw e at (h .inv .1)),
-      walk-last (a .s) (h .rest) (h .right) (λ q i. hit f (a .l) (a .m) q (a .t) i) (rw e at (h .inv .2)),
+    let e : h .n ≡ 0 = omega arith in (
+      walk-last (rw e at (h .inv .1)),
+      walk-last (rw e at (h .inv .2)),
     )
 
 pub both-ways-spec : {M : Type 1} → statement M
 both-ways-spec =
     tie.close
-    (tie.spec
-    Inv-loop μ-loop (λ c κs. search needs) loop-holds
-    (λ c κs. let h = c .before .loop in some-in (h .rest) (omega (arith, h .inv .1 .size, c .loop-test .taken))) with-steps-requires
-    with-steps-requires-2 (λ c κs. (c .before .before .smallest .ensures .top, c .before .before .smallest .ensures .is))
+    (tie.spec Inv-loop μ-loop (λ c κs. search needs) loop-holds (λ c κs. let h = c .before .loop in some-in (h .rest) (omega arith))
+    with-steps-requires with-steps-requires-2 (λ c κs. (c .before .before .smallest .ensures .top, c .before .before .smallest .ensures .is))
     (λ c. search needs) (λ c. search needs) loop-again returns)

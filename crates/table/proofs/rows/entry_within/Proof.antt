@@ -1,11 +1,5 @@
 -- `entry_within` meets its contract: the entry's place, a table's row at a time. Assumes nothing.
-use Prim.Native.Nat.{ℕ, _+_, _*_, _≤_, _<_}
-use mathlib.Core.Path.{ap, _∙_}
-use native.Mathlib.Nat.{add-mul, mul-le-mul-left}
-use native.Mathlib.Omega.{arith}
-use borrow.Author.Needs.{needs}
-use lib.Arith.{digits-lt}
-use lib.ListN.{getD}
+use Rattle.words.proofs.Vocabulary.{ℕ, _≤_, _<_, _+_, _*_, _∙_, ap, needs, digits-lt, getD, mul-le-mul-left, add-mul, arith}
 use Rattle.table.specs.Entry.{entry, addr}
 use Rattle.table.proofs.Places.{cell-small}
 use Rattle.table.proofs.rows.entry_within.Statement.{statement}
@@ -28,7 +22,12 @@ add-wide-2 c = let a = c .before .args in omega (arith, row-small (a .c) (a .i) 
 add-wide-3 : tie.Need-add-wide-3
 add-wide-3 c =
     let a = c .before .args in
-    omega (arith, cell-small (a .c) (a .l) (a .i) (omega arith) (omega arith) (omega arith), row-small (a .c) (a .i) (a .j) (omega arith) (omega arith) (omega arith))
+    omega (
+      arith,
+      cell-small (a .c) (a .l) (a .i) (omega arith) (omega arith) (omega arith),
+      row-small (a .c) (a .i) (a .j) (omega arith) (omega arith)
+          (omega arith),
+    )
 
 shared-slice-read-wide : tie.Need-shared-slice-read-wide
 shared-slice-read-wide c = let a = c .before .before .args in omega (arith, digits-lt (c .before .before .pre .3) (c .before .before .pre .4))

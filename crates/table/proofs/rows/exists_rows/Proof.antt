@@ -1,12 +1,5 @@
 -- `exists_rows` meets its contract: the two labels have the bound bit cleared and set. Assumes nothing.
-use borrow.Author.Needs.{needs}
-use Prim.Native.Nat.{ℕ, _+_, _*_, _≤_}
-use mathlib.Core.Path.{_≡_, refl, sym, subst}
-use mathlib.Core.Bool.{true}
-use mathlib.Core.List.{List}
-use native.Mathlib.Omega.{arith}
-use lib.Bits.{and-le-l}
-use lib.ListN.{length, getD}
+use Rattle.words.proofs.Vocabulary.{ℕ, _≤_, _+_, _*_, true, _≡_, refl, sym, subst, List, needs, and-le-l, length, getD, arith}
 use Rattle.table.specs.Rows.{Follows}
 use Rattle.table.specs.Entry.{entry, through, on, seen}
 use Rattle.words.specs.Word.{mem}
@@ -29,7 +22,7 @@ returns c =
       c .unions .ensures .0,
       serves f (a .w) (a .l) (a .sets .now) (a .k) (j .result) x y (c .unions .last .1 .1 .1 .1 .0) (c .unions .last .1 .1 .1 .1 .1 .0) (j .ensures)
           (subst (λ (m : ℕ). (t : ℕ) → mem t (j .result) ≡ true → Follows f m (m + a .w) (getD (a .sets .now) (a .k) 0) t x y) (d .ensures .0)
-          (λ t h. follows-through e (a .f) n (n + a .w) (getD (a .sets .now) (a .k) 0) t x y (r .ensures .1 t h)))
+          (λ t h. follows-through (a .f) (r .ensures .1 t h)))
           (c .unions .ensures .1),
     )
 
@@ -46,8 +39,8 @@ fill-requires c κs =
     subst (λ (m : ℕ). a .a + (m + a .w) * a .c * a .c + a .c * a .c ≤ z) (sym (c .before .before .before .before .cleared .ensures .0)) (ready .share) in (
       (
         s .pre .0 .0,
-        omega (arith, s .pre .0, c .before .before .before .before .cleared .ensures .1, and-le-l n (a .f)),
-        omega (arith, s .pre .0, c .before .before .before .before .cleared .ensures .1, and-le-l (n + a .w) (a .f)),
+        omega (arith, and-le-l n (a .f)),
+        omega (arith, and-le-l (n + a .w) (a .f)),
         s .pre .0 .2,
         ready .states (a .k) (omega arith),
         joined-below (a .c) (a .sets .now) (a .k) (j .result) (j .ensures) (ready .states),
@@ -64,6 +57,5 @@ fill-requires c κs =
 pub exists-rows-spec : {M : Type 1} → statement M
 exists-rows-spec =
     tie.close
-    (tie.spec
-    (λ c κs. search needs) (λ c. search needs) (λ c. search needs) (λ c κs. search needs) (λ c. search needs) (λ c. search needs)
+    (tie.spec (λ c κs. search needs) (λ c. search needs) (λ c. search needs) (λ c κs. search needs) (λ c. search needs) (λ c. search needs)
     fill-requires (λ c κs. search needs) returns)

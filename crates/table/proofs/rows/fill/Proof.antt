@@ -1,8 +1,5 @@
 -- `fill` meets its contract. The invariant: the rows are right at each member of `seen` that is gone from what is left. Assumes nothing.
-use borrow.Author.Needs.{needs}
-use Prim.Native.Nat.{_<_}
-use mathlib.Core.Path.{_≡_}
-use native.Mathlib.Omega.{arith}
+use Rattle.words.proofs.Vocabulary.{_<_, _≡_, needs, arith}
 use Rattle.words.specs.Word.{Below}
 use Rattle.table.specs.Entry.{entry}
 use Rattle.words.proofs.Members.{some-in, below-without}
@@ -19,8 +16,7 @@ abbrev μ-loop : tie.MeasureT-loop
 loop-holds : tie.Need-loop-holds Inv-loop μ-loop
 loop-holds c =
     let s = c .before .before in
-    let a = s .args in
-    (s .pre .0 .5, filling-first (entry (a .low .now) (a .c) (a .a)) (a .l) (a .m) (a .s) (a .seen) (c .size .result) (a .left .now) (a .right .now) (c .size .ensures) (s .pre .1 .1 .0) (s .pre .1 .1 .1))
+    (s .pre .0 .5, filling-first (c .size .ensures) (s .pre .1 .1 .0) (s .pre .1 .1 .1))
 
 both-ways-requires : tie.Need-both-ways-requires Inv-loop μ-loop
 both-ways-requires c κs =
@@ -36,26 +32,21 @@ loop-again c =
     let t = c .before .before .smallest in
     let b = c .before .both-ways in
     let o = c .without in (
-      below-without (a .c) (h .rest) (t .result) (o .result) (h .inv .0) (o .ensures),
-      filling-next (entry (a .low .now) (a .c) (a .a)) (a .l) (a .m) (a .s) (a .seen) (h .rest) (h .n) (h .left) (h .right) (t .result) (o .result) (b .result .left) (b .result .right)
+      below-without (a .c) (h .inv .0) (o .ensures),
+      filling-next (b .result .left) (b .result .right)
           (t .ensures .top) (h .inv .1) (o .ensures) (b .ensures .0) (b .ensures .1),
     )
 
 returns : tie.Need-returns Inv-loop μ-loop
 returns c =
-    let a = c .before .before .before .before .args in
     let h = c .before .loop in
-    let e : h .n ≡ 0 = omega (arith, c .loop-test .left) in
+    let e : h .n ≡ 0 = omega arith in
     let w = h .inv .1 in
-    ((w .long-left, w .long-right), filling-last (entry (a .low .now) (a .c) (a .a)) (a .l) (a .m) (a .s) (a .seen) (h .rest) (h .left) (h .right) (rw e at w))
+    ((w .long-left, w .long-right), filling-last (rw e at w))
 
 pub fill-spec : {M : Type 1} → statement M
 fill-spec =
     tie.close
-    (tie.spec
-    Inv-loop μ-loop (λ c κs. search needs) loop-holds
-    (λ c κs. let h = c .before .loop in some-in (h .rest) (omega (arith, h .inv .1 .size, c .loop-test .taken))) both-ways-requires
-    (λ c. omega (arith, c .before .smallest .ensures .top)) (λ c. c .before .smallest .ensures .top)
-    (λ c. omega (arith, c .before .smallest .ensures .top)) (λ c. c .before .smallest .ensures .top)
-    (λ c κs. (c .before .smallest .ensures .top, c .before .smallest .ensures .is)) (λ c. search needs) (λ c. search needs) loop-again
-    returns)
+    (tie.spec Inv-loop μ-loop (λ c κs. search needs) loop-holds (λ c κs. let h = c .before .loop in some-in (h .rest) (omega arith))
+    both-ways-requires (λ c. omega arith) (λ c. c .before .smallest .ensures .top) (λ c. omega arith) (λ c. c .before .smallest .ensures .top)
+    (λ c κs. (c .before .smallest .ensures .top, c .before .smallest .ensures .is)) (λ c. search needs) (λ c. search needs) loop-again returns)

@@ -1,9 +1,5 @@
 -- `followers` meets its contract. The invariant: what is left of the set is still to be walked. Assumes nothing.
-use borrow.Author.Needs.{needs}
-use Prim.Native.Nat.{ℕ}
-use mathlib.Core.Bool.{Bool, _||_}
-use mathlib.Core.Path.{_≡_, ap, _∙_}
-use native.Mathlib.Omega.{arith}
+use Rattle.words.proofs.Vocabulary.{ℕ, Bool, _||_, _≡_, _∙_, ap, needs, arith}
 use Rattle.words.specs.Word.{Below, mem, any}
 use Rattle.table.specs.Entry.{entry}
 use Rattle.table.specs.Succ.{hitRow}
@@ -21,7 +17,7 @@ loop-holds : tie.Need-loop-holds Inv-loop μ-loop
 loop-holds c =
     let a = c .before .before .args in
     let f = entry (a .low .now) (a .c) (a .a) in
-    (c .before .before .pre .0 .4, walk-first (a .s) (c .size .result) (λ q t. any (hitRow f (a .l) (a .m) (a .s) q t) 64) (c .size .ensures))
+    (c .before .before .pre .0 .4, walk-first (c .size .ensures))
 
 both-ways-requires : tie.Need-both-ways-requires Inv-loop μ-loop
 both-ways-requires c κs =
@@ -38,23 +34,20 @@ loop-again c =
     let u = c .before .union in
     let o = c .without in
     let g : ℕ → ℕ → Bool = λ q t. any (hitRow (entry (a .low .now) (a .c) (a .a)) (a .l) (a .m) (a .s) q t) 64 in (
-      below-without (a .c) (h .rest) (i .result) (o .result) (h .inv .0) (o .ensures),
-      walk-next (a .s) (h .rest) (h .n) (h .r) (i .result) (o .result) (u .result) g (i .ensures .top) (h .inv .1) (o .ensures)
+      below-without (a .c) (h .inv .0) (o .ensures),
+      walk-next (i .ensures .top) (h .inv .1) (o .ensures)
           (λ q. u .ensures q ∙ ap (λ (v : Bool). mem q (h .r) || v) (b .ensures .1 q)),
     )
 
 returns : tie.Need-returns Inv-loop μ-loop
 returns c =
-    let a = c .before .before .before .before .args in
     let h = c .before .loop in
-    let e : h .n ≡ 0 = omega (arith, c .loop-test .left) in
-    walk-last (a .s) (h .rest) (h .r) (λ q t. any (hitRow (entry (a .low .now) (a .c) (a .a)) (a .l) (a .m) (a .s) q t) 64) (rw e at (h .inv .1))
+    let e : h .n ≡ 0 = omega arith in
+    walk-last (rw e at (h .inv .1))
 
 pub followers-spec : {M : Type 1} → statement M
 followers-spec =
     tie.close
-    (tie.spec
-    Inv-loop μ-loop (λ c κs. search needs) loop-holds
-    (λ c κs. let h = c .before .loop in some-in (h .rest) (omega (arith, h .inv .1 .size, c .loop-test .taken))) both-ways-requires
-    (λ c κs. search needs) (λ c κs. (c .before .before .smallest .ensures .top, c .before .before .smallest .ensures .is))
+    (tie.spec Inv-loop μ-loop (λ c κs. search needs) loop-holds (λ c κs. let h = c .before .loop in some-in (h .rest) (omega arith))
+    both-ways-requires (λ c κs. search needs) (λ c κs. (c .before .before .smallest .ensures .top, c .before .before .smallest .ensures .is))
     (λ c. search needs) (λ c. search needs) loop-again returns)

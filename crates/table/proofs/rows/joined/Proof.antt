@@ -1,11 +1,5 @@
 -- `joined` meets its contract. The invariant: the first i sets are in. Assumes nothing.
-use borrow.Author.Needs.{needs}
-use Prim.Native.Nat.{ℕ, _-_, _≤_}
-use mathlib.Core.Bool.{Bool, _||_}
-use mathlib.Core.Path.{_≡_, ap, _∙_}
-use native.Mathlib.Numerals.{add-one}
-use native.Mathlib.Omega.{arith}
-use lib.ListN.{getD}
+use Rattle.words.proofs.Vocabulary.{ℕ, _≤_, _-_, Bool, _||_, _≡_, _∙_, ap, needs, getD, add-one, arith}
 use Rattle.words.specs.Word.{mem, any}
 use Rattle.words.proofs.WordLaws.{mem-zero}
 use Rattle.table.proofs.rows.joined.Statement.{statement}
@@ -26,7 +20,7 @@ unfolding any
 loop-again c =
     let s = c .before .before .before .before .args .sets .now in
     let h = c .before .before .before .loop in (
-      omega (arith, c .before .before .loop-test .taken),
+      omega arith,
       λ q.
           c .union .ensures q ∙ ap (λ (b : Bool). b || mem q (getD s (h .i) 0)) (h .inv .1 q) ∙ (rw add-one),
     )
@@ -34,12 +28,11 @@ loop-again c =
 returns : tie.Need-returns Inv-loop μ-loop
 returns c =
     let h = c .before .loop in
-    let e : h .i ≡ c .before .before .args .n = omega (arith, c .loop-test .left, h .inv .0) in
+    let e : h .i ≡ c .before .before .args .n = omega arith in
     rw e at (h .inv .1)
 
 pub joined-spec : {M : Type 1} → statement M
 joined-spec =
     tie.close
-    (tie.spec
-    Inv-loop μ-loop loop-holds (λ c. search needs) (λ c. search needs) (λ c κs. search needs) (λ c. search needs) (λ c. search needs)
+    (tie.spec Inv-loop μ-loop loop-holds (λ c. search needs) (λ c. search needs) (λ c κs. search needs) (λ c. search needs) (λ c. search needs)
     loop-again returns)

@@ -1,64 +1,37 @@
 -- `pair_rows` meets its contract. The invariant: the words below i are written. Assumes nothing.
-use borrow.Author.Needs.{needs}
-use Prim.Native.Nat.{ℕ, _+_, _-_, _≤_}
-use mathlib.Core.Path.{_≡_}
-use native.Mathlib.Omega.{arith}
-use lib.ListN.{getD}
-use Rattle.table.specs.Entry.{entry, through}
-use Rattle.table.specs.Succ.{pairCode}
+use Rattle.words.proofs.Vocabulary.{ℕ, _≤_, _+_, _-_, _≡_, needs, getD, arith}
+use Rattle.table.specs.Succ.{pairStep}
 use Rattle.table.proofs.RowLaws.{Written, written-first, written-next}
 use Rattle.table.proofs.rows.pair_rows.Statement.{statement}
 use Rattle.table.proofs.rows.pair_rows.Tie as tie
 
 abbrev Inv-loop : tie.InvT-loop
-Inv-loop low c a b f g l codes k left₀ right₀ new i₀ left right i = (i ≤ k + 1) × Written (λ (j : ℕ). pairCode (through f (entry low c a)) (through g (entry low c b)) l (getD codes j 0) (getD codes k 0)) (λ (j : ℕ). pairCode (through f (entry low c a)) (through g (entry low c b)) l (getD codes k 0) (getD codes j 0)) i left right
+Inv-loop low c a b f g l codes k left₀ right₀ new i₀ left right i =
+    let succ = pairStep low c a b f g l in
+    (i ≤ k + 1) × Written (λ (j : ℕ). succ (getD codes j 0) (getD codes k 0)) (λ (j : ℕ). succ (getD codes k 0) (getD codes j 0)) i left right
 
 abbrev μ-loop : tie.MeasureT-loop
 μ-loop low c a b f g l codes k left₀ right₀ new i₀ left right i = k + 1 - i
 
-loop-holds : tie.Need-loop-holds Inv-loop μ-loop
-loop-holds c =
-    let s = c .before .before in
-    let a = s .args in
-    (omega arith, written-first _ _ (a .left .now) (a .right .now) (s .pre .1 .0) (s .pre .1 .1))
-
-mul-right : tie.Need-mul-right Inv-loop μ-loop
-mul-right c = omega (arith, c .before .before .loop-test .taken, c .before .before .before .before .before .before .pre .0)
-
-element-write-right : tie.Need-element-write-right Inv-loop μ-loop
-element-write-right c = omega (arith, c .before .before .loop-test .taken, c .before .before .before .before .before .before .pre .0)
-
-mul-left : tie.Need-mul-left Inv-loop μ-loop
-mul-left c = omega (arith, c .before .before .before .loop-test .taken, c .before .before .before .before .before .before .before .pre .0)
-
-element-write-left : tie.Need-element-write-left Inv-loop μ-loop
-element-write-left c = omega (arith, c .before .before .before .loop-test .taken, c .before .before .before .before .before .before .before .pre .0)
-
-add-i : tie.Need-add-i Inv-loop μ-loop
-add-i c = omega (arith, c .before .before .before .loop-test .taken, c .before .before .before .before .before .before .before .pre .0)
-
 loop-again : tie.Need-loop-again Inv-loop μ-loop
 loop-again c =
-    let s = c .before .before .before .before .before .before .before in
     let h = c .before .before .before .before .loop in
     let t = c .before .before .before .loop-test .taken in (
-      omega (arith, t),
-      written-next _ _ (h .i) (h .left) (h .right) (c .before .pair-code .result) (c .pair-code2 .result) (omega (arith, t, s .pre .0)) (h .inv .1) (c .before .pair-code .ensures) (c .pair-code2 .ensures),
+      omega arith,
+      written-next (omega arith) (h .inv .1) (c .before .pair-code .ensures) (c .pair-code2 .ensures),
     )
 
 returns : tie.Need-returns Inv-loop μ-loop
 returns c =
     let h = c .before .loop in
-    let e : h .i ≡ c .before .before .before .before .args .k + 1 = omega (arith, c .loop-test .left, h .inv .0) in
+    let e : h .i ≡ c .before .before .before .before .args .k + 1 = omega arith in
     let w = rw e at (h .inv .1) in
     ((w .long-left, w .long-right), λ i l. w .done i (omega arith))
 
 pub pair-rows-spec : {M : Type 1} → statement M
 pair-rows-spec =
     tie.close
-    (tie.spec
-    Inv-loop μ-loop (λ c. search needs) (λ c. search needs) loop-holds
-    (λ c. omega (arith, c .loop-test .taken, c .before .before .before .before .pre .0))
-    (λ c. omega (arith, c .loop-test .taken, c .before .before .before .before .pre .0)) (λ c κs. search needs) mul-right
-    element-write-right (λ c κs. search needs) mul-left element-write-left add-i
-    (λ c. omega (arith, c .before .before .before .loop-test .taken)) loop-again returns)
+    (tie.spec Inv-loop μ-loop (λ c. search needs) (λ c. search needs)
+    (λ c. let s = c .before .before in (omega arith, written-first (s .pre .1 .0) (s .pre .1 .1))) (λ c. omega arith) (λ c. omega arith)
+    (λ c κs. search needs) (λ c. omega arith) (λ c. omega arith) (λ c κs. search needs) (λ c. omega arith) (λ c. omega arith) (λ c. omega arith)
+    (λ c. omega arith) loop-again returns)

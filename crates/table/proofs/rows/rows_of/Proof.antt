@@ -1,21 +1,17 @@
 -- `rows_of` meets its contract: the successors of each kind. Assumes nothing.
-use borrow.Author.Needs.{needs}
-use Prim.Native.Nat.{ℕ}
-use mathlib.Core.List.{[], _∷_}
-use mathlib.Core.Path.{_≡_, refl, _∙_}
-use types.Run.{OneOf, miss}
-use denote.Enum.Declared.{tagOf}
+use Rattle.words.proofs.Vocabulary.{ℕ, _≡_, _∙_, refl, [], _∷_, needs, tagOf, OneOf, miss}
 use Rattle.table.proofs.plan.Kind.{the-type}
 use Rattle.table.specs.Entry.{Step, entry, through}
-use Rattle.table.specs.Succ.{atomCode, atomStep, kindCode, successorOf}
+use Rattle.table.specs.Succ.{atomStep, kindCode, successorOf}
 use Rattle.table.specs.declared.plan.Kind.{Kind}
 use Rattle.table.specs.declared.plan.Kind.the-variants.{Subset, Single, Child1, Child2, Root, Not, Or, And, Exists}
 use Rattle.table.proofs.rows.rows_of.Statement.{statement}
 use Rattle.table.proofs.rows.rows_of.Tie as tie
 
 -- what is left is an atom, or "not", which is not explored
-atom-code : (k : Kind) (f g : Step) (wx wy l x y : ℕ) → OneOf (0 ∷ 1 ∷ 2 ∷ 3 ∷ 4 ∷ 5 ∷ []) (tagOf the-type k) → atomStep k wx wy l x y ≡ kindCode k f g wx wy l x y
-unfolding atomCode kindCode
+atom-code : (k : Kind) (f g : Step) (wx wy l x y : ℕ) → OneOf (0 ∷ 1 ∷ 2 ∷ 3 ∷ 4 ∷ 5 ∷ []) (tagOf the-type k)
+    → atomStep k wx wy l x y ≡ kindCode k f g wx wy l x y
+unfolding kindCode
 atom-code Subset f g wx wy l x y h = refl
 atom-code Single f g wx wy l x y h = refl
 atom-code Child1 f g wx wy l x y h = refl
@@ -28,8 +24,10 @@ atom-code Exists f g wx wy l x y h = absurd (miss (0 ∷ 1 ∷ 2 ∷ 3 ∷ 4 ∷
 
 exists-rows-requires : tie.Need-exists-rows-requires
 exists-rows-requires c κs =
-    let s = c .before .before .before .before .before in
-    ((s .pre .0 .0, s .pre .0 .1, s .pre .0 .2, s .pre .1 .0 .0, s .pre .1 .0 .1, s .pre .0 .4), (s .pre .1 .1 .0 (c .before .before .enum-told .given .1), s .pre .1 .1 .1))
+    let s = c .before .before .before .before .before in (
+      (s .pre .0 .0, s .pre .0 .1, s .pre .0 .2, s .pre .1 .0 .0, s .pre .1 .0 .1, s .pre .0 .4),
+      (s .pre .1 .1 .0 (c .before .before .enum-told .given .1), s .pre .1 .1 .1),
+    )
 
 returns : tie.Need-returns
 unfolding successorOf kindCode
@@ -58,6 +56,5 @@ returns-4 c =
 pub rows-of-spec : {M : Type 1} → statement M
 rows-of-spec =
     tie.close
-    (tie.spec
-    (λ c. search needs) exists-rows-requires (λ c. search needs) (λ c κs. search needs) (λ c. search needs) (λ c κs. search needs)
+    (tie.spec (λ c. search needs) exists-rows-requires (λ c. search needs) (λ c κs. search needs) (λ c. search needs) (λ c κs. search needs)
     (λ c κs. search needs) returns returns-2 returns-3 returns-4)

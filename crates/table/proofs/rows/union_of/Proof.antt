@@ -1,10 +1,5 @@
 -- `union_of` meets its contract. The invariant: what is left of the set is still to be walked. Assumes nothing.
-use borrow.Author.Needs.{needs}
-use Prim.Native.Nat.{ℕ, _^_, _<_}
-use mathlib.Core.Bool.{Bool, _&&_}
-use mathlib.Core.Path.{_≡_}
-use native.Mathlib.Omega.{arith}
-use lib.ListN.{getD}
+use Rattle.words.proofs.Vocabulary.{ℕ, _<_, _^_, Bool, _&&_, _≡_, needs, getD, arith}
 use Rattle.table.specs.Rows.{unionOf}
 use Rattle.words.specs.Word.{mem, any}
 use Rattle.words.proofs.Members.{Walk, walk-first, walk-next, walk-last, some-in}
@@ -18,20 +13,14 @@ Inv-loop row s r₀ rest₀ left₀ r rest left = (r < 2 ^ 64) × Walk s rest le
 abbrev μ-loop : tie.MeasureT-loop
 μ-loop row s r₀ rest₀ left₀ r rest left = left
 
-loop-holds : tie.Need-loop-holds Inv-loop μ-loop
-loop-holds c =
-    let a = c .before .args in
-    (omega arith, walk-first (a .s) (c .size .result) (λ q t. mem q (getD (a .row .now) t 0)) (c .size .ensures))
-
 loop-again : tie.Need-loop-again Inv-loop μ-loop
 loop-again c =
-    let a = c .before .before .before .before .before .before .before .args in
     let h = c .before .before .before .before .before .loop in
     let t = c .before .before .before .smallest in
     let v = c .before .union in
     let o = c .without in (
       omega arith,
-      walk-next (a .s) (h .rest) (h .left) (h .r) (t .result) (o .result) (v .result) (λ q t. mem q (getD (a .row .now) t 0)) (t .ensures .top) (h .inv .1) (o .ensures) (v .ensures),
+      walk-next (t .ensures .top) (h .inv .1) (o .ensures) (v .ensures),
     )
 
 returns : tie.Need-returns Inv-loop μ-loop
@@ -39,16 +28,14 @@ unfolding unionOf
 returns c =
     let a = c .before .before .before .args in
     let h = c .before .loop in
-    let e : h .left ≡ 0 = omega (arith, c .loop-test .left) in
+    let e : h .left ≡ 0 = omega arith in
     let g : ℕ → ℕ → Bool = λ q t. mem q (getD (a .row .now) t 0) in
-    word-ext 64 (h .r) (λ (q : ℕ). any (λ (t : ℕ). mem t (a .s) && g q t) 64) (h .inv .0) (λ q l. walk-last (a .s) (h .rest) (h .r) g (rw e at (h .inv .1)) q)
+    word-ext 64 (h .r) (λ (q : ℕ). any (λ (t : ℕ). mem t (a .s) && g q t) 64) (h .inv .0) (λ q l. walk-last (rw e at (h .inv .1)) q)
 
 pub union-of-spec : {M : Type 1} → statement M
 union-of-spec =
     tie.close
-    (tie.spec
-    Inv-loop μ-loop (λ c κs. search needs) loop-holds
-    (λ c κs. let h = c .before .loop in some-in (h .rest) (omega (arith, h .inv .1 .size, c .loop-test .taken)))
-    (λ c. omega (arith, c .smallest .ensures .top)) (λ c. c .smallest .ensures .top) (λ c κs. search needs)
+    (tie.spec Inv-loop μ-loop (λ c κs. search needs) (λ c. (omega arith, walk-first (c .size .ensures)))
+    (λ c κs. let h = c .before .loop in some-in (h .rest) (omega arith)) (λ c. omega arith) (λ c. c .smallest .ensures .top) (λ c κs. search needs)
     (λ c κs. (c .before .before .smallest .ensures .top, c .before .before .smallest .ensures .is)) (λ c. search needs) (λ c. search needs)
     loop-again returns)

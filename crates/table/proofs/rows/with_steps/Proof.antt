@@ -1,9 +1,5 @@
 -- `with_steps` meets its contract. Assumes nothing.
-use borrow.Author.Needs.{needs}
-use Prim.Native.Nat.{_%_}
-use mathlib.Core.Bool.{Bool, _||_, or-assoc}
-use mathlib.Core.Path.{ap, _∙_}
-use lib.Dec.{eqb}
+use Rattle.words.proofs.Vocabulary.{_%_, Bool, _||_, or-assoc, _∙_, ap, needs, eqb}
 use Rattle.words.specs.Word.{mem}
 use Rattle.table.specs.Succ.{hit}
 use Rattle.table.proofs.rows.with_steps.Statement.{statement}
@@ -24,5 +20,4 @@ returns c =
     ∙ (rw (e₀ .ensures, e₁ .ensures))
 
 pub with-steps-spec : {M : Type 1} → statement M
-with-steps-spec =
-    tie.close (tie.spec (λ c κs. search needs) (λ c κs. search needs) (λ c κs. search needs) (λ c κs. search needs) returns)
+with-steps-spec = tie.close (tie.spec (λ c κs. search needs) (λ c κs. search needs) (λ c κs. search needs) (λ c κs. search needs) returns)
