@@ -1,0 +1,191 @@
+-- The places of entries: within the share, one entry at each, and an entry for each place; shares are small and apart. Assumes nothing.
+use Rattle.words.proofs.Vocabulary.{ℕ, _≤_, _<_, _+_, _*_, suc, _%_, zero, _^_, _/_, _≡_, _∙_, refl, sym, ap, ap₂, subst, List, [], _∷_, _++_, map}
+use Rattle.words.proofs.Vocabulary.{digits-lt, digits-div, digits-mod, length, length-map, length-append, pow-mono, pow-suc, mul-le-mul-right}
+use native.Mathlib.Nat.{pow-zero, pow-succ'}
+use Rattle.words.proofs.Vocabulary.{mul-le-mul-left, mul-assoc, suc-mul, mod-lt, div-add-mod', decLt, not-suc-le-zero, arith}
+use Rattle.layout.specs.Shape.{Shaped, labelsIn, shareOf, shareAt, Each, nil, cons, Tuple, digitsOf, placeIn, aboveDigits, lowDigits, labelAt, statesAt}
+use Rattle.layout.specs.declared.Shape.{Shape}
+
+-- the length of an array in a struct, as the record at a function's entry and a call's result have it
+pub id-length : {n : ℕ} (xs : List ℕ) → length (map (λ (v : ℕ). v) xs) ≡ n → length xs ≡ n
+id-length xs e = sym (length-map xs (λ (v : ℕ). v)) ∙ e
+
+-- ---- what holds of each member
+module _ {A : Type 0} {P : A → Type 0} where
+  pub each-head : {x : A} {xs : List A} → Each P (x ∷ xs) → P x
+  each-head (cons p e) = p
+
+  pub each-tail : {x : A} {xs : List A} → Each P (x ∷ xs) → Each P xs
+  each-tail (cons p e) = e
+
+  pub each-append : {xs ys : List A} → Each P xs → Each P ys → Each P (xs ++ ys)
+  each-append nil d = d
+  each-append (cons p e) d = cons p (each-append e d)
+
+  pub each-imp : {Q : A → Type 0} {xs : List A} → ((a : A) → P a → Q a) → Each P xs → Each Q xs
+  each-imp h nil = nil
+  each-imp h (cons p e) = cons (h _ p) (each-imp h e)
+
+  pub each-map : {B : Type 0} (Q : B → Type 0) (f : A → B) {xs : List A} → ((a : A) → P a → Q (f a)) → Each P xs → Each Q (map f xs)
+  each-map Q f h nil = nil
+  each-map Q f h (cons p e) = cons (h _ p) (each-map Q f h e)
+
+pub tuple-up : {k n m : ℕ} {is : List ℕ} → n ≤ m → Tuple k n is → Tuple k m is
+tuple-up h t = record { long = t .long; below = each-imp (λ i l. omega arith) (t .below) }
+
+-- ---- two branches
+pub two-of : {n i j : ℕ} → i < n → j < n → Tuple 2 n (i ∷ j ∷ [])
+two-of hi hj = record { long = refl; below = cons hi (cons hj nil) }
+
+pub pair-in : (s : Shape) → Shaped s → {n i j : ℕ} → i < n → j < n → Tuple (s .branches) n (i ∷ j ∷ [])
+pair-in s h hi hj = record { long = sym (h .branches); below = cons hi (cons hj nil) }
+
+-- what holds of all pairs holds of all tuples of two
+pub pair-of : {n : ℕ} (P : List ℕ → Type 0) → ((i j : ℕ) → i < n → j < n → P (i ∷ j ∷ [])) → (is : List ℕ) → Tuple 2 n is → P is
+pair-of P h [] t = absurd (let e = t .long in omega arith)
+pair-of P h (i ∷ []) t = absurd (let e = t .long in omega arith)
+pair-of P h (i ∷ j ∷ []) t = h i j (each-head (t .below)) (each-head (each-tail (t .below)))
+pair-of P h (i ∷ j ∷ k ∷ is) t = absurd (let e = t .long in omega arith)
+
+pub pairs-of : (s : Shape) → Shaped s → {n : ℕ} (P : List ℕ → Type 0) → ((i j : ℕ) → i < n → j < n → P (i ∷ j ∷ []))
+    → (is : List ℕ) → Tuple (s .branches) n is → P is
+pairs-of s h P f is t = pair-of P f is (record { long = t .long ∙ h .branches; below = t .below })
+
+-- ---- digits
+times-one : (c n : ℕ) → n * c ^ 0 ≡ n
+times-one c n = ap (λ (z : ℕ). n * z) (pow-zero c) ∙ omega arith
+
+digits-in : (c n l : ℕ) (is : List ℕ) → l < n → Each (λ (i : ℕ). i < c) is → digitsOf c l is < n * c ^ length is
+unfolding digitsOf
+digits-in c n l [] h e = omega (arith, times-one c n)
+digits-in c n l (i ∷ is) h e =
+    let a = digits-in c (n * c) (l * c + i) is (digits-lt h (each-head e)) (each-tail e) in
+    let b : n * c * c ^ length is ≡ n * c ^ suc (length is) = mul-assoc n c (c ^ length is) ∙ ap (λ (z : ℕ). n * z) (sym (pow-succ' c (length is))) in
+    omega arith
+
+digits-one : (c l m : ℕ) (is js : List ℕ) → length is ≡ length js → Each (λ (i : ℕ). i < c) is → Each (λ (i : ℕ). i < c) js
+    → digitsOf c l is ≡ digitsOf c m js → (l ≡ m) × (is ≡ js)
+unfolding digitsOf
+digits-one c l m [] [] h a b e = (e, refl)
+digits-one c l m [] (j ∷ js) h a b e = absurd (omega arith)
+digits-one c l m (i ∷ is) [] h a b e = absurd (omega arith)
+digits-one c l m (i ∷ is) (j ∷ js) h a b e =
+    let r = digits-one c (l * c + i) (m * c + j) is js (omega arith) (each-tail a) (each-tail b) e in
+    let p : l ≡ m = sym (digits-div l (each-head a)) ∙ ap (λ (n : ℕ). n / c) (r .0) ∙ digits-div m (each-head b) in
+    let q : i ≡ j = sym (digits-mod l (each-head a)) ∙ ap (λ (n : ℕ). n % c) (r .0) ∙ digits-mod m (each-head b) in
+    (p, ap₂ (λ (x : ℕ) (xs : List ℕ). x ∷ xs) q (r .1))
+
+digits-last : (c l j : ℕ) (is : List ℕ) → digitsOf c l (is ++ (j ∷ [])) ≡ digitsOf c l is * c + j
+unfolding digitsOf
+digits-last c l j [] = refl
+digits-last c l j (i ∷ is) = digits-last c (l * c + i) j is
+
+digits-whole : (c k q : ℕ) → digitsOf c (aboveDigits c k q) (lowDigits c k q) ≡ q
+unfolding digitsOf aboveDigits lowDigits
+digits-whole c zero q = refl
+digits-whole c (suc k) q =
+    digits-last c (aboveDigits c k (q / c)) (q % c) (lowDigits c k (q / c))
+    ∙ ap (λ (z : ℕ). z * c + q % c) (digits-whole c k (q / c)) ∙ div-add-mod' q c
+
+digits-tuple : (c k q : ℕ) → 0 < c → Tuple k c (lowDigits c k q)
+unfolding lowDigits
+digits-tuple c zero q h = record { long = refl; below = nil }
+digits-tuple c (suc k) q h =
+    let t = digits-tuple c k (q / c) h in
+    record {
+      long = length-append (lowDigits c k (q / c)) (q % c ∷ []) ∙ omega (arith, t .long);
+      below = each-append (t .below) (cons (mod-lt q h) nil);
+    }
+
+digits-least : (c l : ℕ) (is : List ℕ) → l * c ^ length is ≤ digitsOf c l is
+unfolding digitsOf
+digits-least c l [] = omega (arith, times-one c l)
+digits-least c l (i ∷ is) =
+    let a = digits-least c (l * c + i) is in
+    let b : l * c * c ^ length is ≡ l * c ^ suc (length is) = mul-assoc l c (c ^ length is) ∙ ap (λ (z : ℕ). l * z) (sym (pow-succ' c (length is))) in
+    let d : l * c * c ^ length is ≤ (l * c + i) * c ^ length is = mul-le-mul-right (c ^ length is) (omega arith) in
+    omega arith
+
+-- ---- shares
+pub few-labels : (s : Shape) → Shaped s → (2 ≤ labelsIn s) × (labelsIn s ≤ 256)
+few-labels s h =
+    let a : 2 ^ 1 ≤ 2 ^ s .variables = pow-mono (h .some-variable) in
+    let b : 2 ^ s .variables ≤ 2 ^ 8 = pow-mono (h .variables) in
+    (omega arith, omega arith)
+
+pub share-two : (s : Shape) → Shaped s → shareOf s ≡ labelsIn s * s .ceiling * s .ceiling
+unfolding shareOf
+share-two s h =
+    let a : s .ceiling ^ 2 ≡ s .ceiling * s .ceiling = pow-suc (s .ceiling) 1 ∙ ap (λ (z : ℕ). z * s .ceiling) (pow-suc (s .ceiling) 0 ∙ ap (λ (z : ℕ). z * s .ceiling) (pow-zero (s .ceiling)) ∙ omega arith) in
+    ap (λ (k : ℕ). labelsIn s * s .ceiling ^ k) (h .branches) ∙ ap (λ (z : ℕ). labelsIn s * z) a ∙ sym (mul-assoc (labelsIn s) (s .ceiling) (s .ceiling))
+
+pub share-small : (s : Shape) → Shaped s → (labelsIn s * s .ceiling ≤ 16384) × (shareOf s ≤ 1048576)
+share-small s h =
+    let a : labelsIn s * s .ceiling ≤ labelsIn s * 64 = mul-le-mul-left (labelsIn s) (h .ceiling) in
+    let b : labelsIn s * s .ceiling * s .ceiling ≤ labelsIn s * s .ceiling * 64 = mul-le-mul-left (labelsIn s * s .ceiling) (h .ceiling) in
+    (omega (arith, few-labels s h), omega (arith, few-labels s h, share-two s h))
+
+pub shares-small : (s : Shape) → Shaped s → (r : ℕ) → r < 256 → shareAt s r ≤ 268435456
+unfolding shareAt
+shares-small s h r l =
+    let b : r * shareOf s ≤ 256 * shareOf s = mul-le-mul-right (shareOf s) (omega arith) in
+    omega (arith, share-small s h)
+
+-- a record's share ends before a later one's
+pub share-next : (s : Shape) (r m : ℕ) → r < m → shareAt s r + shareOf s ≤ shareAt s m
+unfolding shareAt
+share-next s r m h = subst (λ (n : ℕ). n ≤ m * shareOf s) (suc-mul r (shareOf s)) (mul-le-mul-right (shareOf s) h)
+
+-- ---- places
+module _ (s : Shape) where
+  pub place-in : (l : ℕ) (is : List ℕ) → l < labelsIn s → Tuple (s .branches) (s .ceiling) is → placeIn s l is < shareOf s
+  unfolding placeIn shareOf
+  place-in l is h t = subst (λ (k : ℕ). digitsOf (s .ceiling) l is < labelsIn s * s .ceiling ^ k) (t .long) (digits-in (s .ceiling) (labelsIn s) l is h (t .below))
+
+  -- two entries at one place are one
+  pub place-one : (l m : ℕ) (is js : List ℕ) → Tuple (s .branches) (s .ceiling) is → Tuple (s .branches) (s .ceiling) js
+      → placeIn s l is ≡ placeIn s m js → (l ≡ m) × (is ≡ js)
+  unfolding placeIn
+  place-one l m is js t u e = digits-one (s .ceiling) l m is js (t .long ∙ sym (u .long)) (t .below) (u .below) e
+
+  -- an entry's place in its record's share lies before a later share
+  pub place-before : (a r l : ℕ) (is : List ℕ) → a < r → l < labelsIn s → Tuple (s .branches) (s .ceiling) is → shareAt s a + placeIn s l is < shareAt s r
+  place-before a r l is h hl t = omega (arith, place-in l is hl t, share-next s a r h)
+
+  -- what stands at a place
+  pub place-at : (q : ℕ) → placeIn s (labelAt s q) (statesAt s q) ≡ q
+  unfolding placeIn labelAt statesAt
+  place-at q = digits-whole (s .ceiling) (s .branches) q
+
+  module _ (pos : 0 < s .ceiling) where
+    pub states-at : (q : ℕ) → Tuple (s .branches) (s .ceiling) (statesAt s q)
+    unfolding statesAt
+    states-at q = digits-tuple (s .ceiling) (s .branches) q pos
+
+    pub label-at : (q : ℕ) → q < shareOf s → labelAt s q < labelsIn s
+    unfolding shareOf placeIn
+    label-at q h = elim (decLt (labelAt s q) (labelsIn s)) [
+      | yes y ↦ y
+      | no y ↦
+          let over : labelsIn s ≤ labelAt s q = omega arith in
+          let t = states-at q in
+          let a = digits-least (s .ceiling) (labelAt s q) (statesAt s q) in
+          let b : labelsIn s * s .ceiling ^ length (statesAt s q) ≤ labelAt s q * s .ceiling ^ length (statesAt s q) =
+          mul-le-mul-right (s .ceiling ^ length (statesAt s q)) over in
+          let d : labelsIn s * s .ceiling ^ length (statesAt s q) ≡ labelsIn s * s .ceiling ^ s .branches =
+          ap (λ (k : ℕ). labelsIn s * s .ceiling ^ k) (t .long) in
+          absurd (omega (arith, place-at q))
+    ]
+
+-- ---- of two states
+-- the parts of an entry's place are small
+pub place-small : (s : Shape) → Shaped s → (l i : ℕ) → l < 512 → i < 64
+    → (l * s .ceiling < 32769) × (l * s .ceiling + i < 32833) × ((l * s .ceiling + i) * s .ceiling < 2101313)
+place-small s h l i hl hi =
+    let a : l * s .ceiling ≤ l * 64 = mul-le-mul-left l (h .ceiling) in
+    let b : (l * s .ceiling + i) * s .ceiling ≤ (l * s .ceiling + i) * 64 = mul-le-mul-left (l * s .ceiling + i) (h .ceiling) in
+    (omega arith, omega arith, omega arith)
+
+pub place-two : (s : Shape) (l i j : ℕ) → placeIn s l (i ∷ j ∷ []) ≡ (l * s .ceiling + i) * s .ceiling + j
+unfolding placeIn digitsOf
+place-two s l i j = refl
