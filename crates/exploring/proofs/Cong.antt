@@ -1,60 +1,40 @@
 -- Two successor functions that agree on the codes that can be found have the same exploration. Assumes nothing.
-use Rattle.words.proofs.Vocabulary.{ℕ, _≤_, _<_, suc, zero, Bool, true, false, cond, _≡_, _∙_, refl, ap, List, [], _∷_, some, Option, none, ltb-true}
-use Rattle.words.proofs.Vocabulary.{ltb, length, getD, le-of-suc-le-suc, arith}
-use Rattle.exploring.specs.Explore.{insert, visit, row, ring, next, grow, explore}
+use Rattle.words.proofs.Vocabulary.{ℕ, _<_, Bool, true, false, cond, _≡_, _∙_, refl, ap, List, [], _∷_, some, Option, none, length, getD, length-map}
+use Rattle.layout.specs.Shape.{Each, nil, cons}
+use Rattle.layout.proofs.Places.{each-head, each-tail}
+use Rattle.exploring.specs.Explore.{Visit, codesAt, areBelow, insert, visit, visits, rings, explore}
+use Rattle.exploring.proofs.Grow.{each-below}
+use Rattle.exploring.proofs.Found.{Good, Proper, one-code, codes-good, visits-good, rings-proper}
 use Rattle.table.specs.Entry.{Step}
-use Rattle.exploring.proofs.Grow.{Long, long-down, long-grows, visit-grows, row-grows, ring-grows}
-use Rattle.exploring.proofs.Found.{Good, one-code, visit-good, row-good, ring-good, grow-good}
 
 module _ (s t : Step) (c labels start : ℕ) (Valid : ℕ → Type 0) (valid-start : Valid start)
-    (valid-step : (l x y : ℕ) → l < labels → Valid x → Valid y → (s l x y ≡ t l x y) × Valid (s l x y)) where
-  keeps : (l a b : ℕ) → l < labels → Valid a → Valid b → Valid (s l a b)
-  keeps l a b hl va vb = valid-step l a b hl va vb .1
+    (valid-step : (l : ℕ) (xs : List ℕ) → l < labels → length xs ≡ 2 → Each Valid xs → (s l xs ≡ t l xs) × Valid (s l xs)) where
+  keeps : (l : ℕ) (xs : List ℕ) → l < labels → length xs ≡ 2 → Each Valid xs → Valid (s l xs)
+  keeps l xs hl n e = valid-step l xs hl n e .1
 
-  visit-cong : (l i j : ℕ) (o : Option (List ℕ)) → l < labels → Long i o → Long j o → Good Valid c o → visit s c l i j o ≡ visit t c l i j o
+  visit-cong : (v : Visit) (o : Option (List ℕ)) → Proper labels v → Good Valid c o → visit s c v o ≡ visit t c v o
   unfolding visit
-  visit-cong l i j none hl hi hj ok = refl
-  visit-cong l i j (some cs) hl hi hj ok =
-      ap (λ (x : ℕ). insert c x cs) (valid-step l (getD cs i 0) (getD cs j 0) hl (ok .0 .all i hi) (ok .0 .all j hj) .0)
-
-  row-cong : (l k m : ℕ) (o : Option (List ℕ)) → l < labels → m ≤ suc k → Long k o → Good Valid c o → row s c l k m o ≡ row t c l k m o
-  unfolding row
-  row-cong l k zero o hl h hk ok = refl
-  row-cong l k (suc m) o hl h hk ok =
-      let r = row s c l k m o in
-      let u = visit s c l m k r in
-      let rk : Long k r = long-grows k o r (row-grows s c l k m o) hk in
-      let rm : Long m r = long-down m k r (le-of-suc-le-suc h) rk in
-      let uk : Long k u = long-grows k r u (visit-grows s c l m k r) rk in
-      let um : Long m u = long-grows m r u (visit-grows s c l m k r) rm in
-      let ro : Good Valid c r = row-good s c labels Valid keeps l k m o hl (omega arith) hk ok in
-      let uo : Good Valid c u = visit-good s c labels Valid keeps l m k r hl rm rk ro in
-      visit-cong l k m u hl uk um uo
-      ∙ ap (visit t c l k m) (visit-cong l m k r hl rm rk ro ∙ ap (visit t c l m k) (row-cong l k m o hl (omega arith) hk ok))
-
-  ring-cong : (k m : ℕ) (o : Option (List ℕ)) → m ≤ labels → Long k o → Good Valid c o → ring s c k m o ≡ ring t c k m o
-  unfolding ring
-  ring-cong k zero o h hk ok = refl
-  ring-cong k (suc l) o h hk ok =
-      let r = ring s c k l o in
-      row-cong l k (suc k) r (omega arith) (omega arith) (long-grows k o r (ring-grows s c k l o) hk)
-      (ring-good s c labels Valid keeps k l o (omega arith) hk ok)
-      ∙ ap (row t c l k (suc k)) (ring-cong k l o (omega arith) hk ok)
-
-  next-cong : (k : ℕ) (o : Option (List ℕ)) → Good Valid c o → next s c labels k o ≡ next t c labels k o
-  unfolding next
-  next-cong k none ok = refl
-  next-cong k (some cs) ok = go (ltb k (length cs)) refl
+  visit-cong v none h ok = refl
+  visit-cong v (some cs) h ok = go (areBelow (length cs) (v .states)) refl
     where
-      go : (b : Bool) → ltb k (length cs) ≡ b → cond b (ring s c k labels (some cs)) (some cs) ≡ cond b (ring t c k labels (some cs)) (some cs)
-      go true e = ring-cong k labels (some cs) (omega arith) (ltb-true k (length cs) e) ok
+      go : (b : Bool) → areBelow (length cs) (v .states) ≡ b → cond b (insert c (s (v .label) (codesAt cs (v .states))) cs) (some cs)
+          ≡ cond b (insert c (t (v .label) (codesAt cs (v .states))) cs) (some cs)
       go false e = refl
+      go true e =
+          ap (λ (x : ℕ). insert c x cs)
+          (valid-step (v .label) (codesAt cs (v .states)) (h .label) (length-map (v .states) (λ (i : ℕ). getD cs i 0) ∙ h .two)
+          (codes-good s c labels Valid keeps cs (ok .0) (each-below (length cs) (v .states) e)) .0)
 
-  grow-cong : (k : ℕ) (o : Option (List ℕ)) → Good Valid c o → grow s c labels k o ≡ grow t c labels k o
-  unfolding grow
-  grow-cong zero o ok = refl
-  grow-cong (suc k) o ok = next-cong k (grow s c labels k o) (grow-good s c labels Valid keeps k o ok) ∙ ap (next t c labels k) (grow-cong k o ok)
+  visits-cong : (vs : List Visit) (o : Option (List ℕ)) → Each (Proper labels) vs → Good Valid c o → visits s c vs o ≡ visits t c vs o
+  unfolding visits
+  visits-cong [] o e ok = refl
+  visits-cong (v ∷ vs) o e ok =
+      visits-cong vs (visit s c v o) (each-tail e) (visits-good s c labels Valid keeps (v ∷ []) o (first e) ok)
+      ∙ ap (visits t c vs) (visit-cong v o (each-head e) ok)
+    where
+      first : Each (Proper labels) (v ∷ vs) → Each (Proper labels) (v ∷ [])
+      first e = cons (each-head e) nil
 
   pub explore-cong : 0 < c → explore s c labels start ≡ explore t c labels start
   unfolding explore
-  explore-cong h = grow-cong c (some (start ∷ [])) (one-code Valid start valid-start, h)
+  explore-cong h = visits-cong (rings labels c) (some (start ∷ [])) (rings-proper labels c) (one-code Valid start valid-start, h)

@@ -2,10 +2,12 @@
 -- Assumes nothing.
 use Rattle.words.proofs.Vocabulary.{ℕ, _≤_, _<_, suc, zero, Bool, true, false, cond, _≡_, _∙_, refl, sym, ap, subst, ⊎-elim, List, [], _∷_, _++_}
 use Rattle.words.proofs.Vocabulary.{some, Option, none, ltb-false, ltb-true, ltb, length, getD, List·getD-append, length-append, getD-append-seam}
-use Rattle.words.proofs.Vocabulary.{le-of-suc-le-suc, not-suc-le-zero, eq-or-lt-of-le, arith}
-use Rattle.exploring.specs.Explore.{Distinct, Has, insert, visit, row, ring, next, grow, explore, found}
+use Rattle.words.proofs.Vocabulary.{length-map, le-of-suc-le-suc, not-suc-le-zero, eq-or-lt-of-le, arith}
+use Rattle.layout.specs.Shape.{Each, nil, cons, Tuple}
+use Rattle.layout.proofs.Places.{each-head, each-tail, each-map, two-of, pair-of}
+use Rattle.exploring.specs.Explore.{Visit, codesAt, areBelow, Distinct, insert, visit, visits, over, rings, explore}
 use Rattle.exploring.proofs.Place.{place-in}
-use Rattle.exploring.proofs.Grow.{Grows, Long, long-down, long-grows, row-grows, visit-grows, ring-grows, grow-grows, grow-has}
+use Rattle.exploring.proofs.Grow.{Grows, Has, Long, each-below, visits-grows, rings-all, rings-has}
 use Rattle.table.specs.Entry.{Step}
 use Rattle.logic.specs.Reach.{position}
 
@@ -56,7 +58,15 @@ abbrev pub Good : (ℕ → Type 0) → ℕ → Option (List ℕ) → Type 0
 Good P c none = (cs : List ℕ) × Codes P cs × (length cs ≡ suc c)
 Good P c (some cs) = Codes P cs × (length cs ≤ c)
 
-module _ (succ : Step) (c labels : ℕ) (P : ℕ → Type 0) (closed : (l a b : ℕ) → l < labels → P a → P b → P (succ l a b)) where
+-- a label below the given number over two states
+pub record Proper (labels : ℕ) (v : Visit) : Type 0 where
+  pub label : v .label < labels
+  pub two : length (v .states) ≡ 2
+
+pub rings-proper : (labels k : ℕ) → Each (Proper labels) (rings labels k)
+rings-proper labels k = rings-all labels k (λ l i j hl hi hj. record { label = hl; two = refl })
+
+module _ (succ : Step) (c labels : ℕ) (P : ℕ → Type 0) (closed : (l : ℕ) (xs : List ℕ) → l < labels → length xs ≡ 2 → Each P xs → P (succ l xs)) where
   insert-good : (x : ℕ) (cs : List ℕ) → Good P c (some cs) → P x → Good P c (insert c x cs)
   unfolding insert
   insert-good x cs ok r = go (ltb (position x cs) (length cs)) (ltb (length cs) c) refl refl
@@ -74,42 +84,25 @@ module _ (succ : Step) (c labels : ℕ) (P : ℕ → Type 0) (closed : (l a b : 
           let h = ltb-false (length cs) c f in
           (cs ++ (x ∷ []), more (ltb-false _ _ e), omega (arith, length-append cs (x ∷ [])))
 
-  pub visit-good : (l i j : ℕ) (o : Option (List ℕ)) → l < labels → Long i o → Long j o → Good P c o → Good P c (visit succ c l i j o)
+  -- of the codes of states P holds
+  pub codes-good : (cs : List ℕ) → Codes P cs → {is : List ℕ} → Each (λ (i : ℕ). i < length cs) is → Each P (codesAt cs is)
+  codes-good cs ok e = each-map P (λ (i : ℕ). getD cs i 0) (ok .all) e
+
+  visit-good : (v : Visit) (o : Option (List ℕ)) → Proper labels v → Good P c o → Good P c (visit succ c v o)
   unfolding visit
-  visit-good l i j none hl hi hj ok = ok
-  visit-good l i j (some cs) hl hi hj ok = insert-good _ cs ok (closed l (getD cs i 0) (getD cs j 0) hl (ok .0 .all i hi) (ok .0 .all j hj))
-
-  pub row-good : (l k m : ℕ) (o : Option (List ℕ)) → l < labels → m ≤ suc k → Long k o → Good P c o → Good P c (row succ c l k m o)
-  unfolding row
-  row-good l k zero o hl h hk ok = ok
-  row-good l k (suc m) o hl h hk ok =
-      let r = row succ c l k m o in
-      let s = visit succ c l m k r in
-      let rk : Long k r = long-grows k o r (row-grows succ c l k m o) hk in
-      let rm : Long m r = long-down m k r (le-of-suc-le-suc h) rk in
-      let sk = long-grows k r s (visit-grows succ c l m k r) rk in
-      let sm = long-grows m r s (visit-grows succ c l m k r) rm in
-      visit-good l k m s hl sk sm (visit-good l m k r hl rm rk (row-good l k m o hl (omega arith) hk ok))
-
-  pub ring-good : (k m : ℕ) (o : Option (List ℕ)) → m ≤ labels → Long k o → Good P c o → Good P c (ring succ c k m o)
-  unfolding ring
-  ring-good k zero o h hk ok = ok
-  ring-good k (suc l) o h hk ok =
-      row-good l k (suc k) (ring succ c k l o) (omega arith) (omega arith) (long-grows k o (ring succ c k l o) (ring-grows succ c k l o) hk)
-      (ring-good k l o (omega arith) hk ok)
-
-  pub grow-good : (k : ℕ) (o : Option (List ℕ)) → Good P c o → Good P c (grow succ c labels k o)
-  unfolding grow next
-  grow-good zero o ok = ok
-  grow-good (suc k) o ok = from (grow succ c labels k o) (grow-good k o ok)
+  visit-good v none h ok = ok
+  visit-good v (some cs) h ok = go (areBelow (length cs) (v .states)) refl
     where
-      from : (p : Option (List ℕ)) → Good P c p → Good P c (next succ c labels k p)
-      from none ok = ok
-      from (some cs) ok = go (ltb k (length cs)) refl
-        where
-          go : (t : Bool) → ltb k (length cs) ≡ t → Good P c (cond t (ring succ c k labels (some cs)) (some cs))
-          go false e = ok
-          go true e = ring-good k labels (some cs) (omega arith) (ltb-true k (length cs) e) ok
+      go : (t : Bool) → areBelow (length cs) (v .states) ≡ t → Good P c (cond t (insert c (succ (v .label) (codesAt cs (v .states))) cs) (some cs))
+      go false e = ok
+      go true e =
+          insert-good _ cs ok (closed (v .label) (codesAt cs (v .states)) (h .label) (length-map (v .states) (λ (i : ℕ). getD cs i 0) ∙ h .two)
+          (codes-good cs (ok .0) (each-below (length cs) (v .states) e)))
+
+  pub visits-good : (vs : List Visit) (o : Option (List ℕ)) → Each (Proper labels) vs → Good P c o → Good P c (visits succ c vs o)
+  unfolding visits
+  visits-good [] o e ok = ok
+  visits-good (v ∷ vs) o e ok = visits-good vs (visit succ c v o) (each-tail e) (visit-good v o (each-head e) ok)
 
 -- ---- what exploration gives, where P holds of the start and of what follows codes of which it holds
 module _ (succ : Step) (c labels start : ℕ) (pos : 0 < c) where
@@ -120,16 +113,16 @@ module _ (succ : Step) (c labels start : ℕ) (pos : 0 < c) where
     pub some-code : 0 < length cs
     pub first : getD cs 0 0 ≡ start
 
-  module _ (P : ℕ → Type 0) (at-start : P start) (closed : (l a b : ℕ) → l < labels → P a → P b → P (succ l a b)) where
+  module _ (P : ℕ → Type 0) (at-start : P start) (closed : (l : ℕ) (xs : List ℕ) → l < labels → length xs ≡ 2 → Each P xs → P (succ l xs)) where
     all-good : Good P c (explore succ c labels start)
     unfolding explore
-    all-good = grow-good succ c labels P closed c (some (start ∷ [])) (one-code P start at-start, pos)
+    all-good = visits-good succ c labels P closed (rings labels c) (some (start ∷ [])) (rings-proper labels c) (one-code P start at-start, pos)
 
     pub explore-found : (cs : List ℕ) → explore succ c labels start ≡ some cs → Found P cs
     unfolding explore
     explore-found cs e =
         let ok : Good P c (some cs) = subst (Good P c) e all-good in
-        let g : Grows (some (start ∷ [])) (some cs) = subst (Grows (some (start ∷ []))) e (grow-grows succ c labels c (some (start ∷ []))) in
+        let g : Grows (some (start ∷ [])) (some cs) = subst (Grows (some (start ∷ []))) e (visits-grows succ c (rings labels c) (some (start ∷ []))) in
         record { codes = ok .0; few = ok .1; some-code = omega (arith, ap length (g .1)); first = ap (λ (l : List ℕ). getD l 0 0) (g .1) }
 
     -- or c + 1 of them
@@ -138,15 +131,16 @@ module _ (succ : Step) (c labels start : ℕ) (pos : 0 < c) where
 
   -- of any code this asks nothing
   pub explore-some : (cs : List ℕ) → explore succ c labels start ≡ some cs → Found (λ (x : ℕ). Unit {0}) cs
-  explore-some = explore-found (λ (x : ℕ). Unit {0}) tt (λ l a b h x y. tt)
+  explore-some = explore-found (λ (x : ℕ). Unit {0}) tt (λ l xs h n e. tt)
 
   -- every successor of codes that were found was found
-  pub explore-closed : (cs : List ℕ) → explore succ c labels start ≡ some cs
-      → (l i j : ℕ) → l < labels → i < length cs → j < length cs → position (succ l (getD cs i 0) (getD cs j 0)) cs < length cs
+  pub explore-closed : (cs : List ℕ) → explore succ c labels start ≡ some cs → (l : ℕ) → l < labels → (is : List ℕ) → Tuple 2 (length cs) is
+      → position (succ l (codesAt cs is)) cs < length cs
   unfolding explore
-  explore-closed cs e l i j hl hi hj =
+  explore-closed cs e l hl =
+      pair-of (λ (is : List ℕ). position (succ l (codesAt cs is)) cs < length cs) λ i j hi hj.
       let few = explore-some cs e .few in
-      let found : Has succ l i j (some cs) =
-      subst (Has succ l i j) e
-      (grow-has succ c labels c (some (start ∷ [])) l i j hl (omega arith) (omega arith) (subst (Long i) (sym e) hi) (subst (Long j) (sym e) hj)) in
-      found .2
+      let found : Has succ (over l i j) (some cs) =
+      subst (Has succ (over l i j)) e
+      (rings-has succ c labels c (some (start ∷ [])) l i j hl (omega arith) (omega arith) (subst (Long (i ∷ j ∷ [])) (sym e) (two-of hi hj .below))) in
+      found .1

@@ -2,13 +2,14 @@
 -- are more than `c` of them. Document 01, "Machines": "States counted are those reachable from state 0 under all labels."
 -- Assumes nothing.
 use Prim.Native.Nat.{ℕ, zero, suc, _<_}
-use mathlib.Core.Bool.{cond}
-use mathlib.Core.List.{List, [], _∷_, _++_}
+use mathlib.Core.Bool.{Bool, true, _&&_, cond}
+use mathlib.Core.List.{List, [], _∷_, _++_, map}
 use mathlib.Core.Option.{Option, none, some}
 use mathlib.Core.Path.{_≡_}
 use lib.ListN.{length, getD}
 use lib.Dec.{ltb}
 use Rattle.logic.specs.Reach.{position}
+use Rattle.table.specs.Entry.{Step}
 
 -- the list with x in it: as it is where x stands there, else with x put last. None where x is new and there are c codes already
 unfoldable pub insert : ℕ → ℕ → List ℕ → Option (List ℕ)
@@ -23,34 +24,48 @@ abbrev pub found : Option (List ℕ) → (List ℕ → Option (List ℕ)) → Op
 found none f = none
 found (some cs) f = f cs
 
-module _ (succ : ℕ → ℕ → ℕ → ℕ) (c : ℕ) where
-  -- the successor of the states i and j under label l is put in
-  unfoldable pub visit : ℕ → ℕ → ℕ → Option (List ℕ) → Option (List ℕ)
-  visit l i j o = found o (λ cs. insert c (succ l (getD cs i zero) (getD cs j zero)) cs)
+-- a node to be visited: its label and the states of its branches, in order
+pub record Visit : Type 0 where
+  pub label : ℕ
+  pub states : List ℕ
 
-  -- the pairs (i, k) and (k, i) for each i below m, under label l
-  unfoldable pub row : ℕ → ℕ → ℕ → Option (List ℕ) → Option (List ℕ)
-  row l k zero o = o
-  row l k (suc i) o = visit l k i (visit l i k (row l k i o))
+-- the codes of states
+abbrev pub codesAt : List ℕ → List ℕ → List ℕ
+codesAt cs is = map (λ (i : ℕ). getD cs i 0) is
 
-  -- the pairs whose larger member is k, under each label below m
-  unfoldable pub ring : ℕ → ℕ → Option (List ℕ) → Option (List ℕ)
-  ring k zero o = o
-  ring k (suc l) o = row l k (suc k) (ring k l o)
+-- are they states, where there are n
+abbrev pub areBelow : ℕ → List ℕ → Bool
+areBelow n [] = true
+areBelow n (i ∷ is) = ltb i n && areBelow n is
 
-  -- state k is paired with those before it and itself, if there is a state k
-  unfoldable pub next : ℕ → ℕ → Option (List ℕ) → Option (List ℕ)
-  next labels k o = found o (λ cs. cond (ltb k (length cs)) (ring k labels (some cs)) (some cs))
+module _ (succ : Step) (c : ℕ) where
+  -- the successor of a visit's states is put in, if they are there
+  unfoldable pub visit : Visit → Option (List ℕ) → Option (List ℕ)
+  visit v o = found o (λ cs. cond (areBelow (length cs) (v .states)) (insert c (succ (v .label) (codesAt cs (v .states))) cs) (some cs))
 
-  -- the states below k are paired with each other
-  unfoldable pub grow : ℕ → ℕ → Option (List ℕ) → Option (List ℕ)
-  grow labels zero o = o
-  grow labels (suc k) o = next labels k (grow labels k o)
+  -- one after the other
+  unfoldable pub visits : List Visit → Option (List ℕ) → Option (List ℕ)
+  visits [] o = o
+  visits (v ∷ vs) o = visits vs (visit v o)
 
-  unfoldable pub explore : ℕ → ℕ → Option (List ℕ)
-  explore labels start = grow labels c (some (start ∷ []))
+-- the node with label l over states i and j
+abbrev pub over : ℕ → ℕ → ℕ → Visit
+over l i j = record { label = l; states = i ∷ j ∷ [] }
 
--- the successor of the states i and j under l is there, or there were too many
-abbrev pub Has : (ℕ → ℕ → ℕ → ℕ) → ℕ → ℕ → ℕ → Option (List ℕ) → Type 0
-Has succ l i j none = Unit {0}
-Has succ l i j (some cs) = (i < length cs) × (j < length cs) × (position (succ l (getD cs i 0) (getD cs j 0)) cs < length cs)
+-- state k with each state below m, both ways, under label l
+unfoldable pub row : ℕ → ℕ → ℕ → List Visit
+row l k zero = []
+row l k (suc i) = row l k i ++ (over l i k ∷ over l k i ∷ [])
+
+-- state k with itself and those before it, under each label below m
+unfoldable pub ring : ℕ → ℕ → List Visit
+ring k zero = []
+ring k (suc l) = ring k l ++ row l k (suc k)
+
+-- the states below k with each other, each with those before it in its turn
+unfoldable pub rings : ℕ → ℕ → List Visit
+rings labels zero = []
+rings labels (suc k) = rings labels k ++ ring k labels
+
+unfoldable pub explore : Step → ℕ → ℕ → ℕ → Option (List ℕ)
+explore succ c labels start = visits succ c (rings labels c) (some (start ∷ []))

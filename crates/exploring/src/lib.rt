@@ -4,12 +4,11 @@ ghost use Prim.Native.Nat.{_+_, _≤_, _<_};
 ghost use mathlib.Core.List.{[], _∷_};
 ghost use mathlib.Core.Option.{some};
 ghost use lib.ListN.{length, take};
-ghost use Rattle.exploring.specs.Explore.{Distinct, insert};
-ghost use Rattle.exploring.specs.Filling.{Guided, listed, Noted, Visitable, Rowed, Ringed, Explored};
+ghost use Rattle.exploring.specs.Explore.{Distinct, insert, over, row, ring};
+ghost use Rattle.exploring.specs.Filling.{Guided, listed, Noted, Visitable, Visited, Explored};
+ghost use Rattle.layout.specs.Shape.{labelsIn};
 ghost use Rattle.table.specs.Rows.{Led, Serves};
-ghost use Rattle.table.specs.Succ.{Room, succIn, startOf};
-ghost use Rattle.table.specs.Entry.{entry};
-use table::entries::cell;
+ghost use Rattle.table.specs.Succ.{Room, Ranged, succIn, startOf};
 use table::entries::wide;
 use table::plan::Kind;
 use table::plan::Plan;
@@ -25,7 +24,7 @@ pub struct Builder {
 }
 
 // Where x stands among the first codes; their count where it does not.
-pub fn find(codes: &[u64; 64], count: usize, x: u64) -> usize
+fn find(codes: &[u64; 64], count: usize, x: u64) -> usize
     requires { ⌜ (count ≤ 64) × (length (now codes) ≡ 64) ⌝ }
     ensures { λ r. ⌜ r ≡ position x (take count (now (codes .entry))) ⌝ }
 {
@@ -40,7 +39,7 @@ pub fn find(codes: &[u64; 64], count: usize, x: u64) -> usize
 }
 
 // The codes with x in them, where at is the place of x.
-pub fn put(b: Builder, x: u64, at: usize, c: usize) -> Builder
+fn put(b: Builder, x: u64, at: usize, c: usize) -> Builder
     requires { ⌜ (b .count ≤ c) × (c ≤ 64) ⌝ }
     requires { ⌜ at ≡ position x (take (b .count) (b .codes)) ⌝ }
     ensures { λ r. ⌜ (b .count ≤ r .count) × (r .count ≤ c + 1) × (listed c r ≡ insert c x (take (b .count) (b .codes))) ⌝ }
@@ -59,7 +58,7 @@ pub fn put(b: Builder, x: u64, at: usize, c: usize) -> Builder
 
 // Where x stands among the first codes, none of which stands twice; their count where it does not. What is kept for x among the hints is
 // tried first: it may be any number, for it is held to the codes.
-pub fn locate(codes: &[u64; 64], count: usize, x: u64, hints: &mut [u8; 256]) -> usize
+fn locate(codes: &[u64; 64], count: usize, x: u64, hints: &mut [u8; 256]) -> usize
     requires { ⌜ (count ≤ 64) × (length (now codes) ≡ 64) × Distinct (take count (now codes)) ⌝ }
     ensures { λ r. ⌜ r ≡ position x (take count (now (codes .entry))) ⌝ }
 {
@@ -76,7 +75,7 @@ pub fn locate(codes: &[u64; 64], count: usize, x: u64, hints: &mut [u8; 256]) ->
 }
 
 // The place of the code x is written to the table, for states i and j and label l. Nothing is done where there are too many codes.
-pub fn note(
+fn note(
     ws: &mut [u8],
     p: Plan,
     codes: &[u64; 64],
@@ -88,24 +87,25 @@ pub fn note(
     hints: &mut [u8; 256],
 ) -> usize
     requires { ⌜ Room p (length (now ws)) ⌝ }
-    requires { ⌜ (l < p .labels) × (i < count) × (j < count) × (length (now codes) ≡ 64) ⌝ }
-    requires { ⌜ (count ≤ p .c → Distinct (take count (now codes))) ⌝ }
-    ensures { λ r. ⌜ Noted p (now (codes .entry)) count l i j x r (now (ws .entry)) (now (ws .exit)) ⌝ }
+    requires { ⌜ (l < labelsIn (p .shape)) × (i < count) × (j < count) × (length (now codes) ≡ 64) ⌝ }
+    requires { ⌜ (count ≤ p .shape .ceiling → Distinct (take count (now codes))) ⌝ }
+    ensures { λ r. ⌜ Noted p (now (codes .entry)) count (over l i j) x r (now (ws .entry)) (now (ws .exit)) ⌝ }
 {
-    let c = p.c;
+    let shape = p.shape;
+    let c = shape.ceiling;
     let base = p.base;
     if c < count {
         return 0;
     }
     let at = locate(codes, count, x, hints);
-    let k = base + cell(c, l, i, j);
+    let k = base + layout::place(shape, l, i, j);
     ws[k] = at as u8;
     at
 }
 
 // The pairs of state k with those up to k, both ways, under label l, where `right` and `left` have their successors. The builder is
 // passed on for a new code alone.
-pub fn visit_pairs(
+fn visit_pairs(
     ws: &mut [u8],
     p: Plan,
     b: Builder,
@@ -118,9 +118,10 @@ pub fn visit_pairs(
     requires { ⌜ Room p (length (now ws)) ⌝ }
     requires { ⌜ Visitable p b l k ⌝ }
     requires { ⌜ Serves (succIn (now ws) p) l (b .codes) k (now left) (now right) ⌝ }
-    ensures { λ r. ⌜ Rowed (succIn (now (ws .entry)) p) p b r (now (ws .entry)) (now (ws .exit)) l k (k + 1) ⌝ }
+    ensures { λ r. ⌜ Visited (succIn (now (ws .entry)) p) p (row l k (k + 1)) b r (now (ws .entry)) (now (ws .exit)) ⌝ }
 {
-    let c = p.c;
+    let shape = p.shape;
+    let c = shape.ceiling;
     let mut r = b;
     let mut i = 0;
     while i <= k {
@@ -141,15 +142,16 @@ pub fn visit_pairs(
 
 // The pairs of state k with those up to k, both ways, under every label: there is nothing to do for a label that the record does not
 // tell from an earlier one.
-pub fn visit_ring(ws: &mut [u8], p: Plan, b: Builder, k: usize, hints: &mut [u8; 256]) -> Builder
+fn visit_ring(ws: &mut [u8], p: Plan, b: Builder, k: usize, hints: &mut [u8; 256]) -> Builder
     requires { ⌜ Room p (length (now ws)) ⌝ }
-    requires { ⌜ (k < b .count) × (b .count ≤ p .c) ⌝ }
-    requires { ⌜ Guided (take (p .base) (now ws)) p (listed (p .c) b) ⌝ }
-    ensures { λ r. ⌜ Ringed (succIn (now (ws .entry)) p) p b r (now (ws .entry)) (now (ws .exit)) k (p .labels) ⌝ }
+    requires { ⌜ (k < b .count) × (b .count ≤ p .shape .ceiling) ⌝ }
+    requires { ⌜ Guided (take (p .base) (now ws)) p (listed (p .shape .ceiling) b) ⌝ }
+    ensures { λ r. ⌜ Visited (succIn (now (ws .entry)) p) p (ring k (labelsIn (p .shape))) b r (now (ws .entry)) (now (ws .exit)) ⌝ }
 {
-    let c = p.c;
+    let shape = p.shape;
+    let c = shape.ceiling;
     let base = p.base;
-    let labels = p.labels;
+    let labels = layout::labels(shape);
     let looks = p.looks;
     let mut left = [0u64; 64];
     let mut right = [0u64; 64];
@@ -169,12 +171,13 @@ pub fn visit_ring(ws: &mut [u8], p: Plan, b: Builder, k: usize, hints: &mut [u8;
 }
 
 // The machine of a plan, from its start code: its codes, and its table in the plan's share of the workspace.
-pub fn build(ws: &mut [u8], p: Plan, start: u64) -> Builder
+fn build(ws: &mut [u8], p: Plan, start: u64) -> Builder
     requires { ⌜ Room p (length (now ws)) ⌝ }
     requires { ⌜ Guided (take (p .base) (now ws)) p (some (start ∷ [])) ⌝ }
     ensures { λ r. ⌜ Explored (succIn (now (ws .entry)) p) p start r (now (ws .entry)) (now (ws .exit)) ⌝ }
 {
-    let c = p.c;
+    let shape = p.shape;
+    let c = shape.ceiling;
     let mut hints = [0u8; 256];
     let mut b = Builder {
         codes: [start; 64],
@@ -192,8 +195,8 @@ pub fn build(ws: &mut [u8], p: Plan, start: u64) -> Builder
 }
 
 // The start code by the kind of record.
-pub fn start_code(low: &[u8], p: Plan) -> u64
-    requires { ⌜ (p .c ≤ 64) × (p .first < 4294967296) × (0 < p .wx) × (p .wx ≤ 128) ⌝ }
+fn start_code(low: &[u8], p: Plan) -> u64
+    requires { ⌜ Ranged p ⌝ }
     requires { ⌜ Led (now low) p ⌝ }
     ensures { λ r. ⌜ r ≡ startOf (now (low .entry)) p ⌝ }
 {

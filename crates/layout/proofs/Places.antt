@@ -1,6 +1,6 @@
 -- The places of entries: within the share, one entry at each, and an entry for each place; shares are small and apart. Assumes nothing.
 use Rattle.words.proofs.Vocabulary.{ℕ, _≤_, _<_, _+_, _*_, suc, _%_, zero, _^_, _/_, _≡_, _∙_, refl, sym, ap, ap₂, subst, List, [], _∷_, _++_, map}
-use Rattle.words.proofs.Vocabulary.{digits-lt, digits-div, digits-mod, length, length-map, length-append, pow-mono, pow-suc, mul-le-mul-right}
+use Rattle.words.proofs.Vocabulary.{digits-lt, digits-div, digits-mod, length, length-map, length-append, replicate, pow-mono, pow-suc, mul-le-mul-right}
 use native.Mathlib.Nat.{pow-zero, pow-succ'}
 use Rattle.words.proofs.Vocabulary.{mul-le-mul-left, mul-assoc, suc-mul, mod-lt, div-add-mod', decLt, not-suc-le-zero, arith}
 use Rattle.layout.specs.Shape.{Shaped, labelsIn, shareOf, shareAt, Each, nil, cons, Tuple, digitsOf, placeIn, aboveDigits, lowDigits, labelAt, statesAt}
@@ -22,6 +22,18 @@ module _ {A : Type 0} {P : A → Type 0} where
   each-append nil d = d
   each-append (cons p e) d = cons p (each-append e d)
 
+  pub each-left : (xs ys : List A) → Each P (xs ++ ys) → Each P xs
+  each-left [] ys e = nil
+  each-left (x ∷ xs) ys (cons p e) = cons p (each-left xs ys e)
+
+  pub each-right : (xs : List A) {ys : List A} → Each P (xs ++ ys) → Each P ys
+  each-right [] e = e
+  each-right (x ∷ xs) (cons p e) = each-right xs e
+
+  pub each-all : ((a : A) → P a) → (xs : List A) → Each P xs
+  each-all h [] = nil
+  each-all h (x ∷ xs) = cons (h x) (each-all h xs)
+
   pub each-imp : {Q : A → Type 0} {xs : List A} → ((a : A) → P a → Q a) → Each P xs → Each Q xs
   each-imp h nil = nil
   each-imp h (cons p e) = cons (h _ p) (each-imp h e)
@@ -29,6 +41,10 @@ module _ {A : Type 0} {P : A → Type 0} where
   pub each-map : {B : Type 0} (Q : B → Type 0) (f : A → B) {xs : List A} → ((a : A) → P a → Q (f a)) → Each P xs → Each Q (map f xs)
   each-map Q f h nil = nil
   each-map Q f h (cons p e) = cons (h _ p) (each-map Q f h e)
+
+  pub each-replicate : (k : ℕ) (x : A) → P x → Each P (replicate k x)
+  each-replicate zero x p = nil
+  each-replicate (suc k) x p = cons p (each-replicate k x p)
 
 pub tuple-up : {k n m : ℕ} {is : List ℕ} → n ≤ m → Tuple k n is → Tuple k m is
 tuple-up h t = record { long = t .long; below = each-imp (λ i l. omega arith) (t .below) }

@@ -11,7 +11,7 @@ use native.Mathlib.Decide.{decLt}
 use lib.Dec.{T}
 use lib.ListN.{length, getD}
 use Rattle.logic.specs.Meaning.{Branch, Assignment, Formula, subset, singleton, successor, root, negation, disjunction, conjunction, exists, Holds}
-use Rattle.logic.specs.Tree.{Tree, empty, node, Proper, TreeOf}
+use Rattle.logic.specs.Tree.{Tree, Proper, TreeOf}
 use Rattle.logic.specs.Rule.{Record, formulaAt, lastOf, Accepted}
 use Rattle.logic.specs.Machine.{Machine, run, Decides, complement, product, Simulates, Projects}
 use Rattle.logic.specs.Atom.{subsetMachine, singletonMachine, successorMachine, rootMachine}
@@ -35,6 +35,7 @@ use Rattle.logic.proofs.Settle.{run-below, search-right}
 use Rattle.logic.proofs.Answers.{sought-right, decide-only, judge-judges}
 use Rattle.logic.proofs.Alike.{alike-sym, alike-trans, complement-alike, numbered-alike, build-alike, product-kernel, projection-kernel, sets-kernel}
 use Rattle.logic.proofs.Alike.{comes-alike}
+use Rattle.logic.proofs.Agreement.{run-agrees}
 
 module _ {k : ℕ} (n : ℕ) where
   -- the machines of the atoms
@@ -166,20 +167,11 @@ module _ {k : ℕ} (n : ℕ) where
 
   -- a table that does the same at its own states will do
   module _ (c : ℕ) (M N : Machine k ℕ) (B : Bounded n c M) (a : Agrees n c M N) where
-    run-agrees : (t : Tree k) → Proper n t → (run M t ≡ run N t) × (run M t < c)
-    unfolding run Proper
-    run-agrees empty o = (a .starts, B .0)
-    run-agrees (node l f) o =
-        let i : (b : Branch k) → (run M (f b) ≡ run N (f b)) × (run M (f b) < c) = λ b. run-agrees (f b) (o .1 b) in (
-          a .steps l (o .0) (λ b. run M (f b)) (λ b. (i b) .1) ∙ ap (N .step l) (fun-ext (λ b. (i b) .0)),
-          B .1 l (o .0) (λ b. run M (f b)) (λ b. (i b) .1),
-        )
-
     pub of-agrees : (f : Formula k) → MachineOf n f M → MachineOf n f N
     of-agrees f m = record {
-      decides = λ t o A r. let w = run-agrees t o in
+      decides = λ t o A r. let w = run-agrees n c M N B a t o in
           subst (λ (x : Bool). T x ↔ Holds f A) (a .accepts (run M t) (w .1) ∙ ap (N .accepting) (w .0)) (m .decides t o A r);
-      alike = λ t u o o′. let w = run-agrees t o in let z = run-agrees u o′ in let i = m .alike t u o o′ in
+      alike = λ t u o o′. let w = run-agrees n c M N B a t o in let z = run-agrees n c M N B a u o′ in let i = m .alike t u o o′ in
           ((λ e. i .0 (w .0 ∙ e ∙ sym (z .0))), λ e. sym (w .0) ∙ i .1 e ∙ z .0);
     }
 
@@ -187,7 +179,7 @@ module _ {k : ℕ} (n : ℕ) where
     full-agrees r = (
       (subst (λ (z : ℕ). z < c) (a .starts) (B .0), λ l h s u. subst (λ (z : ℕ). z < c) (a .steps l h s u) (B .1 l h s u)),
       λ q h. let w = reached-tree n M q (r q h) in
-          subst (λ (z : ℕ). Reached N (below (2 ^ n)) z) (sym ((run-agrees (w .0) (w .1)) .0) ∙ w .2) (tree-reached n N (w .0) (w .1)),
+          subst (λ (z : ℕ). Reached N (below (2 ^ n)) z) (sym ((run-agrees n c M N B a (w .0) (w .1)) .0) ∙ w .2) (tree-reached n N (w .0) (w .1)),
     )
 
 -- a number for each i below c

@@ -22,5 +22,6 @@ pub mod Rules
 pub mod Assignments
 pub mod Answers
 pub mod Alike
+pub mod Agreement
 pub mod Builders
 pub mod Two

@@ -1,5 +1,5 @@
 -- From an accepted rule strip to decide's outcome, and from the outcome to the bytes in out. Assumes nothing.
-use Prim.Native.Nat.{ℕ, _+_, _-_, _*_, _^_, _≤_, _<_}
+use Prim.Native.Nat.{ℕ, _+_, _*_, _≤_, _<_}
 use mathlib.Core.Path.{_≡_, refl, sym, ap, _∙_, subst}
 use mathlib.Core.List.{List, _++_}
 use native.Mathlib.Omega.{arith}
@@ -7,44 +7,57 @@ use lib.ListN.{length, getD, take, drop, replicate}
 use lib.Seq.{length-take-le}
 use Rattle.logic.specs.Rule.{Record, noRecord}
 use Rattle.logic.specs.Tree.{positions}
-use Rattle.records.specs.Rule.{Buildable, noDecoded}
 use Rattle.records.specs.declared.Decoded.{Decoded}
 use Rattle.records.specs.declared.Ending.the-variants.{Over, Ready}
 use Rattle.search.specs.declared.Finding.the-variants.{None as Nothing, Larger as Beyond, Shown as Found}
+use Rattle.layout.specs.Shape.{Shaped}
+use Rattle.refinement.specs.Decode.{shapeOf}
 use Rattle.refinement.proofs.Ready.{ready}
-use Rattle.solver.specs.Solve.{outcomeOf, Ranked, Solved}
+use Rattle.solver.specs.Solve.{outcomeOf, Solvable, DecodedFrom, Ranked, Solved}
 use Rattle.solver.proofs.Told.{treeIn, told-over, told-none, told-larger, told-shown}
 use Rattle.solver.specs.declared.Solution.{Solution}
-use Rattle.strip.specs.RuleStrip.{variablesOf, recordAt, recordsOf, AcceptedRule}
+use Rattle.strip.specs.RuleStrip.{recordAt, recordsOf, AcceptedRule}
 use Rattle.strip.proofs.RuleLaws.{rule-accepted, records-at, widths-at}
 use Rattle.operations.specs.Decoding.{DecodesTo}
-use Rattle.operations.specs.Room.{roomFor, cleared, Roomy}
+use Rattle.operations.specs.Room.{cleared, Roomy}
+use Rattle.operations.proofs.Rooms.{room-shares, shaped}
 use Rattle.strip.specs.TreeStrip.{treeStrip, treeBytes}
 use Rattle.strip.proofs.TreeLaws.{treeStrip-length}
 use Rattle.operations.specs.Decide.{decidedOf, tell, outAfter, Spacious}
 use Rattle.operations.specs.declared.decide.Verdict.{Verdict}
 use Rattle.operations.specs.declared.decide.Verdict.the-variants.{Shown, None, Larger, TooManyStates}
 
-module _ {s : List ℕ} {n m c : ℕ} (accepted : AcceptedRule s n m) (xs : List Decoded) (dec : DecodesTo s m xs) {labels : ℕ} (el : labels ≡ 2 ^ n) where
-  -- the builder may be called on the strip's records
-  pub rule-ready : {len : ℕ} → Roomy n m c len → (r : ℕ) → r < m → Buildable (getD xs r noDecoded) r c labels len
-  rule-ready {len} room r h =
+module _ {s : List ℕ} {n m c : ℕ} (accepted : AcceptedRule s n m) (xs : List Decoded) (dec : DecodesTo s m xs) where
+  -- the builder's records are those of the strip
+  pub rule-decoded : DecodedFrom (recordsOf s) xs m (shapeOf n c)
+  rule-decoded =
       let f = rule-accepted s (accepted .unrefused) in
-      let w = widths-at s (16 + 18 * r) in
-      let e : getD (recordsOf s) r noRecord ≡ recordAt s (16 + 18 * r) = records-at s r (omega arith) in
       let l = f .records-count in
-      let g = ready (variablesOf s) (f .some-variable) (f .few-variables) (recordsOf s) (f .records-accepted) r m c len (omega arith) h
-      (let k = f .few-records in omega arith) (room .some-state) (room .few-states) (subst (λ (k : ℕ). roomFor k m c ≤ len) (accepted .variables) (room .long))
-      (subst (λ (x : Record). x .first < 128) (sym e) (w .1)) (subst (λ (x : Record). x .second < 128) (sym e) (w .2)) in
-      rw (dec r h, el, accepted .variables) g
+      rw (accepted .variables) (record { accepted = f .records-accepted; count = omega arith; decoded = λ r h. dec r (omega arith) })
+
+  -- the builder may be called on them
+  pub rule-solvable : {len : ℕ} → Roomy n m c len → Solvable xs m (shapeOf n c) len
+  rule-solvable {len} room =
+      let f = rule-accepted s (accepted .unrefused) in
+      let l = f .records-count in
+      let h : Shaped (shapeOf n c) = shaped (omega arith) (omega arith) (room .some-state) (room .few-states) in
+      record {
+        shape = h;
+        some = omega arith;
+        few = omega arith;
+        room = omega (arith, room-shares n m c h, room .long);
+        buildable = λ r hr.
+            let w = widths-at s (16 + 18 * r) in
+            let e : getD (recordsOf s) r noRecord ≡ recordAt s (16 + 18 * r) = records-at s r (omega arith) in
+            let g = rule-decoded in
+            rw (g .decoded r (omega arith)) (ready n c h (recordsOf s) (g .accepted) r m len (omega arith) hr (omega arith)
+            (omega (arith, room-shares n m c h, room .long))
+            (subst (λ (x : Record). x .first < 128) (sym e) (w .1)) (subst (λ (x : Record). x .second < 128) (sym e) (w .2)));
+      }
 
   -- and what it answers is decide's outcome
-  pub rule-solved : {P : ℕ} {v : Solution} → Solved xs m c labels P v → outcomeOf v ≡ decidedOf s c P
-  rule-solved g =
-      let f = rule-accepted s (accepted .unrefused) in
-      let l = f .records-count in
-      g .answer (variablesOf s) (recordsOf s) (f .records-accepted) (omega arith) (el ∙ ap (λ (k : ℕ). 2 ^ k) (accepted .variables))
-      (λ r h. dec r (omega arith))
+  pub rule-solved : {P : ℕ} {v : Solution} → Solved xs m (shapeOf n c) P v → outcomeOf v ≡ decidedOf s c P
+  rule-solved g = g .answer (recordsOf s) rule-decoded ∙ (rw (accepted .variables))
 
 -- the workspace: the build changes nothing past the shares, and they are cleared
 pub workspace-cleared : (need need′ : ℕ) (ws built ended : List ℕ) → need′ ≡ need → drop need built ≡ drop need ws

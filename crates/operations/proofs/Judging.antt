@@ -14,6 +14,8 @@ use Rattle.logic.specs.Decide.{say, judgeOf}
 use Rattle.logic.proofs.Answers.{judge-judges, trimmed-iff}
 use Rattle.records.specs.declared.Decoded.{Decoded}
 use Rattle.records.specs.declared.Ending.the-variants.{Over, Ready}
+use Rattle.reading.specs.Reading.{HasTree}
+use Rattle.refinement.specs.Decode.{shapeOf}
 use Rattle.solver.specs.Solve.{judgementAfter, judgementOf, Judged}
 use Rattle.solver.specs.declared.Ruling.{Ruling}
 use Rattle.strip.specs.Bits.{bits, number, field, anySet}
@@ -23,11 +25,13 @@ use Rattle.strip.specs.TreeAnswers.{answered, checkedTree}
 use Rattle.strip.specs.declared.tree.TreeCheck.the-variants.{Accepted as treeAccepted, Refused as treeRefused}
 use Rattle.strip.proofs.RuleLaws.{rule-accepted}
 use Rattle.strip.proofs.TreeLaws.{TreeFacts, tree-accepted, facts-length, treeBytes-most}
+use Rattle.strip.proofs.TreeWalk.{facts-stand}
 use Rattle.operations.specs.Decoding.{DecodesTo}
 use Rattle.operations.specs.Room.{roomFor, cleared, workRefusal, Roomy}
 use Rattle.operations.specs.Judge.{Readable, treeRefusal, lateRefusal, refusalBefore, tell, judgedOf, judgementFor, workspaceFor, JudgedTree, JudgeClaim}
 use Rattle.operations.specs.declared.judge.Judgement.{Judgement}
 use Rattle.operations.specs.declared.judge.Judgement.the-variants.{No, Yes, Refused, TooManyStates}
+use Rattle.operations.proofs.Deciding.{rule-decoded}
 use Rattle.operations.proofs.Rooms.{work-free}
 
 -- ---- a tree strip's refusals have numbers
@@ -97,12 +101,17 @@ readable-free : {s : List ℕ} {n : ℕ} → Readable s n → treeRefusal s ≡ 
 unfolding treeRefusal
 readable-free w = rw (w .read) refl
 
-pub readable-size : {s : List ℕ} {n : ℕ} → Readable s n → (1 ≤ length s) × (length s ≤ 4096)
-readable-size {s} w =
-    let f = tree-accepted s (w .tree) (w .met) (w .rest) (w .read) .1 in
-    let l = facts-length s (field s 4 4) (w .tree) f in
-    let b = treeBytes-most (field s 4 4) _ (f .at-most) (f .few) in
-    (omega arith, omega arith)
+-- its tree, in its place
+module _ {s : List ℕ} {n : ℕ} (w : Readable s n) where
+  readable-facts : TreeFacts s n (w .tree)
+  readable-facts = subst (λ (k : ℕ). TreeFacts s k (w .tree)) (w .variables) (tree-accepted s (w .tree) (w .met) (w .rest) (w .read) .1)
+
+  pub readable-tree : (c : ℕ) → HasTree s (shapeOf n c)
+  readable-tree c =
+      let f = readable-facts in
+      let l = facts-length s n (w .tree) f in
+      let b = treeBytes-most n _ (f .at-most) (f .few) in
+      record { short = omega arith; tree = w .tree; proper = f .proper; stands = facts-stand s n (w .tree) f }
 
 -- ---- the answer of a ruling
 module _ (v : Ruling) where
@@ -119,15 +128,12 @@ module _ (v : Ruling) where
   ruled-no h e = rw (h, e)
 
 pub rule-judged : {rule tree : List ℕ} {n m : ℕ} → AcceptedRule rule n m → (c : ℕ) (xs : List Decoded) → DecodesTo rule m xs → Readable tree n
-    → (v : Ruling) → Judged xs m c n tree v → judgementOf v ≡ judgedOf rule c tree
+    → (v : Ruling) → Judged xs m (shapeOf n c) tree v → judgementOf v ≡ judgedOf rule c tree
 unfolding judgedOf
-rule-judged {rule} accepted c xs dec w v g =
-    let f = rule-accepted rule (accepted .unrefused) in
-    let l = f .records-count in
-    let en = accepted .variables in
-    rw (w .read) (subst (λ (k : ℕ). judgementOf v ≡ judgeOf k (recordsOf rule) c (w .tree)) en
-    (g (recordsOf rule) (rw en (f .records-accepted)) (omega arith) (λ r h. rw en (dec r (omega arith)))
-    (w .tree) (w .met) (w .rest) (w .read) (w .variables)))
+rule-judged {rule} {tree} {n} accepted c xs dec w v g =
+    let f = readable-facts w in
+    rw (w .read) (g (recordsOf rule) (rule-decoded accepted xs dec) (w .tree) (f .proper) (f .trimmed) (facts-stand tree n (w .tree) f)
+    ∙ (rw (accepted .variables)))
 
 -- ---- the end, by the refusals
 module _ (rule : List ℕ) (c : ℕ) (ws tree : List ℕ) where

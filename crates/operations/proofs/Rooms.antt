@@ -1,10 +1,11 @@
 -- The room that machines take: the sums fit. Assumes nothing.
-use Prim.Native.Nat.{ℕ, zero, suc, _+_, _*_, _^_, _%_, _≤_, _<_}
-use mathlib.Core.Path.{_≡_, refl, sym, _∙_}
-use native.Mathlib.Nat.{one-mul, mul-le-mul}
+use Prim.Native.Nat.{ℕ, zero, suc, _+_, _*_, _≤_, _<_}
+use mathlib.Core.Path.{_≡_, refl, sym, ap, _∙_}
+use native.Mathlib.Nat.{mul-le-mul}
 use native.Mathlib.Omega.{arith}
-use lib.Dec.{lit<}
-use lib.Pow.{shl-exact, pow-mono}
+use Rattle.layout.specs.Shape.{Shaped, shareAt}
+use Rattle.layout.proofs.Places.{share-two}
+use Rattle.refinement.specs.Decode.{shapeOf}
 use mathlib.Core.Bool.{Bool, true, false, not, _&&_, _||_, or-true, cond}
 use borrow.Author.Tests.{lt-ltb, le-ltb, le-leb, lt-leb, ne-eqb, ltb-true, ltb-false, leb-true}
 use lib.Dec.{ltb, leb, eqb, eqb·suc-zero}
@@ -12,21 +13,13 @@ use Rattle.strip.specs.RuleStrip.{between}
 use Rattle.strip.specs.TreeStrip.{treeBytes}
 use Rattle.operations.specs.Room.{roomFor, workRefusal, roomRefusal, Roomy}
 
-pub labels-is : (n : ℕ) → n ≤ 8 → (1 * 2 ^ n) % 18446744073709551616 ≡ 2 ^ n
-labels-is n h = shl-exact 1 n 64 (lit< tt) (omega arith) ∙ one-mul (2 ^ n)
+-- "m × 2^n × c × c bytes" are m shares
+pub room-shares : (n m c : ℕ) → Shaped (shapeOf n c) → shareAt (shapeOf n c) m ≡ roomFor n m c
+unfolding shareAt
+room-shares n m c h = ap (λ (z : ℕ). m * z) (share-two (shapeOf n c) h)
 
-pub labels-few : (n : ℕ) → n ≤ 8 → 2 ^ n ≤ 256
-labels-few n h = let e = pow-mono h in omega arith
-
-module _ (n c : ℕ) (hn : n ≤ 8) (hc : c ≤ 64) where
-  pub row-few : 2 ^ n * c ≤ 16384
-  row-few = let e = mul-le-mul (labels-few n hn) hc in omega arith
-
-  pub share-few : 2 ^ n * c * c ≤ 1048576
-  share-few = let e = mul-le-mul row-few hc in omega arith
-
-  pub room-few : (m : ℕ) → m ≤ 128 → m * (2 ^ n * c * c) ≤ 134217728
-  room-few m hm = let e = mul-le-mul hm share-few in omega arith
+pub shaped : {n c : ℕ} → 1 ≤ n → n ≤ 8 → 1 ≤ c → c ≤ 64 → Shaped (shapeOf n c)
+shaped a b d e = record { some-variable = a; variables = b; some-state = d; ceiling = e; branches = refl }
 
 pub strip-few : (n P : ℕ) → n ≤ 8 → P ≤ 255 → P * (n + 1) ≤ 2295
 strip-few n P hn hp = let k : n + 1 ≤ 9 = omega arith in let e = mul-le-mul hp k in omega arith

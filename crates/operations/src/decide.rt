@@ -28,7 +28,7 @@ pub enum Verdict {
 
 // The refusals 11 to 13 of an accepted strip of m records over n variables, or 0.
 fn room_refusal(n: usize, m: usize, c: u64, p: u64, room: usize, outroom: usize) -> u64
-    requires { ⌜ (n ≤ 8) × (m ≤ 128) ⌝ }
+    requires { ⌜ (1 ≤ n) × (n ≤ 8) × (m ≤ 128) ⌝ }
     ensures { λ r. ⌜ r ≡ roomRefusal n m c p room outroom ⌝ }
 {
     if 255 < p {
@@ -53,7 +53,7 @@ fn solve_rule(rule: &[u8], n: usize, m: usize, c: usize, p: u64, ws: &mut [u8]) 
     ensures { λ r. ⌜ now (ws .exit) ≡ cleared (roomFor n m c) (now (ws .entry)) ⌝ }
 {
     let records = decode(rule, n, m);
-    let v = solver::solve(ws, records, m, c, crate::room::labels(n), p);
+    let v = solver::solve(ws, records, m, crate::room::shape(n, c), p);
     strip::bits::clear(ws, crate::room::needed(n, m, c));
     v
 }

@@ -45,7 +45,7 @@ fn judge_rule(rule: &[u8], n: usize, m: usize, c: usize, ws: &mut [u8], tree: &[
     ensures { λ _. ⌜ now (ws .exit) ≡ cleared (roomFor n m c) (now (ws .entry)) ⌝ }
 {
     let records = decode(rule, n, m);
-    let v = solver::judge(ws, records, m, c, crate::room::labels(n), n, tree);
+    let v = solver::judge(ws, records, m, crate::room::shape(n, c), tree);
     strip::bits::clear(ws, crate::room::needed(n, m, c));
     v
 }

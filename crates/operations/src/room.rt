@@ -1,23 +1,28 @@
 // The room that machines and strips take, and the refusals for want of it.
 ghost use mathlib.Core.Path.{_≡_};
-ghost use Prim.Native.Nat.{_+_, _*_, _^_, _<_, _≤_};
+ghost use Prim.Native.Nat.{_≤_};
+ghost use Rattle.refinement.specs.Decode.{shapeOf};
 ghost use Rattle.strip.specs.TreeStrip.{treeBytes};
 ghost use Rattle.operations.specs.Room.{roomFor, workRefusal};
+use layout::Shape;
 
-// The number of n-bit labels.
-pub fn labels(n: usize) -> usize
-    requires { ⌜ n ≤ 8 ⌝ }
-    ensures { λ r. ⌜ (r ≡ 2 ^ n) × (r ≤ 256) ⌝ }
+// The shape of the tables for n variables and the state ceiling c.
+pub fn shape(n: usize, c: usize) -> Shape
+    ensures { λ s. ⌜ s ≡ shapeOf n c ⌝ }
 {
-    1 << n
+    Shape {
+        variables: n,
+        ceiling: c,
+        branches: 2,
+    }
 }
 
 // The bytes of workspace that m records of n variables and c states take.
 pub fn needed(n: usize, m: usize, c: usize) -> usize
-    requires { ⌜ (n ≤ 8) × (m ≤ 128) × (c ≤ 64) ⌝ }
-    ensures { λ r. ⌜ (r ≡ roomFor n m c) × (r ≤ 134217728) ⌝ }
+    requires { ⌜ (1 ≤ n) × (n ≤ 8) × (m ≤ 128) × (1 ≤ c) × (c ≤ 64) ⌝ }
+    ensures { λ r. ⌜ r ≡ roomFor n m c ⌝ }
 {
-    m * (labels(n) * c * c)
+    layout::share_at(shape(n, c), m)
 }
 
 // The bytes of the strip of a tree of p positions over n variables.
@@ -30,7 +35,7 @@ pub fn strip_bytes(n: usize, p: usize) -> usize
 
 // The refusals 11, for c alone, and 12; or 0.
 pub fn work_refusal(n: usize, m: usize, c: u64, room: usize) -> u64
-    requires { ⌜ (n ≤ 8) × (m ≤ 128) ⌝ }
+    requires { ⌜ (1 ≤ n) × (n ≤ 8) × (m ≤ 128) ⌝ }
     ensures { λ r. ⌜ r ≡ workRefusal n m c room ⌝ }
 {
     if c < 1 {

@@ -1,10 +1,13 @@
 -- The machines of the records one after the other: with one more, and after one with too many states. Assumes nothing.
-use Rattle.words.proofs.Vocabulary.{ℕ, _≤_, _<_, _+_, _-_, _*_, suc, zero, _^_, _≡_, _∙_, refl, sym, ap, subst, ⊎-elim, List, [], _∷_, _++_, some}
-use Rattle.words.proofs.Vocabulary.{Option, none, digits-lt, bitOr, or-lt, length, getD, set, List·getD-append, length-append, length-set}
+use Rattle.words.proofs.Vocabulary.{ℕ, _≤_, _<_, _+_, _-_, suc, zero, _^_, _≡_, _∙_, refl, sym, ap, subst, ⊎-elim, List, [], _∷_, _++_, some}
+use Rattle.words.proofs.Vocabulary.{Option, none, bitOr, or-lt, length, getD, set, List·getD-append, length-append, length-set}
 use Rattle.words.proofs.Vocabulary.{getD-set-other, getD-set-same, getD-append-seam, add-zero, eq-or-lt-of-le, add-suc, add-one, arith}
-use Rattle.records.specs.Rule.{Mach, noMach, built, over, machineOf, more, after, upto, noDecoded, Sound, Stored, PartsStored, Placed, Added, Spared}
+use Rattle.records.specs.Rule.{Mach, noMach, built, over, machineOf, more, after, upto, noDecoded, Fits, Stored, PartsStored, Placed, Added, Spared}
 use Rattle.records.specs.Rule.{Made, Wide, entryOf}
-use Rattle.table.specs.Entry.{entry, addr, seen}
+use Rattle.layout.specs.Shape.{labelsIn, shareOf, shareAt, placeIn}
+use Rattle.layout.specs.declared.Shape.{Shape}
+use Rattle.layout.proofs.Places.{tuple-up, place-before}
+use Rattle.table.specs.Entry.{entry, seen}
 use Rattle.table.specs.Succ.{looksOf}
 use Rattle.table.specs.declared.plan.Kind.{Kind}
 use Rattle.table.specs.declared.plan.Kind.the-variants.{Subset, Single, Child1, Child2, Root, Not, Or, And, Exists}
@@ -12,7 +15,6 @@ use Rattle.records.specs.declared.Decoded.{Decoded}
 use Rattle.records.specs.declared.Ending.the-variants.{Over, Ready}
 use Rattle.records.specs.declared.Machines.{Machines}
 use Rattle.records.specs.declared.Summary.{Summary}
-use Rattle.table.proofs.Places.{addr-lt}
 use Rattle.table.proofs.Labels.{off-le}
 use Rattle.table.proofs.Masks.{seen-le}
 use Rattle.records.proofs.Shares.{parts-map}
@@ -42,40 +44,40 @@ pub wide-next : (s : Machines) (r : ℕ) (k : Summary) → Wide s → Wide (with
 wide-next s r k w = record { counts = simp length-set (w .counts); accepts = simp length-set (w .accepts); looks = simp length-set (w .looks) }
 
 -- a machine stays stored where only a later share is changed
-stored-spared : {c labels : ℕ} (a : ℕ) {r : ℕ} {m : Mach} {k : Summary} {ws ws′ : List ℕ} → a < r → Spared c labels r ws ws′
-    → Stored c labels (a * (labels * c * c)) m k ws → Stored c labels (a * (labels * c * c)) m k ws′
+stored-spared : {s : Shape} (a : ℕ) {r : ℕ} {m : Mach} {k : Summary} {ws ws′ : List ℕ} → a < r → Spared s r ws ws′
+    → Stored s (shareAt s a) m k ws → Stored s (shareAt s a) m k ws′
 unfolding entry
-stored-spared {c} {labels} a {r} {m} {k} {ws} {ws′} h sp s = record {
-  count = s .count;
-  accept = s .accept;
-  holds = λ l i j hl hi hj.
+stored-spared {s} a {r} {m} {k} {ws} {ws′} h sp st = record {
+  count = st .count;
+  accept = st .accept;
+  holds = λ l is hl t.
       let b = seen (k .looks) l in
-      let near = digits-lt h (addr-lt labels c b i j (omega (arith, seen-le (k .looks) l)) (omega (arith, s .few)) (omega (arith, s .few))) in
-      (sp .low (a * (labels * c * c) + addr c b i j) near ∙ s .holds l i j hl hi hj .0, s .holds l i j hl hi hj .1);
-  some-state = s .some-state;
-  few = s .few;
+      let near = place-before s a r b is h (omega (arith, seen-le (k .looks) l)) (tuple-up (st .few) t) in
+      (sp .low (shareAt s a + placeIn s b is) near ∙ st .holds l is hl t .0, st .holds l is hl t .1);
+  some-state = st .some-state;
+  few = st .few;
 }
 
 -- the machines of the first r records are stored
-pub record AllStored (xs : List Decoded) (c labels r : ℕ) (t : Machines) (ws : List ℕ) : Type 0 where
+pub record AllStored (xs : List Decoded) (s : Shape) (r : ℕ) (t : Machines) (ws : List ℕ) : Type 0 where
   pub machines : List Mach
-  pub is : upto xs c labels r ≡ built machines
+  pub is : upto xs s r ≡ built machines
   pub size : length machines ≡ r
-  pub stored : (a : ℕ) → a < r → Stored c labels (a * (labels * c * c)) (getD machines a noMach) (entryOf t a) ws
+  pub stored : (a : ℕ) → a < r → Stored s (shareAt s a) (getD machines a noMach) (entryOf t a) ws
 
-pub ready-first : {xs : List Decoded} {c labels : ℕ} {t : Machines} {ws : List ℕ} → AllStored xs c labels 0 t ws
+pub ready-first : {xs : List Decoded} {s : Shape} {t : Machines} {ws : List ℕ} → AllStored xs s 0 t ws
 unfolding upto
 ready-first = record { machines = []; is = refl; size = refl; stored = λ a h. absurd (omega arith) }
 
-pub made-ready : {xs : List Decoded} {c labels r : ℕ} {t : Machines} {ws : List ℕ} → t .ending ≡ Ready → AllStored xs c labels r t ws
-    → Made (upto xs c labels r) c labels r t ws
+pub made-ready : {xs : List Decoded} {s : Shape} {r : ℕ} {t : Machines} {ws : List ℕ} → t .ending ≡ Ready → AllStored xs s r t ws
+    → Made (upto xs s r) s r t ws
 made-ready e w = rw (w .is) (e, w .size, w .stored)
 
-upto-next : (xs : List Decoded) (c labels r : ℕ) → upto xs c labels (r + 1) ≡ after c labels r (getD xs r noDecoded) (upto xs c labels r)
+upto-next : (xs : List Decoded) (s : Shape) (r : ℕ) → upto xs s (r + 1) ≡ after s r (getD xs r noDecoded) (upto xs s r)
 unfolding upto
-upto-next xs c labels r = ap (upto xs c labels) (add-one r)
+upto-next xs s r = ap (upto xs s) (add-one r)
 
-module _ {xs : List Decoded} {c labels r : ℕ} {t : Machines} {ws : List ℕ} (w : AllStored xs c labels r t ws) where
+module _ {xs : List Decoded} {s : Shape} {r : ℕ} {t : Machines} {ws : List ℕ} (w : AllStored xs s r t ws) where
   abbrev x : Decoded
   x = getD xs r noDecoded
 
@@ -85,27 +87,26 @@ module _ {xs : List Decoded} {c labels r : ℕ} {t : Machines} {ws : List ℕ} (
   abbrev g : Mach
   g = getD (w .machines) (x .second) noMach
 
-  pub parts-ready : Sound x r labels → PartsStored x c labels (entryOf t (x .first)) (entryOf t (x .second)) ws f g
-  parts-ready sound = parts-map (x .kind) (w .stored (x .first)) (w .stored (x .second)) (sound .before)
+  pub parts-ready : {n : ℕ} → Fits x r s n → PartsStored x s (entryOf t (x .first)) (entryOf t (x .second)) ws f g
+  parts-ready fits = parts-map (x .kind) (w .stored (x .first)) (w .stored (x .second)) (fits .before)
 
-  next-is : (o : Option Mach) → machineOf c labels x f g ≡ o → upto xs c labels (r + 1) ≡ more r (w .machines) o
+  next-is : (o : Option Mach) → machineOf s x f g ≡ o → upto xs s (r + 1) ≡ more r (w .machines) o
   unfolding after
-  next-is o e = upto-next xs c labels r ∙ ap (after c labels r x) (w .is) ∙ ap (more r (w .machines)) e
+  next-is o e = upto-next xs s r ∙ ap (after s r x) (w .is) ∙ ap (more r (w .machines)) e
 
-  module _ {ws′ : List ℕ} {k : Summary} (added : Added x c labels r (entryOf t (x .first)) (entryOf t (x .second)) f g k ws ws′) where
-    pub ready-next : Wide t → r < 128 → k .count ≤ c → Spared c labels r ws ws′ → AllStored xs c labels (r + 1) (withNext t r k) ws′
+  module _ {ws′ : List ℕ} {k : Summary} (added : Added x s r (entryOf t (x .first)) (entryOf t (x .second)) f g k ws ws′) where
+    pub ready-next : Wide t → r < 128 → k .count ≤ s .ceiling → Spared s r ws ws′ → AllStored xs s (r + 1) (withNext t r k) ws′
     ready-next wide hr few sp = record {
       machines = w .machines ++ (new ∷ []);
       is = next-is (some new) (made .1);
       size = length-append (w .machines) (new ∷ []) ∙ omega (arith, w .size);
       stored = λ a h. ⊎-elim
-          (λ (e : a ≡ r). subst (λ (b : ℕ). Stored c labels (b * (labels * c * c)) (getD (w .machines ++ (new ∷ [])) b noMach)
-          (entryOf (withNext t r k) b) ws′) (sym e) here)
+          (λ (e : a ≡ r). subst (λ (b : ℕ). Stored s (shareAt s b) (getD (w .machines ++ (new ∷ [])) b noMach) (entryOf (withNext t r k) b) ws′) (sym e) here)
           (λ (l : a < r). earlier a l)
           (eq-or-lt-of-le (omega arith));
     }
       where
-        made : (m : Mach) × (machineOf c labels x f g ≡ some m) × Placed c labels r m k ws ws′
+        made : (m : Mach) × (machineOf s x f g ≡ some m) × Placed s r m k ws ws′
         made = added .few few
 
         new : Mach
@@ -114,7 +115,7 @@ module _ {xs : List Decoded} {c labels r : ℕ} {t : Machines} {ws : List ℕ} (
         last : getD (w .machines ++ (new ∷ [])) r noMach ≡ new
         last = ap (λ (n : ℕ). getD (w .machines ++ (new ∷ [])) n noMach) (sym (w .size)) ∙ getD-append-seam (w .machines) new [] noMach
 
-        here : Stored c labels (r * (labels * c * c)) (getD (w .machines ++ (new ∷ [])) r noMach) (entryOf (withNext t r k) r) ws′
+        here : Stored s (shareAt s r) (getD (w .machines ++ (new ∷ [])) r noMach) (entryOf (withNext t r k) r) ws′
         here =
             rw (
               last,
@@ -123,7 +124,7 @@ module _ {xs : List Decoded} {c labels r : ℕ} {t : Machines} {ws : List ℕ} (
               getD-set-same (t .looks) r (k .looks) 0 (omega (arith, wide .looks)),
             ) (made .2 .stored)
 
-        earlier : (a : ℕ) → a < r → Stored c labels (a * (labels * c * c)) (getD (w .machines ++ (new ∷ [])) a noMach) (entryOf (withNext t r k) a) ws′
+        earlier : (a : ℕ) → a < r → Stored s (shareAt s a) (getD (w .machines ++ (new ∷ [])) a noMach) (entryOf (withNext t r k) a) ws′
         earlier a l =
             let no : a ≡ r → ⊥ = λ e. omega arith in
             rw (
@@ -134,19 +135,18 @@ module _ {xs : List Decoded} {c labels r : ℕ} {t : Machines} {ws : List ℕ} (
             )
             (stored-spared a l sp (w .stored a l))
 
-    pub over-next : c < k .count → upto xs c labels (r + 1) ≡ over r
+    pub over-next : s .ceiling < k .count → upto xs s (r + 1) ≡ over r
     over-next h = next-is none (added .many h)
 
 -- nothing is made after a record with too many states
-over-rest : (xs : List Decoded) (c labels r k d : ℕ) → upto xs c labels r ≡ over k → upto xs c labels (r + d) ≡ over k
+over-rest : (xs : List Decoded) (s : Shape) (r k d : ℕ) → upto xs s r ≡ over k → upto xs s (r + d) ≡ over k
 unfolding after
-over-rest xs c labels r k zero e = ap (upto xs c labels) (add-zero r) ∙ e
-over-rest xs c labels r k (suc d) e =
-    ap (upto xs c labels) (add-suc r d ∙ sym (add-one (r + d))) ∙ upto-next xs c labels (r + d) ∙ ap (after c labels (r + d) (getD xs (r + d) noDecoded))
-    (over-rest xs c labels r k d e)
+over-rest xs s r k zero e = ap (upto xs s) (add-zero r) ∙ e
+over-rest xs s r k (suc d) e =
+    ap (upto xs s) (add-suc r d ∙ sym (add-one (r + d))) ∙ upto-next xs s (r + d) ∙ ap (after s (r + d) (getD xs (r + d) noDecoded)) (over-rest xs s r k d e)
 
-pub made-over : (xs : List Decoded) (c labels r m : ℕ) (t : Machines) (ws : List ℕ) → r < m → t .ending ≡ Over r → upto xs c labels (r + 1) ≡ over r
-    → Made (upto xs c labels m) c labels m t ws
-made-over xs c labels r m t ws h e o =
+pub made-over : (xs : List Decoded) (s : Shape) (r m : ℕ) (t : Machines) (ws : List ℕ) → r < m → t .ending ≡ Over r → upto xs s (r + 1) ≡ over r
+    → Made (upto xs s m) s m t ws
+made-over xs s r m t ws h e o =
     let z : r + 1 + (m - (r + 1)) ≡ m = omega arith in
-    rw (ap (upto xs c labels) (sym z) ∙ over-rest xs c labels (r + 1) r (m - (r + 1)) o) e
+    rw (ap (upto xs s) (sym z) ∙ over-rest xs s (r + 1) r (m - (r + 1)) o) e

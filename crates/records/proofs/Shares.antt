@@ -1,61 +1,51 @@
 -- One record: its plan has room, and its machine, explored from its parts' tables, is the machine of its parts' machines. Assumes nothing.
-use Rattle.words.proofs.Vocabulary.{ℕ, _≤_, _<_, _+_, _-_, _*_, _%_, _/_, Bool, true, false, _&&_, cond, _≡_, _∙_, refl, sym, ap, subst, ap₂, List}
-use Rattle.words.proofs.Vocabulary.{some, Option, none, le-leb, lt-leb, ltb-false, ltb-true, leb-false, leb-true, digits-lt, ltb, leb, length, getD}
-use Rattle.words.proofs.Vocabulary.{take, drop, length-take-le, getD-take, drop-drop, decLt, mul-le-mul-right, suc-mul, mod-lt, mul-le-mul-left}
-use Rattle.words.proofs.Vocabulary.{div-add-mod', arith}
-use Rattle.logic.specs.Reach.{position}
+use Rattle.words.proofs.Vocabulary.{ℕ, _≤_, _<_, _+_, _-_, Bool, true, false, _&&_, cond, _≡_, _∙_, refl, sym, ap, subst, ap₂, List, some, Option, none}
+use Rattle.words.proofs.Vocabulary.{le-leb, lt-leb, leb-false, leb-true, leb, length, getD, take, drop, length-take-le, getD-take, drop-drop, pow-pos, arith}
+use Rattle.layout.specs.Shape.{labelsIn, shareOf, shareAt, placeIn, labelAt, statesAt, Tuple}
+use Rattle.layout.specs.declared.Shape.{Shape}
+use Rattle.layout.proofs.Places.{tuple-up, shares-small, share-next, place-one, place-before, place-at, states-at, label-at}
+use Rattle.table.specs.Entry.{Power, Step, seen, Bare, entry, through}
 use Rattle.table.specs.Rows.{Led}
-use Rattle.table.specs.Entry.{seen, addr, Bare, entry, through}
-use Rattle.exploring.specs.Filling.{listed, Cell, Explored}
-use Rattle.table.specs.Succ.{Room, kindCode, successorOf, succIn, startCode, startOf}
-use Rattle.records.specs.Machine.{codesOf, stepOf, acceptOf, Holds, shareByte}
-use Rattle.records.specs.Rule.{Mach, machFrom, isNot, numberedBy, machineOf, planOf, Fits, OfParts, Sound, Stored, PartsStored, Placed, Added, Spared}
+use Rattle.table.specs.Succ.{Room, firstStep, secondStep, kindCode, successorOf, succIn, startCode, startOf}
 use Rattle.table.specs.declared.plan.Kind.{Kind}
 use Rattle.table.specs.declared.plan.Kind.the-variants.{Subset, Single, Child1, Child2, Root, Not, Or, And, Exists}
 use Rattle.table.specs.declared.plan.Plan.{Plan}
+use Rattle.table.proofs.Masks.{seen-le, kind-blind}
+use Rattle.exploring.specs.Explore.{Visit, codesAt, areBelow}
+use Rattle.exploring.specs.Filling.{listed, Entered, Cell, Explored}
 use Rattle.exploring.specs.declared.Builder.{Builder}
+use Rattle.exploring.proofs.Found.{explore-some}
+use Rattle.exploring.proofs.Grow.{are-below, each-below}
+use Rattle.records.specs.Machine.{codesOf, stepOf, acceptOf, Holds, shareByte}
+use Rattle.records.specs.Rule.{Mach, machFrom, isNot, numberedBy, machineOf, planOf, Fits, OfParts, Stored, PartsStored, Placed, Added, Spared}
 use Rattle.records.specs.declared.Decoded.{Decoded}
 use Rattle.records.specs.declared.Summary.{Summary}
-use Rattle.table.proofs.Places.{addr-lt, addr-one}
-use Rattle.exploring.proofs.Found.{Found, explore-some}
 use Rattle.records.proofs.Held.{Part, Same, record-same}
-use Rattle.table.proofs.Masks.{seen-le, kind-blind}
+use Rattle.logic.specs.Reach.{position}
 
 pub drop-later : (n m : ℕ) (a b : List ℕ) → n ≤ m → drop n a ≡ drop n b → drop m a ≡ drop m b
 drop-later n m a b h e =
     let s : n + (m - n) ≡ m = omega arith in
     ap (λ (k : ℕ). drop k a) (sym s) ∙ sym (drop-drop (m - n) n a) ∙ ap (drop (m - n)) e ∙ drop-drop (m - n) n b ∙ ap (λ (k : ℕ). drop k b) s
 
-pub share-small : (c labels : ℕ) → c ≤ 64 → labels ≤ 256 → (labels * c ≤ 16384) × (labels * c * c ≤ 1048576)
-share-small c labels hc hl =
-    let a : labels * c ≤ labels * 64 = mul-le-mul-left labels hc in
-    let b : labels * c * c ≤ labels * c * 64 = mul-le-mul-left (labels * c) hc in
-    (omega arith, omega arith)
+pub power-pos : (w : ℕ) → Power w → 0 < w
+power-pos w p = rw (p .1) (pow-pos (p .0))
 
-pub times-small : (a c labels : ℕ) → a < 256 → c ≤ 64 → labels ≤ 256 → a * (labels * c * c) ≤ 268435456
-times-small a c labels ha hc hl =
-    let b : a * (labels * c * c) ≤ 256 * (labels * c * c) = mul-le-mul-right (labels * c * c) (omega arith) in
-    omega (arith, share-small c labels hc hl)
-
-pub next-share : (r m s : ℕ) → r < m → r * s + s ≤ m * s
-next-share r m s h = subst (λ (n : ℕ). n ≤ m * s) (suc-mul r s) (mul-le-mul-right s h)
-
-pub room-of : (x : Decoded) (r c labels n f g : ℕ) → Fits x r c labels n → Room (planOf x r c labels f g) n
+pub room-of : (x : Decoded) (r : ℕ) (s : Shape) (n f g : ℕ) → Fits x r s n → Room (planOf x r s f g) n
 unfolding successorOf
-room-of x r c labels n f₁ f₂ f = record {
-  ceiling = f .ceiling;
-  some-state = f .some-state;
-  few = f .few;
-  first-small = omega (arith, times-small (x .first) c labels (f .first-in) (f .ceiling) (f .few));
-  second-small = omega (arith, times-small (x .second) c labels (f .second-in) (f .ceiling) (f .few));
-  wx-pos = f .wx-pos;
-  wx-small = f .wx-small;
-  wy-pos = f .wy-pos;
-  wy-small = f .wy-small;
+room-of x r s n f₁ f₂ f = record {
+  ranged = record {
+    shape = f .shape;
+    first-small = omega (arith, shares-small s (f .shape) (x .first) (f .first-in));
+    second-small = omega (arith, shares-small s (f .shape) (x .second) (f .second-in));
+    wx-pos = power-pos (x .wx) (f .wx-power);
+    wx-small = f .wx-small;
+    wy-pos = power-pos (x .wy) (f .wy-power);
+    wy-small = f .wy-small;
+  };
   share = f .share;
-  blind = λ low l y z.
-      kind-blind (entry low c (x .first * (labels * c * c))) (entry low c (x .second * (labels * c * c)))
-      (x .wx) (x .wy) f₁ f₂ (f .wx-power) (f .wy-power) l y z (x .kind);
+  blind = λ low l xs.
+      kind-blind (entry s low (shareAt s (x .first))) (entry s low (shareAt s (x .second))) (x .wx) (x .wy) f₁ f₂ (f .wx-power) (f .wy-power) l xs (x .kind);
 }
 
 -- ---- what is asked of the parts
@@ -95,188 +85,165 @@ accept-parts And a b a′ b′ cs h = ap₂ (λ (n m : ℕ). acceptOf And n m cs
 accept-parts Exists a b a′ b′ cs h = ap (λ (n : ℕ). acceptOf Exists n b cs) h
 
 -- ---- a share's bytes: entries, and where none stands what was there
-pub placed : (c labels r : ℕ) (m : Mach) (k : Summary) (ws ws′ : List ℕ) → Stored c labels (r * (labels * c * c)) m k ws′
-    → ((q : ℕ) → Bare (r * (labels * c * c)) c (k .looks) (length (m .codes)) q → getD ws′ q 0 ≡ getD ws q 0) → Placed c labels r m k ws ws′
-unfolding shareByte entry addr
-placed c labels r m k ws ws′ s bare =
-    record { stored = s; bytes = λ q h. byte q h (leb (q / c / c) (seen (k .looks) (q / c / c))) (ltb (q / c % c) n) (ltb (q % c) n) refl refl refl }
-  where
-    base : ℕ
-    base = r * (labels * c * c)
+module _ (s : Shape) (r : ℕ) (m : Mach) (k : Summary) (ws ws′ : List ℕ) (stored : Stored s (shareAt s r) m k ws′)
+    (bare : (q : ℕ) → Bare s (shareAt s r) (k .looks) (length (m .codes)) q → getD ws′ q 0 ≡ getD ws q 0) where
+  abbrev n : ℕ
+  n = length (m .codes)
 
-    n : ℕ
-    n = length (m .codes)
+  pos : 0 < s .ceiling
+  pos = omega (arith, stored .some-state, stored .few)
 
-    byte : (q : ℕ) → q < labels * c * c → (u v w : Bool) → leb (q / c / c) (seen (k .looks) (q / c / c)) ≡ u → ltb (q / c % c) n ≡ v → ltb (q % c) n ≡ w
-        → getD ws′ (base + q) 0 ≡ cond (u && (v && w)) (m .step (q / c / c) (q / c % c) (q % c)) (getD ws (base + q) 0)
-    byte q h u v w eu ev ew = go u v w eu ev ew
-      where
-        l : ℕ
-        l = q / c / c
+  byte : (q : ℕ) → q < shareOf s → (u v : Bool) → leb (labelAt s q) (seen (k .looks) (labelAt s q)) ≡ u → areBelow n (statesAt s q) ≡ v
+      → getD ws′ (shareAt s r + q) 0 ≡ cond (u && v) (m .step (labelAt s q) (statesAt s q)) (getD ws (shareAt s r + q) 0)
+  unfolding entry
+  byte q h u v eu ev = go u v eu ev
+    where
+      l : ℕ
+      l = labelAt s q
 
-        i : ℕ
-        i = q / c % c
+      is : List ℕ
+      is = statesAt s q
 
-        j : ℕ
-        j = q % c
+      -- where no entry stands
+      old : (l ≤ seen (k .looks) l → Tuple (s .branches) n is → ⊥) → getD ws′ (shareAt s r + q) 0 ≡ getD ws (shareAt s r + q) 0
+      old gone = bare (shareAt s r + q) (λ l′ is′ hs t e.
+          let d = place-one s l l′ is is′ (states-at s pos q) (tuple-up (stored .few) t) (place-at s q ∙ omega arith) in
+          gone (subst (λ (z : ℕ). z ≤ seen (k .looks) z) (sym (d .0)) hs) (subst (Tuple (s .branches) n) (sym (d .1)) t))
 
-        pos : 0 < c
-        pos = omega (arith, s .some-state, s .few)
+      go : (u v : Bool) → leb l (seen (k .looks) l) ≡ u → areBelow n is ≡ v
+          → getD ws′ (shareAt s r + q) 0 ≡ cond (u && v) (m .step l is) (getD ws (shareAt s r + q) 0)
+      go true true eu ev =
+          let e : seen (k .looks) l ≡ l = omega (arith, leb-true l (seen (k .looks) l) eu, seen-le (k .looks) l) in
+          ap (λ (z : ℕ). getD ws′ (shareAt s r + z) 0) (sym (place-at s q) ∙ ap (λ (z : ℕ). placeIn s z is) (sym e))
+          ∙ stored .holds l is (label-at s pos q h) (record { long = states-at s pos q .long; below = each-below n is ev }) .0
+      go false v eu ev = old (λ a t. omega (arith, leb-false l (seen (k .looks) l) eu))
+      go true false eu ev = old (λ a t. let z : true ≡ false = sym (are-below n (t .below)) ∙ ev in let y : _≡_ {A = ℕ} 0 1 = cc in omega arith)
 
-        whole : q ≡ (l * c + i) * c + j
-        whole = sym (ap (λ (z : ℕ). z * c + j) (div-add-mod' (q / c) c) ∙ div-add-mod' q c)
+  pub placed : Placed s r m k ws ws′
+  unfolding shareByte
+  placed = record { stored = stored; bytes = λ q h. byte q h _ _ refl refl }
 
-        label : l < labels
-        label = elim (decLt l labels) [
-          | yes y ↦ y
-          | no y ↦
-              let over : labels ≤ l = omega arith in
-              let a : labels * c * c ≤ l * c * c = mul-le-mul-right c (mul-le-mul-right c over) in
-              let low : l * c ≤ q / c = omega (arith, div-add-mod' (q / c) c) in
-              let b : l * c * c ≤ q / c * c = mul-le-mul-right c low in
-              absurd (omega (arith, div-add-mod' q c))
-        ]
-
-        -- where no entry stands
-        old : (l ≤ seen (k .looks) l → i < n → j < n → ⊥) → getD ws′ (base + q) 0 ≡ getD ws (base + q) 0
-        old gone = bare (base + q) (λ l′ i′ j′ hs hi hj e.
-            let d = addr-one c l i j l′ i′ j′ (mod-lt (q / c) pos) (mod-lt q pos) (omega (arith, s .few)) (omega (arith, s .few)) (sym whole ∙ omega arith) in
-            gone (subst (λ (z : ℕ). z ≤ seen (k .looks) z) (sym (d .0)) hs) (omega (arith, d .1)) (omega (arith, d .2)))
-
-        go : (u v w : Bool) → leb l (seen (k .looks) l) ≡ u → ltb i n ≡ v → ltb j n ≡ w
-            → getD ws′ (base + q) 0 ≡ cond (u && (v && w)) (m .step l i j) (getD ws (base + q) 0)
-        go true true true eu ev ew =
-            let e : seen (k .looks) l ≡ l = omega (arith, leb-true l (seen (k .looks) l) eu, seen-le (k .looks) l) in
-            ap (λ (z : ℕ). getD ws′ (base + z) 0) (whole ∙ ap (λ (z : ℕ). (z * c + i) * c + j) (sym e)) ∙ s .holds l i j label (ltb-true i n ev)
-            (ltb-true j n ew) .0
-        go false v w eu ev ew = old (λ a b d. omega (arith, leb-false l (seen (k .looks) l) eu))
-        go true false w eu ev ew = old (λ a b d. omega (arith, ltb-false i n ev))
-        go true true false eu ev ew = old (λ a b d. omega (arith, ltb-false j n ew))
-
-module _ (x : Decoded) (r c labels : ℕ) (kf kg : Summary) (ws : List ℕ) (f g : Mach) (fits : Fits x r c labels (length ws)) (sound : Sound x r labels)
-    (stored : PartsStored x c labels kf kg ws f g) where
-  abbrev share : ℕ
-  share = labels * c * c
-
+-- ---- a record and its parts
+module _ (x : Decoded) (r : ℕ) (s : Shape) (kf kg : Summary) (ws : List ℕ) (f g : Mach) (fits : Fits x r s (length ws))
+    (stored : PartsStored x s kf kg ws f g) where
   abbrev low : List ℕ
-  low = take (r * share) ws
+  low = take (shareAt s r) ws
 
   abbrev plan : Plan
-  plan = planOf x r c labels (kf .looks) (kg .looks)
-
-  -- the parts' steps, from their tables
-  abbrev first : ℕ → ℕ → ℕ → ℕ
-  first = through (kf .looks) (entry low c (x .first * share))
-
-  abbrev second : ℕ → ℕ → ℕ → ℕ
-  second = through (kg .looks) (entry low c (x .second * share))
+  plan = planOf x r s (kf .looks) (kg .looks)
 
   -- an earlier machine's table lies before the share
-  part-at : (a : ℕ) (k : Summary) (m : Mach) → a < r → Stored c labels (a * share) m k ws
-      → Part labels (through (k .looks) (entry low c (a * share))) (m .step) (length (m .codes))
+  part-at : (a : ℕ) (k : Summary) (m : Mach) → a < r → Stored s (shareAt s a) m k ws
+      → Part s (through (k .looks) (entry s low (shareAt s a))) (m .step) (length (m .codes))
   unfolding entry through
-  part-at a k m h s = record {
-    zero-in = s .some-state;
-    few = omega (arith, s .few, fits .ceiling);
-    same = λ l i j hl hi hj.
+  part-at a k m h st = record {
+    zero-in = st .some-state;
+    few = omega (arith, st .few, fits .shape .ceiling);
+    same = λ l is hl t.
         let b = seen (k .looks) l in
-        let near : a * share + addr c b i j < r * share =
-        digits-lt h (addr-lt labels c b i j (omega (arith, seen-le (k .looks) l)) (omega (arith, s .few)) (omega (arith, s .few))) in
-        (getD-take (r * share) ws (a * share + addr c b i j) 0 near ∙ s .holds l i j hl hi hj .0, s .holds l i j hl hi hj .1);
+        let near = place-before s a r b is h (omega (arith, seen-le (k .looks) l)) (tuple-up (st .few) t) in
+        (getD-take (shareAt s r) ws (shareAt s a + placeIn s b is) 0 near ∙ st .holds l is hl t .0, st .holds l is hl t .1);
   }
 
-  parts : OfParts (x .kind) ((x .first < r) × Stored c labels (x .first * share) f kf ws) ((x .second < r) × Stored c labels (x .second * share) g kg ws)
-  parts =
-      parts-both (x .kind) (x .first < r) (Stored c labels (x .first * share) f kf ws) (x .second < r) (Stored c labels (x .second * share) g kg ws)
-      (sound .before) stored
+  -- the parts that the kind has come before the record, and are stored
+  abbrev First : Type 0
+  First = (x .first < r) × Stored s (shareAt s (x .first)) f kf ws
 
-  same : Same (x .kind) (x .wx) (x .wy) c labels first (f .step) second (g .step)
+  abbrev Second : Type 0
+  Second = (x .second < r) × Stored s (shareAt s (x .second)) g kg ws
+
+  parts : OfParts (x .kind) First Second
+  parts =
+      parts-both (x .kind) (x .first < r) (Stored s (shareAt s (x .first)) f kf ws) (x .second < r) (Stored s (shareAt s (x .second)) g kg ws)
+      (fits .before) stored
+
+  same : Same (x .kind) s (x .wx) (x .wy) (firstStep low plan) (f .step) (secondStep low plan) (g .step)
   same =
-      record-same (x .wx) (x .wy) c labels (length (f .codes)) (length (g .codes)) first (f .step) second (g .step) (fits .ceiling) (fits .some-state)
-      (sound .bit) (x .kind)
-      (parts-map (x .kind) (λ w. part-at (x .first) kf f (w .0) (w .1)) (λ w. part-at (x .second) kg g (w .0) (w .1)) parts)
+      record-same s (fits .shape) (x .wx) (x .wy) (fits .bit) (length (f .codes)) (length (g .codes)) (firstStep low plan) (f .step) (secondStep low plan)
+      (g .step) (x .kind) (parts-map (x .kind) (λ w. part-at (x .first) kf f (w .0) (w .1)) (λ w. part-at (x .second) kg g (w .0) (w .1)) parts)
 
   -- the table of the part of an "exists" lies before the share, and leads to the part's states
   pub led-of : Led low plan
   unfolding through
   led-of e =
-      let w = subst (λ (k : Kind). OfParts k ((x .first < r) × Stored c labels (x .first * share) f kf ws)
-      ((x .second < r) × Stored c labels (x .second * share) g kg ws)) e parts in
+      let w = subst (λ (k : Kind). OfParts k First Second) e parts in
       let p = part-at (x .first) kf f (w .0) (w .1) in (
         length (f .codes),
         record {
           some-state = p .zero-in;
           few = w .1 .few;
-          share = omega (arith, next-share (x .first) r share (w .0), length-take-le (r * share) ws (omega (arith, fits .share)));
-          bit = sound .bit;
-          stays = λ l i j hl hi hj. let s = p .same l i j hl hi hj in omega (arith, s .0, s .1);
+          share = omega (arith, share-next s (x .first) r (w .0), length-take-le (shareAt s r) ws (omega (arith, fits .share)));
+          bit = fits .bit;
+          stays = λ l is hl t. let z = p .same l is hl t in omega (arith, z .0, z .1);
         },
       )
 
   -- the record is explored
   module _ (explored : isNot (x .kind) ≡ false) (b : Builder) (ws′ : List ℕ) (done : Explored (succIn ws plan) plan (startOf low plan) b ws ws′)
       (k : Summary) (is-count : k .count ≡ b .count) where
-    from-tables : listed c b ≡ codesOf (x .kind) first second (x .wx) (x .wy) c labels
+    from-tables : listed (s .ceiling) b ≡ codesOf (x .kind) s (firstStep low plan) (secondStep low plan) (x .wx) (x .wy)
     unfolding codesOf successorOf
     from-tables = done .list
 
-    made : (o : Option (List ℕ)) → listed c b ≡ o → machineOf c labels x f g ≡ numberedBy (machFrom x f g) o
+    made : (o : Option (List ℕ)) → listed (s .ceiling) b ≡ o → machineOf s x f g ≡ numberedBy (machFrom x f g) o
     unfolding machineOf
     made o e = rw explored (ap (numberedBy (machFrom x f g)) (sym (same .codes) ∙ sym from-tables ∙ e))
 
-    pub added-many : c < b .count → Added x c labels r kf kg f g k ws ws′
-    added-many h = record { many = λ _. made none (rw (lt-leb (b .count) c h)); few = λ l. absurd (omega arith); looks = λ l. absurd (omega arith) }
+    pub added-many : s .ceiling < b .count → Added x s r kf kg f g k ws ws′
+    added-many h =
+        record { many = λ _. made none (rw (lt-leb (b .count) (s .ceiling) h)); few = λ l. absurd (omega arith); looks = λ l. absurd (omega arith) }
 
-    module _ (full : length (b .codes) ≡ 64) (few : b .count ≤ c) where
+    module _ (full : length (b .codes) ≡ 64) (few : b .count ≤ s .ceiling) where
       abbrev cs : List ℕ
       cs = take (b .count) (b .codes)
 
-      is-cs : listed c b ≡ some cs
-      is-cs = rw (le-leb (b .count) c few)
+      abbrev mach : Mach
+      mach = machFrom x f g cs
+
+      is-cs : listed (s .ceiling) b ≡ some cs
+      is-cs = rw (le-leb (b .count) (s .ceiling) few)
 
       count-cs : length cs ≡ b .count
-      count-cs = length-take-le (b .count) (b .codes) (omega (arith, fits .ceiling))
+      count-cs = length-take-le (b .count) (b .codes) (omega (arith, fits .shape .ceiling))
 
-      found : Found (kindCode (x .kind) first second (x .wx) (x .wy)) c labels (startCode (x .kind) first (x .wx)) (fits .some-state) (λ (z : ℕ). Unit {0}) cs
+      some-few : (0 < length cs) × (length cs ≤ s .ceiling)
       unfolding codesOf
-      found = explore-some (kindCode (x .kind) first second (x .wx) (x .wy)) c labels (startCode (x .kind) first (x .wx)) (fits .some-state) cs
-          (sym from-tables ∙ is-cs)
+      some-few =
+          let found = explore-some (kindCode (x .kind) (firstStep low plan) (secondStep low plan) (x .wx) (x .wy)) (s .ceiling) (labelsIn s)
+          (startCode (x .kind) (s .branches) (firstStep low plan) (x .wx)) (fits .shape .some-state) cs (sym from-tables ∙ is-cs) in
+          (found .some-code, found .few)
 
-      new-holds : Holds ws′ c labels (r * share) (plan .looks) (length cs) (machFrom x f g cs .step)
+      new-holds : Holds s ws′ (shareAt s r) (plan .looks) (length cs) (mach .step)
       unfolding entry stepOf successorOf
-      new-holds l i j hl hi hj =
-          let m = seen (plan .looks) l in
-          let cell : Cell (succIn ws plan) c (r * share) (some cs) ws′ m i j =
-          subst (λ (o : Option (List ℕ)). Cell (succIn ws plan) c (r * share) o ws′ m i j) is-cs
-          (done .cells l i j hl (omega (arith, count-cs)) (omega (arith, count-cs)) (omega (arith, count-cs)) (omega (arith, count-cs))) in
-          let alike = ap (λ (y : ℕ). position y cs) (room-of x r c labels (length ws) (kf .looks) (kg .looks) fits .blind low l (getD cs i 0) (getD cs j 0)) in
-          let eq = alike ∙ same .steps cs (sym from-tables ∙ is-cs) l i j hl hi hj in
-          (cell .3 ∙ eq, subst (λ (n : ℕ). n < length cs) eq (cell .2 .2))
+      new-holds l is hl t =
+          let cell : Entered (succIn ws plan) plan cs ws′ (record { label = l; states = is }) =
+          subst (λ (o : Option (List ℕ)). Cell (succIn ws plan) plan o ws′ (record { label = l; states = is })) is-cs
+          (done .cells (record { label = l; states = is }) hl (tuple-up (omega (arith, count-cs)) t)) in
+          let eq = same .steps cs (sym from-tables ∙ is-cs) l is hl t in
+          (cell .written ∙ eq, subst (λ (n : ℕ). n < length cs) eq (cell .code))
 
-      pub added-few : k .accept ≡ acceptOf (x .kind) (kf .accept) (kg .accept) cs → k .looks ≡ plan .looks → Added x c labels r kf kg f g k ws ws′
+      pub added-few : k .accept ≡ acceptOf (x .kind) (kf .accept) (kg .accept) cs → k .looks ≡ plan .looks → Added x s r kf kg f g k ws ws′
       added-few ea el = record {
         many = λ h. absurd (omega arith);
         looks = λ _. el;
         few = λ _. (
-          machFrom x f g cs,
+          mach,
           made (some cs) is-cs,
-          placed c labels r (machFrom x f g cs) k ws ws′ (record {
+          placed s r mach k ws ws′ (record {
             count = is-count ∙ sym count-cs;
             accept =
                 ea ∙ accept-parts (x .kind) (kf .accept) (kg .accept) (f .accept) (g .accept) cs (parts-map (x .kind) (λ s. s .accept) (λ s. s .accept) stored);
-            holds = subst (λ (l : ℕ). Holds ws′ c labels (r * share) l (length cs) (machFrom x f g cs .step)) (sym el) new-holds;
-            some-state = found .some-code;
-            few = found .few;
-          }) (λ q off. done .bare q (λ l i j hs hi hj. off l i j (subst (λ (b : ℕ). l ≤ seen b l) (sym el) hs) (omega (arith, count-cs))
-              (omega (arith, count-cs)))),
+            holds = subst (λ (l : ℕ). Holds s ws′ (shareAt s r) l (length cs) (mach .step)) (sym el) new-holds;
+            some-state = some-few .0;
+            few = some-few .1;
+          }) (λ q off. done .bare q (λ l is hs t. off l is (subst (λ (b : ℕ). l ≤ seen b l) (sym el) hs) (tuple-up (omega (arith, count-cs)) t))),
         );
       }
 
 -- what a plan's exploration leaves as it was
-pub explored-spared : (x : Decoded) (r c labels f g : ℕ) (ws ws′ : List ℕ) (b : Builder)
-    → Explored (succIn ws (planOf x r c labels f g)) (planOf x r c labels f g) (startOf (take (r * (labels * c * c)) ws) (planOf x r c labels f g)) b ws ws′
-    → Spared c labels r ws ws′
-explored-spared x r c labels f g ws ws′ b done = record {
-  low = λ k h. sym (getD-take (r * (labels * c * c)) ws′ k 0 h) ∙ ap (λ (l : List ℕ). getD l k 0) (done .low) ∙ getD-take (r * (labels * c * c)) ws k 0 h;
-  high = done .high;
+pub explored-spared : (x : Decoded) (r : ℕ) (s : Shape) (f g : ℕ) (ws ws′ : List ℕ) (b : Builder)
+    → Explored (succIn ws (planOf x r s f g)) (planOf x r s f g) (startOf (take (shareAt s r) ws) (planOf x r s f g)) b ws ws′ → Spared s r ws ws′
+explored-spared x r s f g ws ws′ b done = record {
+  low = λ k h. sym (getD-take (shareAt s r) ws′ k 0 h) ∙ ap (λ (l : List ℕ). getD l k 0) (done .kept .low) ∙ getD-take (shareAt s r) ws k 0 h;
+  high = done .kept .high;
 }

@@ -1,27 +1,27 @@
 -- The machine of "not" is its part's with the other states accepting, so its table is copied. What the copying ensures.
 -- Document 01, "Machines": "Not flips acceptance." Assumes nothing.
-use Prim.Native.Nat.{ℕ, _+_, _*_, _≤_, _<_}
+use Prim.Native.Nat.{ℕ, _+_, _≤_, _<_}
 use mathlib.Core.Path.{_≡_}
-use mathlib.Core.List.{List}
-use lib.ListN.{getD, drop}
-use Rattle.table.specs.Entry.{addr, seen, Bare}
+use mathlib.Core.List.{List, [], _∷_}
+use lib.ListN.{length, getD}
+use Rattle.layout.specs.Shape.{placeIn, Tuple}
+use Rattle.layout.specs.declared.Shape.{Shape}
+use Rattle.table.specs.Entry.{seen}
 
--- the n bytes at one place are copied to a later one
-pub record Copied (ws ws′ : List ℕ) (from to n : ℕ) : Type 0 where
-  pub there : (k : ℕ) → k < n → getD ws′ (to + k) 0 ≡ getD ws (from + k) 0
-  pub low : (k : ℕ) → k < to → getD ws′ k 0 ≡ getD ws k 0
-  pub high : drop (to + n) ws′ ≡ drop (to + n) ws
+-- the bytes at some offsets from one place are copied to those from another, and no other byte is changed
+pub record Copied (at : ℕ → Type 0) (from to : ℕ) (ws ws′ : List ℕ) : Type 0 where
+  pub long : length ws′ ≡ length ws
+  pub there : (k : ℕ) → at k → getD ws′ (to + k) 0 ≡ getD ws (from + k) 0
+  pub rest : (q : ℕ) → ((k : ℕ) → at k → q ≡ to + k → ⊥) → getD ws′ q 0 ≡ getD ws q 0
 
--- from the table at `from` to the later one at `to`, the entries for label l, a state below m and a state below n are copied
-pub record RowsCopied (ws ws′ : List ℕ) (from to c l n m : ℕ) : Type 0 where
-  pub there : (i j : ℕ) → i < m → j < n → getD ws′ (to + addr c l i j) 0 ≡ getD ws (from + addr c l i j) 0
-  pub low : (k : ℕ) → k < to + l * c * c → getD ws′ k 0 ≡ getD ws k 0
-  pub high : drop (to + (l * c + m) * c) ws′ ≡ drop (to + (l * c + m) * c) ws
-  pub bare : (k : ℕ) → ((i j : ℕ) → i < m → j < n → k ≡ to + addr c l i j → ⊥) → getD ws′ k 0 ≡ getD ws k 0
+-- the first n bytes
+abbrev pub Bytes : ℕ → ℕ → Type 0
+Bytes n k = k < n
 
--- the same for the states below n and each label below l with no bit but those given
-pub record TableCopied (ws ws′ : List ℕ) (from to c bits n l : ℕ) : Type 0 where
-  pub there : (m i j : ℕ) → m < l → m ≤ seen bits m → i < n → j < n → getD ws′ (to + addr c m i j) 0 ≡ getD ws (from + addr c m i j) 0
-  pub low : (k : ℕ) → k < to → getD ws′ k 0 ≡ getD ws k 0
-  pub high : drop (to + l * c * c) ws′ ≡ drop (to + l * c * c) ws
-  pub bare : (k : ℕ) → Bare to c bits n k → getD ws′ k 0 ≡ getD ws k 0
+-- the entries for label l, a first state below m and a second below n
+abbrev pub Rows : Shape → ℕ → ℕ → ℕ → ℕ → Type 0
+Rows s l n m k = (i : ℕ) × (j : ℕ) × (i < m) × (j < n) × (k ≡ placeIn s l (i ∷ j ∷ []))
+
+-- the entries for states below n and each label below l with no bit but those given
+abbrev pub Entries : Shape → ℕ → ℕ → ℕ → ℕ → Type 0
+Entries s bits n l k = (m : ℕ) × (is : List ℕ) × (m < l) × (m ≤ seen bits m) × Tuple (s .branches) n is × (k ≡ placeIn s m is)

@@ -1,37 +1,39 @@
 -- The machine of a record, from the machines of its parts. Document 01, "Machines": which states of each atom accept; "Not flips
 -- acceptance. Or and and run pairs. Exists runs sets of states. .. A set accepts if it holds an accepting state."
 -- Assumes nothing.
-use Prim.Native.Nat.{ℕ, _/_, _%_, _<_}
+use Prim.Native.Nat.{ℕ, _<_}
 use mathlib.Core.List.{List}
 use mathlib.Core.Option.{Option}
 use mathlib.Core.Path.{_≡_}
 use mathlib.Core.Bool.{Bool, false, not, _&&_, _||_, cond}
 use lib.Dec.{eqb, ltb, leb}
 use lib.ListN.{length, getD}
+use Rattle.layout.specs.Shape.{labelsIn, labelAt, statesAt, Tuple}
+use Rattle.layout.specs.declared.Shape.{Shape}
 use Rattle.words.specs.Word.{mem, any, wordOf}
-use Rattle.table.specs.declared.plan.Kind.the-variants.{Subset, Single, Child1, Child2, Root, Not, Or, And, Exists}
-use Rattle.exploring.specs.Explore.{explore}
 use Rattle.table.specs.Entry.{seen, Step, entry}
-use Rattle.table.specs.Succ.{kindCode, startCode}
+use Rattle.table.specs.Succ.{firstPart, secondPart, kindCode, startCode}
 use Rattle.table.specs.declared.plan.Kind.{Kind}
+use Rattle.table.specs.declared.plan.Kind.the-variants.{Subset, Single, Child1, Child2, Root, Not, Or, And, Exists}
+use Rattle.exploring.specs.Explore.{codesAt, areBelow, explore}
 use Rattle.logic.specs.Reach.{position}
 
--- the codes of a record's states, or none where there are more than c
-unfoldable pub codesOf : Kind → Step → Step → ℕ → ℕ → ℕ → ℕ → Option (List ℕ)
-codesOf k f g wx wy c labels = explore (kindCode k f g wx wy) c labels (startCode k f wx)
+-- the codes of a record's states, or none where there are more than the ceiling
+unfoldable pub codesOf : Kind → Shape → Step → Step → ℕ → ℕ → Option (List ℕ)
+codesOf k s f g wx wy = explore (kindCode k f g wx wy) (s .ceiling) (labelsIn s) (startCode k (s .branches) f wx)
 
 -- a record's step, from its successor codes and its codes
-unfoldable pub stepOf : (ℕ → ℕ → ℕ → ℕ) → List ℕ → Step
-stepOf succ cs l i j = position (succ l (getD cs i 0) (getD cs j 0)) cs
+unfoldable pub stepOf : Step → List ℕ → Step
+stepOf succ cs l is = position (succ l (codesAt cs is)) cs
 
 -- the table at place a holds the steps of a machine of n states that looks at the bits b
-abbrev pub Holds : List ℕ → ℕ → ℕ → ℕ → ℕ → ℕ → Step → Type 0
-Holds low c labels a b n f = (l i j : ℕ) → l < labels → i < n → j < n → (entry low c a (seen b l) i j ≡ f l i j) × (f l i j < n)
+abbrev pub Holds : Shape → List ℕ → ℕ → ℕ → ℕ → Step → Type 0
+Holds s low a b n f = (l : ℕ) (is : List ℕ) → l < labelsIn s → Tuple (s .branches) n is → (entry s low a (seen b l) is ≡ f l is) × (f l is < n)
 
--- the byte at place k of a share in which a machine of n states is stored that looks at the bits b: where an entry stands, its step, and
+-- the byte at place q of a share in which a machine of n states is stored that looks at the bits b: where an entry stands, its step, and
 -- else the byte that was there
-unfoldable pub shareByte : ℕ → ℕ → ℕ → Step → ℕ → ℕ → ℕ
-shareByte c b n f k old = cond (leb (k / c / c) (seen b (k / c / c)) && (ltb (k / c % c) n && ltb (k % c) n)) (f (k / c / c) (k / c % c) (k % c)) old
+unfoldable pub shareByte : Shape → ℕ → ℕ → Step → ℕ → ℕ → ℕ
+shareByte s b n f q old = cond (leb (labelAt s q) (seen b (labelAt s q)) && areBelow n (statesAt s q)) (f (labelAt s q) (statesAt s q)) old
 
 -- does the state with code x accept, where a and b are the accepting states of the parts; "not" is not explored
 abbrev pub acceptBy : Kind → ℕ → ℕ → ℕ → Bool
@@ -41,8 +43,8 @@ acceptBy Child1 a b x = eqb x 2
 acceptBy Child2 a b x = eqb x 2
 acceptBy Root a b x = eqb x 1
 acceptBy Not a b x = false
-acceptBy Or a b x = mem (x / 64 % 64) a || mem (x % 64) b
-acceptBy And a b x = mem (x / 64 % 64) a && mem (x % 64) b
+acceptBy Or a b x = mem (firstPart x) a || mem (secondPart x) b
+acceptBy And a b x = mem (firstPart x) a && mem (secondPart x) b
 acceptBy Exists a b x = any (λ (q : ℕ). mem q x && mem q a) 64
 
 -- the accepting states of a record

@@ -1,12 +1,17 @@
 -- The machines of a rule's records, one after the other. Document 01, "Machines": "Counts and accepting sets are kept with one entry for
 -- each of the 128 possible records"; "What each operation turns down": "14, with the record's number, for the first record in strip order
 -- with more than c states. All records are built". Assumes nothing.
-use Prim.Native.Nat.{ℕ, zero, suc, _+_, _-_, _*_, _≤_, _<_}
+use Prim.Native.Nat.{ℕ, zero, suc, _+_, _≤_, _<_}
 use mathlib.Core.Path.{_≡_}
 use mathlib.Core.Bool.{Bool, true, false, cond}
 use mathlib.Core.List.{List, [], _∷_, _++_}
 use mathlib.Core.Option.{Option, none, some}
 use lib.ListN.{length, getD, drop}
+use Rattle.layout.specs.Shape.{Shaped, labelsIn, shareOf, shareAt}
+use Rattle.layout.specs.declared.Shape.{Shape}
+use Rattle.words.specs.Word.{mem}
+use Rattle.logic.specs.Machine.{Machine}
+use Rattle.logic.specs.Two.{branching}
 use Rattle.table.specs.Entry.{Step, Bit, Power}
 use Rattle.table.specs.Succ.{kindCode, looksOf}
 use Rattle.records.specs.Machine.{codesOf, stepOf, acceptOf, othersOf, Holds, shareByte}
@@ -25,7 +30,11 @@ pub record Mach : Type 0 where
   pub accept : ℕ
 
 abbrev pub noMach : Mach
-noMach = record { codes = []; step = λ l i j. 0; accept = 0 }
+noMach = record { codes = []; step = λ l is. 0; accept = 0 }
+
+-- the same in the terms of the logic: state 0 is the state of the empty tree
+abbrev pub machOf : Mach → Machine 2 ℕ
+machOf m = branching 0 (m .step) (λ q. mem q (m .accept))
 
 -- the machines so far, or the number of the first record with too many states
 pub data Outcome : Type 0 where
@@ -61,10 +70,10 @@ abbrev pub numberedBy : (List ℕ → Mach) → Option (List ℕ) → Option Mac
 numberedBy make none = none
 numberedBy make (some cs) = some (make cs)
 
--- the machine of a record from its parts' f and g; none where it has more than c states
-unfoldable pub machineOf : ℕ → ℕ → Decoded → Mach → Mach → Option Mach
-machineOf c labels x f g =
-    cond (isNot (x .kind)) (some (complementOf f)) (numberedBy (machFrom x f g) (codesOf (x .kind) (f .step) (g .step) (x .wx) (x .wy) c labels))
+-- the machine of a record from its parts' f and g; none where it has more states than the ceiling
+unfoldable pub machineOf : Shape → Decoded → Mach → Mach → Option Mach
+machineOf s x f g =
+    cond (isNot (x .kind)) (some (complementOf f)) (numberedBy (machFrom x f g) (codesOf (x .kind) s (f .step) (g .step) (x .wx) (x .wy)))
 
 -- the machines with one more, or the record's number
 abbrev pub more : ℕ → List Mach → Option Mach → Outcome
@@ -72,42 +81,24 @@ more r ms none = over r
 more r ms (some m) = built (ms ++ (m ∷ []))
 
 -- after record r
-unfoldable pub after : ℕ → ℕ → ℕ → Decoded → Outcome → Outcome
-after c labels r x (over k) = over k
-after c labels r x (built ms) = more r ms (machineOf c labels x (getD ms (x .first) noMach) (getD ms (x .second) noMach))
+unfoldable pub after : Shape → ℕ → Decoded → Outcome → Outcome
+after s r x (over k) = over k
+after s r x (built ms) = more r ms (machineOf s x (getD ms (x .first) noMach) (getD ms (x .second) noMach))
 
--- the plan of record r, whose parts look at the bits f and g: record a's table starts at a times the share
-abbrev pub planOf : Decoded → ℕ → ℕ → ℕ → ℕ → ℕ → Plan
-planOf x r c labels f g = record {
+-- the plan of record r, whose parts look at the bits f and g
+abbrev pub planOf : Decoded → ℕ → Shape → ℕ → ℕ → Plan
+planOf x r s f g = record {
   kind = x .kind;
-  first = x .first * (labels * c * c);
-  second = x .second * (labels * c * c);
+  first = shareAt s (x .first);
+  second = shareAt s (x .second);
   wx = x .wx;
   wy = x .wy;
-  c = c;
-  labels = labels;
-  base = r * (labels * c * c);
+  shape = s;
+  base = shareAt s r;
   looks = looksOf (x .kind) (x .wx) (x .wy) f g;
   look1 = f;
   look2 = g;
 }
-
--- the numbers are in range, and record r's share is within n bytes
-pub record Fits (x : Decoded) (r c labels n : ℕ) : Type 0 where
-  pub first-in : x .first < 256
-  pub second-in : x .second < 256
-  pub here-in : r < 256
-  pub ceiling : c ≤ 64
-  pub some-state : 0 < c
-  pub some-labels : 2 ≤ labels
-  pub few : labels ≤ 256
-  pub wx-pos : 0 < x .wx
-  pub wx-small : x .wx ≤ 128
-  pub wy-pos : 0 < x .wy
-  pub wy-small : x .wy ≤ 128
-  pub wx-power : Power (x .wx)
-  pub wy-power : Power (x .wy)
-  pub share : r * (labels * c * c) + labels * c * c ≤ n
 
 -- what is asked of the parts that a record of this kind has: of the first, of both, or nothing
 abbrev pub OfParts : Kind → Type 0 → Type 0 → Type 0
@@ -121,83 +112,90 @@ OfParts Or A B = A × B
 OfParts And A B = A × B
 OfParts Exists A B = A
 
--- the parts of record r come before it
-pub record Sound (x : Decoded) (r labels : ℕ) : Type 0 where
+-- record r can be built in a workspace of n bytes: its numbers are in range, its parts come before it, and its share is within
+pub record Fits (x : Decoded) (r : ℕ) (s : Shape) (n : ℕ) : Type 0 where
+  pub shape : Shaped s
+  pub first-in : x .first < 256
+  pub second-in : x .second < 256
+  pub here-in : r < 256
+  pub wx-small : x .wx ≤ 128
+  pub wy-small : x .wy ≤ 128
+  pub wx-power : Power (x .wx)
+  pub wy-power : Power (x .wy)
+  pub bit : Bit (x .wx) (labelsIn s)
   pub before : OfParts (x .kind) (x .first < r) (x .second < r)
-  pub bit : Bit (x .wx) labels
+  pub share : shareAt s r + shareOf s ≤ n
 
 -- what building all records asks of record r: its numbers have entries in the arrays of 128, too
-pub record Buildable (x : Decoded) (r c labels n : ℕ) : Type 0 where
-  pub fits : Fits x r c labels n
-  pub sound : Sound x r labels
+pub record Buildable (x : Decoded) (r : ℕ) (s : Shape) (n : ℕ) : Type 0 where
+  pub fits : Fits x r s n
   pub first-kept : x .first < 128
   pub second-kept : x .second < 128
 
 -- machine m is stored: k keeps its number of states, its accepting states and the bits that it looks at, and the table at `base` its
 -- steps, at the labels that it tells apart
-pub record Stored (c labels base : ℕ) (m : Mach) (k : Summary) (ws : List ℕ) : Type 0 where
+pub record Stored (s : Shape) (base : ℕ) (m : Mach) (k : Summary) (ws : List ℕ) : Type 0 where
   pub count : k .count ≡ length (m .codes)
   pub accept : k .accept ≡ m .accept
-  pub holds : Holds ws c labels base (k .looks) (length (m .codes)) (m .step)
+  pub holds : Holds s ws base (k .looks) (length (m .codes)) (m .step)
   pub some-state : 0 < length (m .codes)
-  pub few : length (m .codes) ≤ c
+  pub few : length (m .codes) ≤ s .ceiling
 
 -- the machines f and g of the parts that record x has are stored, in the shares of their numbers
-abbrev pub PartsStored : Decoded → ℕ → ℕ → Summary → Summary → List ℕ → Mach → Mach → Type 0
-PartsStored x c labels kf kg ws f g =
-    OfParts (x .kind) (Stored c labels (x .first * (labels * c * c)) f kf ws) (Stored c labels (x .second * (labels * c * c)) g kg ws)
+abbrev pub PartsStored : Decoded → Shape → Summary → Summary → List ℕ → Mach → Mach → Type 0
+PartsStored x s kf kg ws f g = OfParts (x .kind) (Stored s (shareAt s (x .first)) f kf ws) (Stored s (shareAt s (x .second)) g kg ws)
 
 -- there are such machines
-abbrev pub SomeParts : Decoded → ℕ → ℕ → Summary → Summary → List ℕ → Type 0
-SomeParts x c labels kf kg ws = (f : Mach) × (g : Mach) × PartsStored x c labels kf kg ws f g
+abbrev pub SomeParts : Decoded → Shape → Summary → Summary → List ℕ → Type 0
+SomeParts x s kf kg ws = (f : Mach) × (g : Mach) × PartsStored x s kf kg ws f g
 
 -- machine m is stored, with the bits b looked at, in the share at base: each of the share's bytes is given by the machine and the byte
 -- that was there
-abbrev pub ShareBytes : ℕ → ℕ → ℕ → Mach → ℕ → List ℕ → List ℕ → Type 0
-ShareBytes c labels base m b ws ws′ =
-    (k : ℕ) → k < labels * c * c → getD ws′ (base + k) 0 ≡ shareByte c b (length (m .codes)) (m .step) k (getD ws (base + k) 0)
+abbrev pub ShareBytes : Shape → ℕ → Mach → ℕ → List ℕ → List ℕ → Type 0
+ShareBytes s base m b ws ws′ =
+    (q : ℕ) → q < shareOf s → getD ws′ (base + q) 0 ≡ shareByte s b (length (m .codes)) (m .step) q (getD ws (base + q) 0)
 
 -- record r's machine m is k's, and fills the record's share
-pub record Placed (c labels r : ℕ) (m : Mach) (k : Summary) (ws ws′ : List ℕ) : Type 0 where
-  pub stored : Stored c labels (r * (labels * c * c)) m k ws′
-  pub bytes : ShareBytes c labels (r * (labels * c * c)) m (k .looks) ws ws′
+pub record Placed (s : Shape) (r : ℕ) (m : Mach) (k : Summary) (ws ws′ : List ℕ) : Type 0 where
+  pub stored : Stored s (shareAt s r) m k ws′
+  pub bytes : ShareBytes s (shareAt s r) m (k .looks) ws ws′
 
 -- record r's machine, from the parts' machines f and g, of which kf and kg are kept, has too many states; or it is placed in the record's
 -- share, and looks at the bits that its kind and its parts give
-pub record Added (x : Decoded) (c labels r : ℕ) (kf kg : Summary) (f g : Mach) (k : Summary) (ws ws′ : List ℕ) : Type 0 where
-  pub many : c < k .count → machineOf c labels x f g ≡ none
-  pub few : k .count ≤ c → (m : Mach) × (machineOf c labels x f g ≡ some m) × Placed c labels r m k ws ws′
-  pub looks : k .count ≤ c → k .looks ≡ looksOf (x .kind) (x .wx) (x .wy) (kf .looks) (kg .looks)
+pub record Added (x : Decoded) (s : Shape) (r : ℕ) (kf kg : Summary) (f g : Mach) (k : Summary) (ws ws′ : List ℕ) : Type 0 where
+  pub many : s .ceiling < k .count → machineOf s x f g ≡ none
+  pub few : k .count ≤ s .ceiling → (m : Mach) × (machineOf s x f g ≡ some m) × Placed s r m k ws ws′
+  pub looks : k .count ≤ s .ceiling → k .looks ≡ looksOf (x .kind) (x .wx) (x .wy) (kf .looks) (kg .looks)
 
 -- whatever machines of the parts are stored
-abbrev pub Adds : Decoded → ℕ → ℕ → ℕ → Summary → Summary → Summary → List ℕ → List ℕ → Type 0
-Adds x c labels r kf kg k ws ws′ = (f g : Mach) → PartsStored x c labels kf kg ws f g → Added x c labels r kf kg f g k ws ws′
+abbrev pub Adds : Decoded → Shape → ℕ → Summary → Summary → Summary → List ℕ → List ℕ → Type 0
+Adds x s r kf kg k ws ws′ = (f g : Mach) → PartsStored x s kf kg ws f g → Added x s r kf kg f g k ws ws′
 
 -- nothing but record r's share is changed
-pub record Spared (c labels r : ℕ) (ws ws′ : List ℕ) : Type 0 where
-  pub low : (k : ℕ) → k < r * (labels * c * c) → getD ws′ k 0 ≡ getD ws k 0
-  pub high : drop (r * (labels * c * c) + labels * c * c) ws′ ≡ drop (r * (labels * c * c) + labels * c * c) ws
+pub record Spared (s : Shape) (r : ℕ) (ws ws′ : List ℕ) : Type 0 where
+  pub low : (q : ℕ) → q < shareAt s r → getD ws′ q 0 ≡ getD ws q 0
+  pub high : drop (shareAt s r + shareOf s) ws′ ≡ drop (shareAt s r + shareOf s) ws
 
 -- what is kept of record a's machine
 abbrev pub entryOf : Machines → ℕ → Summary
-entryOf s a = record { count = getD (s .counts) a 0; accept = getD (s .accepts) a 0; looks = getD (s .looks) a 0 }
+entryOf t a = record { count = getD (t .counts) a 0; accept = getD (t .accepts) a 0; looks = getD (t .looks) a 0 }
 
 -- the machines of the first r records are stored, or the first record with too many states is named
-abbrev pub Made : Outcome → ℕ → ℕ → ℕ → Machines → List ℕ → Type 0
-Made (over k) c labels r s ws = s .ending ≡ Over k
-Made (built ms) c labels r s ws =
-    (s .ending ≡ Ready) × (length ms ≡ r) × ((a : ℕ) → a < r → Stored c labels (a * (labels * c * c)) (getD ms a noMach) (entryOf s a) ws)
+abbrev pub Made : Outcome → Shape → ℕ → Machines → List ℕ → Type 0
+Made (over k) s r t ws = t .ending ≡ Over k
+Made (built ms) s r t ws =
+    (t .ending ≡ Ready) × (length ms ≡ r) × ((a : ℕ) → a < r → Stored s (shareAt s a) (getD ms a noMach) (entryOf t a) ws)
 
--- s has an entry for each possible record
-pub record Wide (s : Machines) : Type 0 where
-  pub counts : length (s .counts) ≡ 128
-  pub accepts : length (s .accepts) ≡ 128
-  pub looks : length (s .looks) ≡ 128
+-- t has an entry for each possible record
+pub record Wide (t : Machines) : Type 0 where
+  pub counts : length (t .counts) ≡ 128
+  pub accepts : length (t .accepts) ≡ 128
+  pub looks : length (t .looks) ≡ 128
 
 abbrev pub noDecoded : Decoded
 noDecoded = record { kind = Subset; first = 0; second = 0; wx = 0; wy = 0 }
 
 -- the machines of the first r records
-unfoldable pub upto : List Decoded → ℕ → ℕ → ℕ → Outcome
-upto xs c labels zero = built []
-upto xs c labels (suc r) = after c labels r (getD xs r noDecoded) (upto xs c labels r)
+unfoldable pub upto : List Decoded → Shape → ℕ → Outcome
+upto xs s zero = built []
+upto xs s (suc r) = after s r (getD xs r noDecoded) (upto xs s r)

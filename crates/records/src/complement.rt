@@ -1,17 +1,18 @@
 // The machine of "not": the table of its part, copied, and the other states.
 ghost use mathlib.Core.Path.{_≡_};
-ghost use Prim.Native.Nat.{_+_, _*_, _≤_, _<_};
+ghost use Prim.Native.Nat.{_+_, _≤_, _<_};
 ghost use lib.ListN.{length};
-ghost use Rattle.records.specs.Complement.{RowsCopied, TableCopied, Copied};
+ghost use Rattle.layout.specs.Shape.{Shaped, labelsIn, shareOf};
+ghost use Rattle.records.specs.Complement.{Bytes, Rows, Entries, Copied};
 ghost use Rattle.records.specs.Machine.{othersOf};
-use table::entries::cell;
+use layout::Shape;
 use words::has;
 use words::with_member;
 
 // n bytes are copied from one place to a later one.
-pub fn copy(ws: &mut [u8], from: usize, to: usize, n: usize)
+fn copy(ws: &mut [u8], from: usize, to: usize, n: usize)
     requires { ⌜ (from + n ≤ to) × (to + n ≤ length (now ws)) ⌝ }
-    ensures { λ _. ⌜ Copied (now (ws .entry)) (now (ws .exit)) from to n ⌝ }
+    ensures { λ _. ⌜ Copied (Bytes n) from to (now (ws .entry)) (now (ws .exit)) ⌝ }
 {
     let mut i = 0;
     while i < n {
@@ -22,35 +23,30 @@ pub fn copy(ws: &mut [u8], from: usize, to: usize, n: usize)
 }
 
 // The entries for label l and the states below n are copied, from the table at from to the later one at to.
-pub fn copy_label(ws: &mut [u8], from: usize, to: usize, c: usize, l: usize, n: usize)
-    requires { ⌜ (c ≤ 64) × (l < 256) × (n ≤ c) × (from + (l * c + c) * c ≤ to) × (to + (l * c + c) * c ≤ length (now ws)) ⌝ }
-    ensures { λ _. ⌜ RowsCopied (now (ws .entry)) (now (ws .exit)) from to c l n n ⌝ }
+fn copy_label(ws: &mut [u8], from: usize, to: usize, s: Shape, l: usize, n: usize)
+    requires { ⌜ Shaped s ⌝ }
+    requires { ⌜ (l < labelsIn s) × (n ≤ s .ceiling) × (from + shareOf s ≤ to) × (to + shareOf s ≤ length (now ws)) ⌝ }
+    ensures { λ _. ⌜ Copied (Rows s l n n) from to (now (ws .entry)) (now (ws .exit)) ⌝ }
 {
     let mut i = 0;
     while i < n {
-        let k = cell(c, l, i, 0);
+        let k = layout::place(s, l, i, 0);
         copy(ws, from + k, to + k, n);
         i += 1;
     }
 }
 
 // The entries for the states below n are copied, at each label with no bit but those given: a table has no others.
-pub fn copy_table(
-    ws: &mut [u8],
-    from: usize,
-    to: usize,
-    c: usize,
-    labels: usize,
-    bits: usize,
-    n: usize,
-)
-    requires { ⌜ (c ≤ 64) × (labels ≤ 256) × (n ≤ c) × (from + labels * c * c ≤ to) × (to + labels * c * c ≤ length (now ws)) ⌝ }
-    ensures { λ _. ⌜ TableCopied (now (ws .entry)) (now (ws .exit)) from to c bits n labels ⌝ }
+pub fn copy_table(ws: &mut [u8], from: usize, to: usize, s: Shape, bits: usize, n: usize)
+    requires { ⌜ Shaped s ⌝ }
+    requires { ⌜ (n ≤ s .ceiling) × (from + shareOf s ≤ to) × (to + shareOf s ≤ length (now ws)) ⌝ }
+    ensures { λ _. ⌜ Copied (Entries s bits n (labelsIn s)) from to (now (ws .entry)) (now (ws .exit)) ⌝ }
 {
+    let labels = layout::labels(s);
     let mut l = 0;
     while l < labels {
         if l <= l & bits {
-            copy_label(ws, from, to, c, l, n);
+            copy_label(ws, from, to, s, l, n);
         }
         l += 1;
     }

@@ -1,16 +1,18 @@
 // The machines of a rule's records, one after the other, each in its share of the workspace.
-pub mod complement; // the machine of "not" from its part's
+mod complement; // the machine of "not" from its part's
 
 ghost use mathlib.Core.Path.{_≡_};
-ghost use Prim.Native.Nat.{ℕ, _+_, _*_, _≤_, _<_};
+ghost use Prim.Native.Nat.{ℕ, _≤_, _<_};
 ghost use lib.ListN.{length, getD, take, drop};
 ghost use Rattle.records.specs.Machine.{acceptBy, acceptOf};
-ghost use Rattle.records.specs.Rule.{planOf, isNot, Fits, Sound, Buildable, SomeParts, Adds, Spared, Made, upto, noDecoded};
+ghost use Rattle.records.specs.Rule.{planOf, isNot, Fits, Buildable, SomeParts, Adds, Spared, Made, upto, noDecoded, entryOf};
+ghost use Rattle.layout.specs.Shape.{Shaped, shareAt};
 ghost use mathlib.Core.Bool.{false};
 ghost use Rattle.table.specs.Succ.{looksOf};
 use crate::complement::copy_table;
 use crate::complement::flipped;
 use exploring::build_plan;
+use layout::Shape;
 use table::entries::cleared;
 use table::plan::Kind;
 use table::plan::Plan;
@@ -19,7 +21,7 @@ use words::meet;
 use words::with_member;
 
 // Does the state with this code accept, where a and b are the accepting states of the parts? A "not" is not explored.
-pub fn accepts(kind: Kind, a: u64, b: u64, x: u64) -> bool
+fn accepts(kind: Kind, a: u64, b: u64, x: u64) -> bool
     ensures { λ r. ⌜ r ≡ acceptBy kind a b x ⌝ }
 {
     match kind {
@@ -36,7 +38,7 @@ pub fn accepts(kind: Kind, a: u64, b: u64, x: u64) -> bool
 }
 
 // The set of the accepting states, where the first codes are the states'.
-pub fn accept_word(codes: &[u64; 64], count: usize, kind: Kind, a: u64, b: u64) -> u64
+fn accept_word(codes: &[u64; 64], count: usize, kind: Kind, a: u64, b: u64) -> u64
     requires { ⌜ (count ≤ 64) × (length (now codes) ≡ 64) ⌝ }
     ensures { λ r. ⌜ r ≡ acceptOf kind a b (take count (now (codes .entry))) ⌝ }
 {
@@ -83,7 +85,7 @@ pub struct Summary {
 }
 
 // The bits that a record looks at, where its parts look at f and g.
-pub fn looks_of(kind: Kind, wx: usize, wy: usize, f: usize, g: usize) -> usize
+fn looks_of(kind: Kind, wx: usize, wy: usize, f: usize, g: usize) -> usize
     requires { ⌜ (0 < wx) × (wx ≤ 128) ⌝ }
     ensures { λ r. ⌜ r ≡ looksOf kind wx wy f g ⌝ }
 {
@@ -99,24 +101,26 @@ pub fn looks_of(kind: Kind, wx: usize, wy: usize, f: usize, g: usize) -> usize
 }
 
 // The plan of record r, whose parts look at f and g.
-pub fn plan_of(x: Decoded, r: usize, c: usize, labels: usize, f: usize, g: usize) -> Plan
-    requires { ⌜ (x .first < 256) × (x .second < 256) × (r < 256) × (c ≤ 64) × (labels ≤ 256) × (0 < x .wx) × (x .wx ≤ 128) ⌝ }
-    ensures { λ p. ⌜ p ≡ planOf x r c labels f g ⌝ }
+fn plan_of(x: Decoded, r: usize, s: Shape, f: usize, g: usize) -> Plan
+    requires { ⌜ Shaped s ⌝ }
+    requires { ⌜ (x .first < 256) × (x .second < 256) × (r < 256) × (0 < x .wx) × (x .wx ≤ 128) ⌝ }
+    ensures { λ p. ⌜ p ≡ planOf x r s f g ⌝ }
 {
-    let share = labels * c * c;
+    let first = layout::share_at(s, x.first as usize);
+    let second = layout::share_at(s, x.second as usize);
+    let base = layout::share_at(s, r);
     let kind = x.kind;
     let wx = x.wx as usize;
     let wy = x.wy as usize;
     let looks = looks_of(kind, wx, wy, f, g);
     Plan {
         kind,
-        first: x.first as usize * share,
-        second: x.second as usize * share,
+        first,
+        second,
         wx,
         wy,
-        c,
-        labels,
-        base: r * share,
+        shape: s,
+        base,
         looks,
         look1: f,
         look2: g,
@@ -124,23 +128,22 @@ pub fn plan_of(x: Decoded, r: usize, c: usize, labels: usize, f: usize, g: usize
 }
 
 // The machine of record r by exploring its states, from what is kept of its parts f and g; its count is above c where it has too many.
-pub fn explore_next(
+fn explore_next(
     ws: &mut [u8],
     x: Decoded,
     f: Summary,
     g: Summary,
     r: usize,
-    c: usize,
-    labels: usize,
+    s: Shape,
 ) -> Summary
-    requires { ⌜ Fits x r c labels (length (now ws)) ⌝ }
-    requires { ⌜ Sound x r labels ⌝ }
+    requires { ⌜ Fits x r s (length (now ws)) ⌝ }
     requires { ⌜ isNot (x .kind) ≡ false ⌝ }
-    requires { ⌜ SomeParts x c labels f g (now ws) ⌝ }
-    ensures { λ k. ⌜ Adds x c labels r f g k (now (ws .entry)) (now (ws .exit)) ⌝ }
-    ensures { λ k. ⌜ Spared c labels r (now (ws .entry)) (now (ws .exit)) ⌝ }
+    requires { ⌜ SomeParts x s f g (now ws) ⌝ }
+    ensures { λ k. ⌜ Adds x s r f g k (now (ws .entry)) (now (ws .exit)) ⌝ }
+    ensures { λ k. ⌜ Spared s r (now (ws .entry)) (now (ws .exit)) ⌝ }
 {
-    let p = plan_of(x, r, c, labels, f.looks as usize, g.looks as usize);
+    let c = s.ceiling;
+    let p = plan_of(x, r, s, f.looks as usize, g.looks as usize);
     let b = build_plan(ws, p);
     let count = b.count;
     if c < count {
@@ -160,27 +163,26 @@ pub fn explore_next(
 }
 
 // The machine of record r, a "not", from its part's: the table is copied, and the other states accept.
-pub fn complement_next(
+fn complement_next(
     ws: &mut [u8],
     x: Decoded,
     f: Summary,
     g: Summary,
     r: usize,
-    c: usize,
-    labels: usize,
+    s: Shape,
 ) -> Summary
-    requires { ⌜ Fits x r c labels (length (now ws)) ⌝ }
-    requires { ⌜ Sound x r labels ⌝ }
+    requires { ⌜ Fits x r s (length (now ws)) ⌝ }
     requires { ⌜ x .kind ≡ Kind.Not ⌝ }
-    requires { ⌜ SomeParts x c labels f g (now ws) ⌝ }
-    ensures { λ k. ⌜ Adds x c labels r f g k (now (ws .entry)) (now (ws .exit)) ⌝ }
-    ensures { λ k. ⌜ Spared c labels r (now (ws .entry)) (now (ws .exit)) ⌝ }
+    requires { ⌜ SomeParts x s f g (now ws) ⌝ }
+    ensures { λ k. ⌜ Adds x s r f g k (now (ws .entry)) (now (ws .exit)) ⌝ }
+    ensures { λ k. ⌜ Spared s r (now (ws .entry)) (now (ws .exit)) ⌝ }
 {
     let first = x.first as usize;
     let n = f.count as usize;
     let bits = f.looks as usize;
-    let share = labels * c * c;
-    copy_table(ws, first * share, r * share, c, labels, bits, n);
+    let from = layout::share_at(s, first);
+    let to = layout::share_at(s, r);
+    copy_table(ws, from, to, s, bits, n);
     let accept = flipped(f.accept, n);
     Summary {
         count: f.count,
@@ -196,24 +198,22 @@ pub fn build_next(
     f: Summary,
     g: Summary,
     r: usize,
-    c: usize,
-    labels: usize,
+    s: Shape,
 ) -> Summary
-    requires { ⌜ Fits x r c labels (length (now ws)) ⌝ }
-    requires { ⌜ Sound x r labels ⌝ }
-    requires { ⌜ SomeParts x c labels f g (now ws) ⌝ }
-    ensures { λ k. ⌜ Adds x c labels r f g k (now (ws .entry)) (now (ws .exit)) ⌝ }
-    ensures { λ k. ⌜ Spared c labels r (now (ws .entry)) (now (ws .exit)) ⌝ }
+    requires { ⌜ Fits x r s (length (now ws)) ⌝ }
+    requires { ⌜ SomeParts x s f g (now ws) ⌝ }
+    ensures { λ k. ⌜ Adds x s r f g k (now (ws .entry)) (now (ws .exit)) ⌝ }
+    ensures { λ k. ⌜ Spared s r (now (ws .entry)) (now (ws .exit)) ⌝ }
 {
     let kind = x.kind;
     match kind {
-        Kind::Not => complement_next(ws, x, f, g, r, c, labels),
-        _ => explore_next(ws, x, f, g, r, c, labels),
+        Kind::Not => complement_next(ws, x, f, g, r, s),
+        _ => explore_next(ws, x, f, g, r, s),
     }
 }
 
 // What is kept of record a's machine.
-pub fn kept(counts: &[u8; 128], accepts: &[u64; 128], looks: &[u8; 128], a: usize) -> Summary
+fn kept(counts: &[u8; 128], accepts: &[u64; 128], looks: &[u8; 128], a: usize) -> Summary
     requires { ⌜ a < 128 ⌝ }
     ensures { λ k. ⌜ k ≡ record { count = getD (now (counts .entry)) a 0; accept = getD (now (accepts .entry)) a 0; looks = getD (now (looks .entry)) a 0 } ⌝ }
 {
@@ -225,18 +225,13 @@ pub fn kept(counts: &[u8; 128], accepts: &[u64; 128], looks: &[u8; 128], a: usiz
 }
 
 // The machines of the first m records. The arrays are written in place: a copy for each record takes longer than a small machine.
-pub fn build_all(
-    ws: &mut [u8],
-    records: [Decoded; 128],
-    m: usize,
-    c: usize,
-    labels: usize,
-) -> Machines
-    requires { ⌜ (0 < m) × (m ≤ 128) ⌝ }
-    requires { ⌜ ((r : ℕ) → r < m → Buildable (getD records r noDecoded) r c labels (length (now ws))) ⌝ }
-    ensures { λ t. ⌜ Made (upto records c labels m) c labels m t (now (ws .exit)) ⌝ }
-    ensures { λ t. ⌜ drop (m * (labels * c * c)) (now (ws .exit)) ≡ drop (m * (labels * c * c)) (now (ws .entry)) ⌝ }
+pub fn build_all(ws: &mut [u8], records: [Decoded; 128], m: usize, s: Shape) -> Machines
+    requires { ⌜ m ≤ 128 ⌝ }
+    requires { ⌜ ((r : ℕ) → r < m → Buildable (getD records r noDecoded) r s (length (now ws))) ⌝ }
+    ensures { λ t. ⌜ Made (upto records s m) s m t (now (ws .exit)) ⌝ }
+    ensures { λ t. ⌜ drop (shareAt s m) (now (ws .exit)) ≡ drop (shareAt s m) (now (ws .entry)) ⌝ }
 {
+    let c = s.ceiling;
     let mut counts = [0u8; 128];
     let mut accepts = [0u64; 128];
     let mut looks = [0u8; 128];
@@ -245,7 +240,7 @@ pub fn build_all(
         let x = records[r];
         let f = kept(&counts, &accepts, &looks, x.first as usize);
         let g = kept(&counts, &accepts, &looks, x.second as usize);
-        let k = build_next(ws, x, f, g, r, c, labels);
+        let k = build_next(ws, x, f, g, r, s);
         if c < k.count as usize {
             return Machines {
                 counts,

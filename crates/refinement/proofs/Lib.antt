@@ -1,5 +1,4 @@
 pub mod Atoms
-pub mod Bytes
 pub mod Records
 pub mod Sets
 pub mod Upto

@@ -1,7 +1,9 @@
 -- The machine that the builder makes of a record, from its parts' machines, is a machine of the record; where it makes none, the record has
 -- more than c states. Assumes nothing.
-use Rattle.words.proofs.Vocabulary.{ℕ, _≤_, _<_, _+_, _-_, _*_, suc, _%_, _^_, _/_, Bool, _||_, _&&_, not, _≡_, _∙_, refl, sym, ap, subst, ap₂, _↔_}
-use Rattle.words.proofs.Vocabulary.{List, some, Option, none, lt-ltb, ltb, length, getD, arith}
+use Rattle.words.proofs.Vocabulary.{ℕ, _≤_, _<_, _+_, _*_, suc, _%_, _^_, _/_, Bool, _||_, _&&_, not, _≡_, _∙_, refl, sym, ap, ap₂, _↔_, List, [], _∷_}
+use Rattle.words.proofs.Vocabulary.{some, Option, none, lt-ltb, ltb, length, getD, arith}
+use Rattle.layout.specs.Shape.{Shaped, Each, nil, cons}
+use Rattle.layout.proofs.Places.{two-of}
 use Rattle.logic.specs.Meaning.{Formula, negation, disjunction, conjunction, exists as someF}
 use Rattle.logic.specs.Machine.{Machine, complement, product, Simulates}
 use Rattle.logic.specs.Reach.{below, Reached, stepped, started, numbered}
@@ -14,107 +16,104 @@ use Rattle.logic.proofs.Two.{each}
 use Rattle.logic.proofs.Builders.{of-negation, of-disjunction, of-conjunction, of-numbered, full-numbered, of-agrees, full-agrees}
 use Rattle.exploring.specs.Explore.{explore}
 use Rattle.words.specs.Word.{mem}
+use Rattle.table.specs.Entry.{Step}
 use Rattle.table.specs.Succ.{pairCode, kindCode, startCode}
 use Rattle.records.specs.Machine.{codesOf, stepOf, acceptBy, acceptOf, othersOf}
-use Rattle.records.specs.Rule.{Mach, machFrom, complementOf, numberedBy}
+use Rattle.records.specs.Rule.{Mach, machOf, machFrom, complementOf, numberedBy}
 use Rattle.table.specs.declared.plan.Kind.{Kind}
 use Rattle.table.specs.declared.plan.Kind.the-variants.{Or, And, Exists}
 use Rattle.records.specs.declared.Decoded.{Decoded}
-use Rattle.exploring.proofs.Found.{Codes, explore-found, explore-many, explore-closed}
+use Rattle.exploring.proofs.Found.{Codes, Found, explore-found, explore-many, explore-closed}
 use Rattle.exploring.proofs.Place.{place-own}
 use Rattle.words.proofs.WordLaws.{word-mem}
-use Rattle.refinement.specs.Decode.{weight}
+use Rattle.refinement.specs.Decode.{weight, shapeOf}
 use Rattle.refinement.proofs.Sets.{of-sets}
-
--- the logic's machine of a machine that is built
-abbrev pub machOf : Mach → Machine 2 ℕ
-machOf m = branching 0 (m .step) (λ q. mem q (m .accept))
 
 -- the machine over codes of a record of kind k
 abbrev pub codeMachine : Kind → Mach → Mach → ℕ → ℕ → Machine 2 ℕ
-codeMachine k f g wx wy = branching (startCode k (f .step) wx) (kindCode k (f .step) (g .step) wx wy) (acceptBy k (f .accept) (g .accept))
+codeMachine k f g wx wy = branching (startCode k 2 (f .step) wx) (kindCode k (f .step) (g .step) wx wy) (acceptBy k (f .accept) (g .accept))
 
-module _ (n c : ℕ) (pos : 0 < c) (top : c ≤ 64) where
-  -- a machine of f with at most c states, all of them reached
-  pub record Good (f : Formula 2) (m : Mach) : Type 0 where
-    pub machine : MachineOf n f (machOf m)
-    pub full : Full n (length (m .codes)) (machOf m)
-    pub few : length (m .codes) ≤ c
+-- a machine of F with at most c states, all of them reached
+pub record Good (n c : ℕ) (F : Formula 2) (m : Mach) : Type 0 where
+  pub machine : MachineOf n F (machOf m)
+  pub full : Full n (length (m .codes)) (machOf m)
+  pub few : length (m .codes) ≤ c
 
-  -- a machine of f that comes to more than c states
-  pub record Large (f : Formula 2) : Type 0 where
-    pub large : Machine 2 ℕ
-    pub machine : MachineOf n f large
-    pub codes : List ℕ
-    pub reached : Codes (Reached large (below (2 ^ n))) codes
-    pub many : length codes ≡ suc c
+-- a machine of F that comes to more than c states
+pub record Large (n c : ℕ) (F : Formula 2) : Type 0 where
+  pub large : Machine 2 ℕ
+  pub machine : MachineOf n F large
+  pub reached : (cs : List ℕ) × Codes (Reached large (below (2 ^ n))) cs × (length cs ≡ suc c)
 
-  -- what the builder makes of a record of formula f
-  abbrev pub Makes : Formula 2 → Option Mach → Type 0
-  Makes f none = Large f
-  Makes f (some m) = Good f m
+-- what the builder makes of a record of formula F
+abbrev pub Makes : ℕ → ℕ → Formula 2 → Option Mach → Type 0
+Makes n c F none = Large n c F
+Makes n c F (some m) = Good n c F m
+
+-- z stands for two states, of a and of b states
+record Pair (a b z : ℕ) (s : ℕ × ℕ) : Type 0 where
+  code : z ≡ s .0 * 64 + s .1
+  first : s .0 < a
+  second : s .1 < b
+
+module _ (n c : ℕ) (sh : Shaped (shapeOf n c)) where
+  abbrev Comes : Machine 2 ℕ → ℕ → Type 0
+  Comes M q = Reached M (below (2 ^ n)) q
 
   -- ---- exploration
-  module _ (M : Machine 2 ℕ) (x : Decoded) (f g : Mach) (F : Formula 2) (is : M ≡ codeMachine (x .kind) f g (x .wx) (x .wy)) (o : MachineOf n F M) where
-    abbrev succ : ℕ → ℕ → ℕ → ℕ
-    succ = kindCode (x .kind) (f .step) (g .step) (x .wx) (x .wy)
-
-    abbrev start : ℕ
-    start = startCode (x .kind) (f .step) (x .wx)
-
+  module _ (x : Decoded) (f g : Mach) {F : Formula 2} (o : MachineOf n F (codeMachine (x .kind) f g (x .wx) (x .wy))) where
     abbrev C : Machine 2 ℕ
     C = codeMachine (x .kind) f g (x .wx) (x .wy)
 
-    of-code : MachineOf n F C
-    of-code = subst (MachineOf n F) is o
+    abbrev succ : Step
+    succ = kindCode (x .kind) (f .step) (g .step) (x .wx) (x .wy)
 
-    step-reached : (l a b : ℕ) → l < 2 ^ n → Reached C (below (2 ^ n)) a → Reached C (below (2 ^ n)) b → Reached C (below (2 ^ n)) (succ l a b)
-    step-reached l a b h p q = stepped l ((elem-below l (2 ^ n)) .1 h) (pairOf a b) (each (λ d. Reached C (below (2 ^ n)) (pairOf a b d)) p q)
+    step-comes : (l : ℕ) (xs : List ℕ) → l < 2 ^ n → length xs ≡ 2 → Each (Comes C) xs → Comes C (succ l xs)
+    step-comes l xs h e nil = absurd (omega arith)
+    step-comes l xs h e (cons p nil) = absurd (omega arith)
+    step-comes l xs h e (cons {x = a} p (cons {x = b} q nil)) =
+        stepped l ((elem-below l (2 ^ n)) .1 h) (pairOf a b) (each (λ d. Comes C (pairOf a b d)) p q)
+    step-comes l xs h e (cons p (cons q (cons r t))) = absurd (omega arith)
 
-    module _ (cs : List ℕ) (e : explore succ c (2 ^ n) start ≡ some cs) where
-      found : Rattle.exploring.proofs.Found.Found succ c (2 ^ n) start pos (Reached C (below (2 ^ n))) cs
-      found = explore-found succ c (2 ^ n) start pos (Reached C (below (2 ^ n))) started step-reached cs e
+    module _ (cs : List ℕ) (e : explore succ c (2 ^ n) (C .start) ≡ some cs) where
+      found : Found succ c (2 ^ n) (C .start) (sh .some-state) (Comes C) cs
+      found = explore-found succ c (2 ^ n) (C .start) (sh .some-state) (Comes C) started step-comes cs e
 
       listed : Lists n C cs
       listed = lists-index n C cs (found .codes .distinct) (found .codes .all) (found .some-code, found .first)
-          (λ l h s u. explore-closed succ c (2 ^ n) start pos cs e l (s one) (s two) h (u one) (u two))
+          (λ l h s u. explore-closed succ c (2 ^ n) (C .start) (sh .some-state) cs e l h (s one ∷ s two ∷ []) (two-of (u one) (u two)))
 
       same : Agrees n (length cs) (numbered C cs) (machOf (machFrom x f g cs))
       unfolding numbered stepOf acceptOf
       same = record {
-        starts = place-own start cs 0 (found .codes .distinct) (found .some-code) (found .first);
+        starts = place-own (C .start) cs 0 (found .codes .distinct) (found .some-code) (found .first);
         steps = λ l h s u. refl;
         accepts = λ q h.
-            sym (word-mem 64 q (λ (s : ℕ). ltb s (length cs) && acceptBy (x .kind) (f .accept) (g .accept) (getD cs s 0)) (omega (arith, found .few))
-            ∙ ap (λ (b : Bool). b && acceptBy (x .kind) (f .accept) (g .accept) (getD cs q 0)) (lt-ltb q (length cs) h));
+            sym (word-mem 64 q (λ (s : ℕ). ltb s (length cs) && C .accepting (getD cs s 0)) (omega (arith, found .few)) ∙ rw (lt-ltb q (length cs) h));
       }
 
-      good : Good F (machFrom x f g cs)
+      good : Good n c F (machFrom x f g cs)
       good =
           let full = full-numbered n C cs listed in
+          let m = machOf (machFrom x f g cs) in
           record {
-            machine = of-agrees n (length cs) (numbered C cs) (machOf (machFrom x f g cs)) (full .0) same F (of-numbered n C cs listed F of-code);
-            full = full-agrees n (length cs) (numbered C cs) (machOf (machFrom x f g cs)) (full .0) same (full .1);
+            machine = of-agrees n (length cs) (numbered C cs) m (full .0) same F (of-numbered n C cs listed F o);
+            full = full-agrees n (length cs) (numbered C cs) m (full .0) same (full .1);
             few = found .few;
           }
 
-    large : explore succ c (2 ^ n) start ≡ none → Large F
-    large e =
-        let w = explore-many succ c (2 ^ n) start pos (Reached C (below (2 ^ n))) started step-reached e in
-        record { large = C; machine = of-code; codes = w .0; reached = w .1; many = w .2 }
-
-    pub explored : Makes F (numberedBy (machFrom x f g) (codesOf (x .kind) (f .step) (g .step) (x .wx) (x .wy) c (2 ^ n)))
+    pub explored : Makes n c F (numberedBy (machFrom x f g) (codesOf (x .kind) (shapeOf n c) (f .step) (g .step) (x .wx) (x .wy)))
     unfolding codesOf
-    explored = go (explore succ c (2 ^ n) start) refl
+    explored = go (explore succ c (2 ^ n) (C .start)) refl
       where
-        go : (q : Option (List ℕ)) → explore succ c (2 ^ n) start ≡ q → Makes F (numberedBy (machFrom x f g) q)
-        go none e = large e
+        go : (q : Option (List ℕ)) → explore succ c (2 ^ n) (C .start) ≡ q → Makes n c F (numberedBy (machFrom x f g) q)
+        go none e = record { large = C; machine = o; reached = explore-many succ c (2 ^ n) (C .start) (sh .some-state) (Comes C) started step-comes e }
         go (some cs) e = good cs e
 
   -- ---- "not"
-  reached-other : (M : Machine 2 ℕ) (q : ℕ) → Reached M (below (2 ^ n)) q → Reached (complement M) (below (2 ^ n)) q
-  reached-other M q started = started
-  reached-other M q (stepped l t s h) = stepped l t s (λ b. reached-other M (s b) (h b))
+  comes-other : (g : Step) (a b : ℕ → Bool) (q : ℕ) → Comes (branching 0 g a) q → Comes (branching 0 g b) q
+  comes-other g a b q started = started
+  comes-other g a b q (stepped l t s h) = stepped l t s (λ d. comes-other g a b (s d) (h d))
 
   others-agree : (f : Mach) → length (f .codes) ≤ c → Agrees n (length (f .codes)) (complement (machOf f)) (machOf (complementOf f))
   unfolding othersOf
@@ -122,69 +121,62 @@ module _ (n c : ℕ) (pos : 0 < c) (top : c ≤ 64) where
     starts = refl;
     steps = λ l h s u. refl;
     accepts = λ q h.
-        sym (word-mem 64 q (λ (s : ℕ). ltb s (length (f .codes)) && not (mem s (f .accept))) (omega arith)
-        ∙ ap (λ (b : Bool). b && not (mem q (f .accept))) (lt-ltb q (length (f .codes)) h));
+        sym (word-mem 64 q (λ (s : ℕ). ltb s (length (f .codes)) && not (mem s (f .accept))) (omega arith) ∙ rw (lt-ltb q (length (f .codes)) h));
   }
 
-  pub complemented : (F : Formula 2) (f : Mach) → Good F f → Good (negation F) (complementOf f)
-  complemented F f p =
-      let same = others-agree f (p .few) in
-      record {
-        machine =
-            of-agrees n (length (f .codes)) (complement (machOf f)) (machOf (complementOf f)) (p .full .0) same (negation F)
-            (of-negation n F (machOf f) (p .machine));
-        full =
-            full-agrees n (length (f .codes)) (complement (machOf f)) (machOf (complementOf f)) (p .full .0) same
-            (λ q h. reached-other (machOf f) q (p .full .1 q h));
-        few = p .few;
-      }
+  pub complemented : {F : Formula 2} {f : Mach} → Good n c F f → Good n c (negation F) (complementOf f)
+  complemented {F} {f} p = record {
+    machine =
+        of-agrees n (length (f .codes)) (complement (machOf f)) (machOf (complementOf f)) (p .full .0) (others-agree f (p .few)) (negation F)
+        (of-negation n F (machOf f) (p .machine));
+    full = (p .full .0, λ q h. comes-other (f .step) _ _ q (p .full .1 q h));
+    few = p .few;
+  }
 
   -- ---- "or" and "and": the pair of states q and r is q * 64 + r
-  module _ (f g : Mach) (F G : Formula 2) (p : Good F f) (q : Good G g) (vf : Valid n F) (vg : Valid n G) where
-    Pair : ℕ → ℕ × ℕ → Type 0
-    Pair z s = (z ≡ s .0 * 64 + s .1) × (s .0 < length (f .codes)) × (s .1 < length (g .codes))
+  module _ {f g : Mach} {F G : Formula 2} (p : Good n c F f) (q : Good n c G g) (vf : Valid n F) (vg : Valid n G) where
+    abbrev Both : ℕ → ℕ × ℕ → Type 0
+    Both z s = Pair (length (f .codes)) (length (g .codes)) z s
 
-    one-pair : (z z′ : ℕ) (s s′ : ℕ × ℕ) → Pair z s → Pair z′ s′ → (z ≡ z′) ↔ (s ≡ s′)
-    unfolding Pair
-    one-pair z z′ s s′ u u′ =
-        let a = p .few in
-        let b = q .few in (
-          (λ e. ap₂ (λ (i j : ℕ). (i, j)) (omega (arith, u .0, u′ .0, u .1, u′ .1, u .2, u′ .2)) (omega (arith, u .0, u′ .0, u .1, u′ .1, u .2, u′ .2))),
-          λ e. u .0 ∙ ap (λ (s : ℕ × ℕ). s .0 * 64 + s .1) e ∙ sym (u′ .0),
-        )
+    one-pair : (z z′ : ℕ) (s s′ : ℕ × ℕ) → Both z s → Both z′ s′ → (z ≡ z′) ↔ (s ≡ s′)
+    one-pair z z′ s s′ u u′ = (
+      (λ e. ap₂ (λ (i j : ℕ). (i, j)) (omega arith) (omega arith)),
+      λ e. u .code ∙ ap (λ (s : ℕ × ℕ). s .0 * 64 + s .1) e ∙ sym (u′ .code),
+    )
 
-    parts : (z : ℕ) (s : ℕ × ℕ) → Pair z s → (z / 64 % 64 ≡ s .0) × (z % 64 ≡ s .1)
-    unfolding Pair
-    parts z s u = (omega (arith, u .0, u .1, u .2, p .few, q .few), omega (arith, u .0, u .1, u .2, p .few, q .few))
+    parts : (z : ℕ) (s : ℕ × ℕ) → Both z s → (z / 64 % 64 ≡ s .0) × (z % 64 ≡ s .1)
+    parts z s u = (omega arith, omega arith)
 
-    pairs : (op : Bool → Bool → Bool) (acc : ℕ → Bool) → ((z : ℕ) (s : ℕ × ℕ) → Pair z s → acc z ≡ op (mem (s .0) (f .accept)) (mem (s .1) (g .accept)))
-        → Simulates n (branching 0 (pairCode (f .step) (g .step)) acc) (product op (machOf f) (machOf g)) Pair
-    unfolding pairCode Pair
+    pairs : (op : Bool → Bool → Bool) (acc : ℕ → Bool) → ((z : ℕ) (s : ℕ × ℕ) → Both z s → acc z ≡ op (mem (s .0) (f .accept)) (mem (s .1) (g .accept)))
+        → Simulates n (branching 0 (pairCode (f .step) (g .step)) acc) (product op (machOf f) (machOf g)) Both
+    unfolding pairCode
     pairs op acc h = record {
-      at-start = (refl, p .full .0 .0, q .full .0 .0);
+      at-start = record { code = refl; first = p .full .0 .0; second = q .full .0 .0 };
       at-step = λ l hl s r u.
           let i = parts (s one) (r one) (u one) in
-          let j = parts (s two) (r two) (u two) in (
-            ap₂ (λ (a b : ℕ). a * 64 + b) (ap₂ (f .step l) (i .0) (j .0)) (ap₂ (g .step l) (i .1) (j .1)),
-            p .full .0 .1 l hl (λ b. r b .0) (λ b. u b .1),
-            q .full .0 .1 l hl (λ b. r b .1) (λ b. u b .2),
-          );
+          let j = parts (s two) (r two) (u two) in
+          record {
+            code = rw (i .0, j .0, i .1, j .1);
+            first = p .full .0 .1 l hl (λ b. r b .0) (λ b. u b .first);
+            second = q .full .0 .1 l hl (λ b. r b .1) (λ b. u b .second);
+          };
       at-end = h;
     }
 
     pub either-pair : (wx wy : ℕ) → MachineOf n (disjunction F G) (codeMachine Or f g wx wy)
     unfolding startCode kindCode
-    either-pair wx wy = of-disjunction n F G vf vg (machOf f) (machOf g) (p .machine) (q .machine) (codeMachine Or f g wx wy) Pair one-pair
-        (pairs _||_ (acceptBy Or (f .accept) (g .accept))
-        (λ z s u. let i = parts z s u in ap₂ (λ (a b : ℕ). mem a (f .accept) || mem b (g .accept)) (i .0) (i .1)))
+    either-pair wx wy =
+        of-disjunction n F G vf vg (machOf f) (machOf g) (p .machine) (q .machine) (codeMachine Or f g wx wy) Both one-pair
+        (pairs _||_ (acceptBy Or (f .accept) (g .accept)) (λ z s u. let i = parts z s u in rw (i .0, i .1)))
 
     pub both-pair : (wx wy : ℕ) → MachineOf n (conjunction F G) (codeMachine And f g wx wy)
     unfolding startCode kindCode
-    both-pair wx wy = of-conjunction n F G vf vg (machOf f) (machOf g) (p .machine) (q .machine) (codeMachine And f g wx wy) Pair one-pair
-        (pairs _&&_ (acceptBy And (f .accept) (g .accept))
-        (λ z s u. let i = parts z s u in ap₂ (λ (a b : ℕ). mem a (f .accept) && mem b (g .accept)) (i .0) (i .1)))
+    both-pair wx wy =
+        of-conjunction n F G vf vg (machOf f) (machOf g) (p .machine) (q .machine) (codeMachine And f g wx wy) Both one-pair
+        (pairs _&&_ (acceptBy And (f .accept) (g .accept)) (λ z s u. let i = parts z s u in rw (i .0, i .1)))
 
   -- ---- "exists"
-  pub some-set : (f g : Mach) (F : Formula 2) (p : Good F f) → Valid n F → (x wy : ℕ) → x < n → MachineOf n (someF x F) (codeMachine Exists f g (weight n x) wy)
+  pub some-set : {f : Mach} {F : Formula 2} → Good n c F f → Valid n F → (g : Mach) (x wy : ℕ) → x < n
+      → MachineOf n (someF x F) (codeMachine Exists f g (weight n x) wy)
   unfolding startCode kindCode
-  some-set f g F p vf x wy hx = of-sets n x (length (f .codes)) hx (f .step) (f .accept) (omega (arith, p .few)) (p .full .0) F vf (p .machine)
+  some-set {f} {F} p vf g x wy hx = of-sets n x (length (f .codes)) hx (f .step) (f .accept) (omega arith) (p .full .0) F vf (p .machine)

@@ -4,10 +4,15 @@ use mathlib.Core.Bool.{cond}
 use mathlib.Core.List.{[], _∷_}
 use lib.Dec.{eqb}
 use lib.ListN.{getD}
+use Rattle.layout.specs.declared.Shape.{Shape}
 use Rattle.logic.specs.Rule.{Record}
 use Rattle.table.specs.declared.plan.Kind.{Kind}
 use Rattle.table.specs.declared.plan.Kind.the-variants.{Subset, Single, Child1, Child2, Root, Not, Or, And, Exists}
 use Rattle.records.specs.declared.Decoded.{Decoded}
+
+-- the shape of tables for n variables and state ceiling c
+abbrev pub shapeOf : ℕ → ℕ → Shape
+shapeOf n c = record { variables = n; ceiling = c; branches = 2 }
 
 -- "variable 0 most significant": the weight of variable x's bit in an n-bit label; 1 for a number that is no variable
 abbrev pub weight : ℕ → ℕ → ℕ

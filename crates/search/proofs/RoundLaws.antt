@@ -1,32 +1,31 @@
 -- One round over the arrays, from the first to the last. Assumes nothing.
-use mathlib.Core.Path.{_≡_, refl, sym, ap, ap₂, subst, _∙_, fun-ext}
-use mathlib.Core.Bool.{Bool, true, false, not, _||_, or-false, or-assoc, or-true}
-use mathlib.Core.List.{List, [], _∷_, _++_}
-use Prim.Native.Nat.{ℕ, zero, suc, _+_, _≤_, _<_, _-_}
-use native.Mathlib.Omega.{arith}
-use native.Mathlib.Numerals.{add-one}
-use lib.Dec.{ltb, eqb}
-use borrow.Author.Tests.{eq-eqb, ne-eqb, lt-ltb, le-ltb}
-use lib.ListN.{length, getD, set, replicate, length-append, length-set, List·getD-append, List·getD-eq-default}
+use Rattle.words.proofs.Vocabulary.{ℕ, zero, suc, _+_, _≤_, _<_, _-_, _≡_, refl, sym, ap, ap₂, subst, _∙_, fun-ext, Bool, true, false, not, _||_, or-false}
+use Rattle.words.proofs.Vocabulary.{or-assoc, or-true, List, [], _∷_, _++_, arith, add-one, ltb, eqb, eq-eqb, ne-eqb, lt-ltb, le-ltb, length, getD, set}
+use Rattle.words.proofs.Vocabulary.{replicate, length-append, length-set, List·getD-append, List·getD-eq-default, ℕ-discrete, getD-append-seam}
+use Rattle.words.proofs.Vocabulary.{getD-set-same, getD-set-other}
+use lib.Seq.{set-out}
+use Rattle.words.specs.Word.{mem}
+use Rattle.layout.specs.declared.Shape.{Shape}
+use Rattle.layout.specs.Shape.{labelsIn}
+use Rattle.layout.proofs.Places.{pair-in}
+use Rattle.logic.specs.Tree.{Tree, empty, positions}
+use Rattle.logic.specs.Machine.{Machine, run}
+use Rattle.logic.specs.Search.{Best, nothing, found, View, lighter, choose, consider, loop, pick, at, rank, settled, candidate, view, Sought, tree, absent}
+use Rattle.logic.specs.Search.{verdict, next, rounds, anyBelow, begin, search}
+use Rattle.logic.proofs.Orders.{less, same, more, ℕ-tri}
+use Rattle.strip.specs.Ranks.{treeAt, decode, Backs}
+use Rattle.strip.proofs.Ranks.{decode-length}
 use Rattle.search.specs.declared.Pick.{Pick}
 use Rattle.search.specs.declared.Finding.{Finding}
 use Rattle.search.specs.declared.Found.{Found}
 use Rattle.search.specs.declared.Finding.the-variants.{None, Larger, Shown}
-use Rattle.logic.specs.Search.{Best, nothing, found, View, lighter, choose, consider, loop, pick, at, rank, settled, candidate, view, Sought, tree, absent}
-use Rattle.logic.specs.Search.{verdict, next, rounds, anyBelow, begin, search}
-use native.Mathlib.Decide.{ℕ-discrete}
-use lib.Seq.{getD-append-seam, getD-set-same, getD-set-other, set-out}
-use Rattle.logic.specs.Tree.{Tree, empty, positions}
-use Rattle.logic.specs.Machine.{Machine, run}
-use Rattle.search.specs.Scan.{stepIn, codeView, bestOf, bestIn, sizeOf, Held, Ready, scanSecond, scanFirst, scanLabel}
-use Rattle.strip.specs.Ranks.{treeAt, decode, Backs}
-use Rattle.strip.proofs.Ranks.{decode-length}
-use Rattle.search.specs.Arrays.{acceptsOf, machineIn, Whole, settling, answerBy, foundAs, Ended}
+use Rattle.search.specs.Table.{stepIn, machineIn, Whole}
+use Rattle.search.specs.Scan.{codeView, bestOf, bestIn, sizeOf, Held, Ready, scanSecond, scanFirst, scanLabel}
+use Rattle.search.specs.Rounds.{answerBy, foundAs, Ended}
 use Rattle.search.proofs.ScanLaws.{pick-loops}
-use Rattle.logic.proofs.Orders.{less, same, more, ℕ-tri}
 
 -- what a scan finds lies in its range
-unfoldable pub Ranged : ℕ → ℕ → Best → Type 0
+unfoldable Ranged : ℕ → ℕ → Best → Type 0
 Ranged labels n nothing = Unit {0}
 Ranged labels n (found l is) = (i j : ℕ) → is ≡ i ∷ j ∷ [] → (l < labels) × (i < n) × (j < n)
 
@@ -73,7 +72,7 @@ module _ (label first second label′ first′ second′ : List ℕ) where
       (ap (λ (s : List (Tree 2)). treeAt label first second s n) e ∙ treeAt-same (decode label′ first′ second′ n) n (h n (omega arith)))
 
 -- one tree more
-pub decode-more : (label first second : List ℕ) (n l i j : ℕ) → 0 < n → n < length label → n < length first → n < length second
+decode-more : (label first second : List ℕ) (n l i j : ℕ) → 0 < n → n < length label → n < length first → n < length second
     → decode (set label n l) (set first n i) (set second n j) (suc n) ≡ decode label first second n ++
     (candidate (decode label first second n) l (i ∷ j ∷ []) ∷ [])
 unfolding decode treeAt
@@ -94,31 +93,31 @@ decode-more label first second (suc n) l i j h a b c =
         ))
 
 -- The arrays hold the states, the positions and the settled states of s, and zeros past its end.
-pub record Stands (M : Machine 2 ℕ) (s : List (Tree 2)) (done state size : List ℕ) : Type 0 where
+pub record Arrays (M : Machine 2 ℕ) (s : List (Tree 2)) (done state size : List ℕ) : Type 0 where
   pub states : (i : ℕ) → getD state i 0 ≡ run M (at s i)
   pub sizes : (i : ℕ) → getD size i 0 ≡ positions (at s i)
   pub marks : (q : ℕ) → not (eqb (getD done q 0) 0) ≡ settled M s q
 
-pub stands-view : (looks : ℕ) (table : List ℕ) (c : ℕ) (accept : List ℕ) (s : List (Tree 2)) (done state size : List ℕ)
-    → Stands (machineIn looks table c accept) s done state size
-    → codeView looks table c done state size ≡ view (machineIn looks table c accept) s
+arrays-view : (sh : Shape) (looks : ℕ) (table : List ℕ) (accept : ℕ) (s : List (Tree 2)) (done state size : List ℕ)
+    → Arrays (machineIn sh looks table accept) s done state size
+    → codeView sh looks table done state size ≡ view (machineIn sh looks table accept) s
 unfolding codeView view
-stands-view looks table c accept s done state size h = λ i. record {
-  step = machineIn looks table c accept .step;
+arrays-view sh looks table accept s done state size h = λ i. record {
+  step = machineIn sh looks table accept .step;
   old = fun-ext (h .marks) i;
   state = fun-ext (h .states) i;
   size = fun-ext (h .sizes) i;
 }
 
 -- The scan of the arrays is the round's pick.
-pub scan-pick : (looks : ℕ) (table : List ℕ) (c labels : ℕ) (accept : List ℕ) (s : List (Tree 2)) (done state size : List ℕ) (n : ℕ) (r : Pick)
-    → Stands (machineIn looks table c accept) s done state size → length s ≡ n
-    → Held (codeView looks table c done state size) (scanLabel (codeView looks table c done state size) n labels nothing) r
-    → Held (view (machineIn looks table c accept) s) (pick labels (length s) (view (machineIn looks table c accept) s)) r
-scan-pick looks table c labels accept s done state size n r h e k =
-    let v : View 2 = view (machineIn looks table c accept) s in
-    subst (λ (m : ℕ). Held v (pick labels m v) r) (sym e) (subst (λ (b : Best). Held v b r) (sym (pick-loops v labels n))
-    (subst (λ (w : View 2). Held w (scanLabel w n labels nothing) r) (stands-view looks table c accept s done state size h) k))
+scan-pick : (sh : Shape) (looks : ℕ) (table : List ℕ) (accept : ℕ) (s : List (Tree 2)) (done state size : List ℕ) (n : ℕ) (r : Pick)
+    → Arrays (machineIn sh looks table accept) s done state size → length s ≡ n
+    → Held (codeView sh looks table done state size) (scanLabel (codeView sh looks table done state size) n (labelsIn sh) nothing) r
+    → Held (view (machineIn sh looks table accept) s) (pick (labelsIn sh) (length s) (view (machineIn sh looks table accept) s)) r
+scan-pick sh looks table accept s done state size n r h e k =
+    let v : View 2 = view (machineIn sh looks table accept) s in
+    subst (λ (m : ℕ). Held v (pick (labelsIn sh) m v) r) (sym e) (subst (λ (b : Best). Held v b r) (sym (pick-loops v (labelsIn sh) n))
+    (subst (λ (w : View 2). Held w (scanLabel w n (labelsIn sh) nothing) r) (arrays-view sh looks table accept s done state size h) k))
 
 -- at the start
 zeros : (m i : ℕ) → getD {A = ℕ} (replicate m 0) i 0 ≡ 0
@@ -130,9 +129,9 @@ at-first : (i : ℕ) → at {k = 2} (empty ∷ []) i ≡ empty
 at-first zero = refl
 at-first (suc i) = refl
 
-stands-start : (M : Machine 2 ℕ) → M .start ≡ 0 → (m : ℕ) → Stands M (empty ∷ []) (1 ∷ replicate m 0) (replicate (suc m) 0) (replicate (suc m) 0)
+arrays-start : (M : Machine 2 ℕ) → M .start ≡ 0 → (m : ℕ) → Arrays M (empty ∷ []) (1 ∷ replicate m 0) (replicate (suc m) 0) (replicate (suc m) 0)
 unfolding run positions settled
-stands-start M z m = record {
+arrays-start M z m = record {
   states = λ i. zeros (suc m) i ∙ sym z ∙ ap (run M) (sym (at-first i));
   sizes = λ i. zeros (suc m) i ∙ ap positions (sym (at-first i));
   marks = marked;
@@ -142,8 +141,8 @@ stands-start M z m = record {
     marked zero = rw (eq-eqb (M .start) 0 z)
     marked (suc q) = rw (zeros m q, ne-eqb (M .start) (suc q) (λ e. omega arith))
 
-pub stands-first : (M : Machine 2 ℕ) → M .start ≡ 0 → Stands M (empty ∷ []) (set (replicate 64 0) 0 1) (replicate 64 0) (replicate 64 0)
-stands-first M z = stands-start M z 63
+arrays-first : (M : Machine 2 ℕ) → M .start ≡ 0 → Arrays M (empty ∷ []) (set (replicate 64 0) 0 1) (replicate 64 0) (replicate 64 0)
+arrays-first M z = arrays-start M z 63
 
 -- after a round
 settled-more : (M : Machine 2 ℕ) (s : List (Tree 2)) (t : Tree 2) (q : ℕ) → settled M (s ++ (t ∷ [])) q ≡ (settled M s q || eqb (run M t) q)
@@ -165,10 +164,10 @@ stored xs n x f h e k i = elim (ℕ-discrete i n) [
   | no p ↦ getD-set-other xs n i x 0 p ∙ k i p
 ]
 
-pub stands-more : (M : Machine 2 ℕ) (s : List (Tree 2)) (t : Tree 2) (n : ℕ) (done state size : List ℕ) (q w : ℕ) → length s ≡ n
+arrays-more : (M : Machine 2 ℕ) (s : List (Tree 2)) (t : Tree 2) (n : ℕ) (done state size : List ℕ) (q w : ℕ) → length s ≡ n
     → n < length state → n < length size → q < length done → q ≡ run M t → w ≡ positions t
-    → Stands M s done state size → Stands M (s ++ (t ∷ [])) (set done q 1) (set state n q) (set size n w)
-stands-more M s t n done state size q w e hs hz hd eq ew h = record {
+    → Arrays M s done state size → Arrays M (s ++ (t ∷ [])) (set done q 1) (set state n q) (set size n w)
+arrays-more M s t n done state size q w e hs hz hd eq ew h = record {
   states = stored state n q (λ i. run M (at (s ++ (t ∷ [])) i)) hs (eq ∙ ap (run M) new) (λ i p. h .states i ∙ ap (run M) (sym (at-more s t n i e p)));
   sizes = stored size n w (λ i. positions (at (s ++ (t ∷ [])) i)) hz (ew ∙ ap positions new) (λ i p. h .sizes i ∙ ap positions (sym (at-more s t n i e p)));
   marks = marked;
@@ -198,7 +197,7 @@ pub record InRange (labels n : ℕ) (r : Pick) : Type 0 where
   pub second-in : r .second < n
 
 -- the loop's invariant
-pub record Round (labels looks : ℕ) (table : List ℕ) (c count : ℕ) (accept : List ℕ) (P : ℕ) (done state size label first second : List ℕ)
+pub record Round (sh : Shape) (looks : ℕ) (table : List ℕ) (count accept P : ℕ) (done state size label first second : List ℕ)
     (n : ℕ) : Type 0 where
   pub low : 0 < n
   pub high : n ≤ count
@@ -208,12 +207,12 @@ pub record Round (labels looks : ℕ) (table : List ℕ) (c count : ℕ) (accept
   pub long-label : length label ≡ 64
   pub long-first : length first ≡ 64
   pub long-second : length second ≡ 64
-  pub stands : Stands (machineIn looks table c accept) (decode label first second n) done state size
+  pub arrays : Arrays (machineIn sh looks table accept) (decode label first second n) done state size
   pub tame : (i : ℕ) → getD state i 0 < count
   pub light : (i : ℕ) → getD size i 0 ≤ P
   pub back : Backs n first second
-  pub ahead : rounds labels (machineIn looks table c accept) P (count - n) (decode label first second n) ≡ settling labels
-      (machineIn looks table c accept) count P
+  pub ahead : rounds (labelsIn sh) (machineIn sh looks table accept) P (count - n) (decode label first second n)
+      ≡ rounds (labelsIn sh) (machineIn sh looks table accept) P (count - 1) (empty ∷ [])
 
 -- every finding but one shows no tree
 abbrev Unshown : Finding → Type 0
@@ -227,24 +226,18 @@ unseen None h s t e = let z : _≡_ {A = ℕ} 0 1 = cc in omega arith
 unseen Larger h s t e = let z : _≡_ {A = ℕ} 0 1 = cc in omega arith
 unseen Shown h s t e = h
 
--- the empty tree is shown
-pub shown-first : {labels looks : ℕ} {table : List ℕ} {c count P : ℕ} (wh : Whole labels looks table c count P) (accept : List ℕ) → (getD accept 0 0 ≡ 0 → ⊥)
-    → Ended (settling labels (machineIn looks table c accept) count P) (foundAs Shown 1 0 (replicate 64 0) (replicate 64 0) (replicate 64 0))
-unfolding decode treeAt settling begin answerBy positions
-shown-first wh accept h = record {
-  answer = rw (ne-eqb (getD accept 0 0) 0 h);
-  counted = λ t e. let z : tree empty ≡ tree t = rw (ne-eqb (getD accept 0 0) 0 h) at e in let y : empty ≡ t = cc in ap positions y;
-  back = λ i h k. absurd (omega arith);
-  low = omega arith;
-  high = omega arith;
-}
+-- a tree that is shown for the empty one has its positions
+empty-shown : (x : Finding) (t : Tree 2) → answerBy x empty ≡ tree t → 0 ≡ positions t
+unfolding answerBy positions
+empty-shown None t e = absurd (unseen None tt empty t e)
+empty-shown Larger t e = absurd (unseen Larger tt empty t e)
+empty-shown Shown t e = let y : empty ≡ t = cc in ap positions y
 
-module _ {labels looks : ℕ} {table : List ℕ} {c count : ℕ} {accept : List ℕ} {P : ℕ} (wh : Whole labels looks table c count P) where
-  pub round-first : getD accept 0 0 ≡ 0
-      → Round labels looks table c count accept P (set (replicate 64 0) 0 1) (replicate 64 0) (replicate 64 0) (replicate 64 0) (replicate 64 0)
+module _ {sh : Shape} {looks : ℕ} {table : List ℕ} {count accept P : ℕ} (wh : Whole sh looks table count) where
+  pub round-first : Round sh looks table count accept P (set (replicate 64 0) 0 1) (replicate 64 0) (replicate 64 0) (replicate 64 0) (replicate 64 0)
       (replicate 64 0) 1
-  unfolding decode treeAt settling begin
-  round-first e = record {
+  unfolding decode treeAt
+  round-first = record {
     low = omega arith;
     high = wh .some-state;
     long-done = refl;
@@ -253,33 +246,33 @@ module _ {labels looks : ℕ} {table : List ℕ} {c count : ℕ} {accept : List 
     long-label = refl;
     long-first = refl;
     long-second = refl;
-    stands = stands-first (machineIn looks table c accept) refl;
+    arrays = arrays-first (machineIn sh looks table accept) refl;
     tame = λ i. rw (zeros 64 i) (omega (arith, wh .some-state, wh .within));
     light = λ i. rw (zeros 64 i) (omega arith);
     back = λ i h k. absurd (omega arith);
-    ahead = rw (eq-eqb (getD accept 0 0) 0 e);
+    ahead = refl;
   }
 
-  module _ {done state size label first second : List ℕ} {n : ℕ} (v : Round labels looks table c count accept P done state size label first second n) where
+  module _ {done state size label first second : List ℕ} {n : ℕ} (v : Round sh looks table count accept P done state size label first second n) where
     abbrev s : List (Tree 2)
     s = decode label first second n
 
     abbrev M : Machine 2 ℕ
-    M = machineIn looks table c accept
+    M = machineIn sh looks table accept
+
+    abbrev labels : ℕ
+    labels = labelsIn sh
 
     abbrev goal : Sought 2
-    goal = settling labels M count P
+    goal = rounds labels M P (count - 1) (empty ∷ [])
 
-    pub round-ready : Ready labels looks table c state size n
-    round-ready = record {
-      few = wh .few;
-      whole = wh .whole;
+    pub round-ready : P ≤ 255 → Ready sh looks table state size n
+    round-ready small = record {
       bound = count;
-      within = wh .within;
-      steps = wh .steps;
-      settled-few = omega (arith, v .high, wh .within, wh .few);
+      table-whole = wh;
+      settled-few = omega (arith, v .high, wh .within, wh .shape .ceiling);
       states = λ i h. v .tame i;
-      sizes = λ i h. omega (arith, v .light i, wh .small);
+      sizes = λ i h. omega (arith, v .light i);
     }
 
     -- an end that adds no rank
@@ -289,7 +282,7 @@ module _ {labels looks : ℕ} {table : List ℕ} {c count : ℕ} {accept : List 
       counted = λ t f. absurd (unseen x h (at s (n - 1)) t (e ∙ f));
       back = v .back;
       low = v .low;
-      high = omega (arith, v .high, wh .within, wh .few);
+      high = omega (arith, v .high, wh .within, wh .shape .ceiling);
     }
 
     pub round-end : count ≤ n → Ended goal (foundAs None n 0 label first second)
@@ -300,9 +293,9 @@ module _ {labels looks : ℕ} {table : List ℕ} {c count : ℕ} {accept : List 
     go = rounds labels M P (count - suc n)
 
     module _ (h : n < count) {r : Pick}
-        (k : Held (codeView looks table c done state size) (scanLabel (codeView looks table c done state size) n labels nothing) r) where
+        (k : Held (codeView sh looks table done state size) (scanLabel (codeView sh looks table done state size) n labels nothing) r) where
       held : Held (view M s) (pick labels (length s) (view M s)) r
-      held = scan-pick looks table c labels accept s done state size n r (v .stands) (decode-length label first second n) k
+      held = scan-pick sh looks table accept s done state size n r (v .arrays) (decode-length label first second n) k
 
       round-next : next go M P s (bestIn r) ≡ goal
       unfolding rounds go
@@ -332,8 +325,7 @@ module _ {labels looks : ℕ} {table : List ℕ} {c count : ℕ} {accept : List 
         pub round-range : InRange labels n r
         unfolding Ranged
         round-range =
-            let e : pick labels n (view M s) ≡ found (r .label) (r .first ∷ r .second ∷ []) =
-            subst (λ (m : ℕ). pick labels m (view M s) ≡ found (r .label) (r .first ∷ r .second ∷ [])) (decode-length label first second n) picked-this in
+            let e : pick labels n (view M s) ≡ found (r .label) (r .first ∷ r .second ∷ []) = rw (decode-length label first second n) at picked-this in
             let w : Ranged labels n (found (r .label) (r .first ∷ r .second ∷ [])) =
             subst (Ranged labels n) (sym (pick-loops (view M s) labels n) ∙ e) (ranged-label (view M s) labels n labels nothing (omega arith) tt) in
             let k = w (r .first) (r .second) refl in
@@ -343,7 +335,7 @@ module _ {labels looks : ℕ} {table : List ℕ} {c count : ℕ} {accept : List 
         unfolding sizeOf positions decode view
         size-is = held .fair ∙ ap (sizeOf (view M s)) picked-this
 
-        verdict-is : verdict (ltb P (positions t)) (acceptsOf accept (run M t)) t go s ≡ goal
+        verdict-is : verdict (ltb P (positions t)) (mem (run M t) accept) t go s ≡ goal
         unfolding next
         verdict-is = rw (round-found z) at round-next
 
@@ -354,61 +346,62 @@ module _ {labels looks : ℕ} {table : List ℕ} {c count : ℕ} {accept : List 
         abbrev q : ℕ
         q = run M t
 
-        pub round-shown : r .size ≤ P → (getD accept q 0 ≡ 0 → ⊥) → tree t ≡ goal
+        round-shown : r .size ≤ P → mem q accept ≡ true → tree t ≡ goal
         unfolding verdict
-        round-shown p a = rw (le-ltb P (positions t) (rw (← size-is) p), ne-eqb (getD accept q 0) 0 a) at verdict-is
+        round-shown p a = rw (le-ltb P (positions t) (rw (← size-is) p), a) at verdict-is
 
-        round-on : r .size ≤ P → getD accept q 0 ≡ 0 → go (s ++ (t ∷ [])) ≡ goal
+        round-on : r .size ≤ P → mem q accept ≡ false → go (s ++ (t ∷ [])) ≡ goal
         unfolding verdict
-        round-on p a = rw (le-ltb P (positions t) (rw (← size-is) p), eq-eqb (getD accept q 0) 0 a) at verdict-is
+        round-on p a = rw (le-ltb P (positions t) (rw (← size-is) p), a) at verdict-is
 
-        pub round-target : {x y q′ : ℕ} → x ≡ getD state (r .first) 0 → y ≡ getD state (r .second) 0 → q′ ≡ stepIn looks table c (r .label) x y → q′ ≡ q
+        pub round-target : {x y q′ : ℕ} → x ≡ getD state (r .first) 0 → y ≡ getD state (r .second) 0 → q′ ≡ stepIn sh looks table (r .label) (x ∷ y ∷ [])
+            → q′ ≡ q
         unfolding run
-        round-target ex ey e = e ∙ rw (ex, ey, v .stands .states (r .first), v .stands .states (r .second))
+        round-target ex ey e = e ∙ rw (ex, ey, v .arrays .states (r .first), v .arrays .states (r .second))
 
         round-below : q < count
         unfolding run
-        round-below = wh .steps (r .label) (run M (at s (r .first))) (run M (at s (r .second))) (round-range .label-in)
-            (subst (λ (x : ℕ). x < count) (v .stands .states (r .first)) (v .tame (r .first)))
-            (subst (λ (x : ℕ). x < count) (v .stands .states (r .second)) (v .tame (r .second)))
+        round-below = wh .steps (r .label) (run M (at s (r .first)) ∷ run M (at s (r .second)) ∷ []) (round-range .label-in)
+            (pair-in sh (wh .shape) (rw (v .arrays .states) at (v .tame (r .first))) (rw (v .arrays .states) at (v .tame (r .second))))
 
-        pub round-small : {x y q′ : ℕ} → x ≡ getD state (r .first) 0 → y ≡ getD state (r .second) 0 → q′ ≡ stepIn looks table c (r .label) x y → q′ < 64
-        round-small ex ey e = omega (arith, round-target ex ey e, round-below, wh .within, wh .few)
+        pub round-small : {x y q′ : ℕ} → x ≡ getD state (r .first) 0 → y ≡ getD state (r .second) 0 → q′ ≡ stepIn sh looks table (r .label) (x ∷ y ∷ [])
+            → q′ < 64
+        round-small ex ey e = omega (arith, round-target ex ey e, round-below, wh .within, wh .shape .ceiling)
 
         grown : decode (set label n (r .label)) (set first n (r .first)) (set second n (r .second)) (suc n) ≡ s ++ (t ∷ [])
         grown =
             decode-more label first second n (r .label) (r .first) (r .second) (v .low) (room (v .long-label)) (room (v .long-first)) (room (v .long-second))
           where
             room : {m : ℕ} → m ≡ 64 → n < m
-            room e = omega (arith, wh .within, wh .few)
+            room e = omega (arith, wh .within, wh .shape .ceiling)
 
         grown-back : Backs (suc n) (set first n (r .first)) (set second n (r .second))
         grown-back i p k = elim (ℕ-discrete i n) [
           | yes e ↦ rw (
             e,
-            getD-set-same first n (r .first) 0 (omega (arith, v .long-first, wh .within, wh .few)),
+            getD-set-same first n (r .first) 0 (omega (arith, v .long-first, wh .within, wh .shape .ceiling)),
             getD-set-same second n (r .second) 0
-                (omega (arith, v .long-second, wh .within, wh .few)),
+                (omega (arith, v .long-second, wh .within, wh .shape .ceiling)),
           ) (round-range .first-in, round-range .second-in)
           | no e ↦ rw (getD-set-other first n i (r .first) 0 e, getD-set-other second n i (r .second) 0 e) (v .back i p (omega arith))
         ]
 
-        pub round-shown′ : {q′ : ℕ} → q′ ≡ q → r .size ≤ P → (getD accept q′ 0 ≡ 0 → ⊥)
+        pub round-shown′ : {q′ : ℕ} → q′ ≡ q → r .size ≤ P → mem q′ accept ≡ true
             → Ended goal (foundAs Shown (n + 1) (r .size) (set label n (r .label)) (set first n (r .first)) (set second n (r .second)))
         unfolding answerBy
         round-shown′ e p a = record {
-          counted = λ u f. let y : tree t ≡ tree u = round-shown p (λ z. a (rw e z)) ∙ f in let z : t ≡ u = cc in size-is ∙ ap positions z;
+          counted = λ u f. let y : tree t ≡ tree u = round-shown p (rw e at a) ∙ f in let z : t ≡ u = cc in size-is ∙ ap positions z;
           back = rw (add-one n) grown-back;
           low = omega arith;
-          high = omega (arith, wh .within, wh .few);
+          high = omega (arith, wh .within, wh .shape .ceiling);
           answer =
               let f : decode (set label n (r .label)) (set first n (r .first)) (set second n (r .second)) (n + 1) ≡ s ++ (t ∷ []) = rw (add-one n) grown in
               let g : n + 1 - 1 ≡ length s = omega (arith, decode-length label first second n) in
-              ap {B = Sought 2} tree (ap₂ at f g ∙ getD-append-seam s t [] empty) ∙ round-shown p (λ z. a (rw e z));
+              ap {B = Sought 2} tree (ap₂ at f g ∙ getD-append-seam s t [] empty) ∙ round-shown p (rw e at a);
         }
 
-        pub round-more : {q′ x : ℕ} → q′ ≡ q → x ≡ q′ → r .size ≤ P → getD accept q′ 0 ≡ 0
-            → Round labels looks table c count accept P (set done q′ 1) (set state n x) (set size n (r .size))
+        pub round-more : {q′ x : ℕ} → q′ ≡ q → x ≡ q′ → r .size ≤ P → mem q′ accept ≡ false
+            → Round sh looks table count accept P (set done q′ 1) (set state n x) (set size n (r .size))
             (set label n (r .label)) (set first n (r .first)) (set second n (r .second)) (n + 1)
         unfolding go run
         round-more {q′} e ex p a = rw (ex, add-one n) (record {
@@ -420,10 +413,10 @@ module _ {labels looks : ℕ} {table : List ℕ} {c count : ℕ} {accept : List 
           long-label = length-set label n (r .label) ∙ v .long-label;
           long-first = length-set first n (r .first) ∙ v .long-first;
           long-second = length-set second n (r .second) ∙ v .long-second;
-          stands = rw grown (stands-more M s t n done state size q′ (r .size) (decode-length label first second n)
-              (omega (arith, v .long-state, wh .within, wh .few)) (omega (arith, v .long-size, wh .within, wh .few))
-              (omega (arith, v .long-done, below, wh .within, wh .few))
-              (e ∙ run-is) size-is (v .stands));
+          arrays = rw grown (arrays-more M s t n done state size q′ (r .size) (decode-length label first second n)
+              (omega (arith, v .long-state, wh .within, wh .shape .ceiling)) (omega (arith, v .long-size, wh .within, wh .shape .ceiling))
+              (omega (arith, v .long-done, below, wh .within, wh .shape .ceiling))
+              (e ∙ run-is) size-is (v .arrays));
           tame = kept-all state n q′ (λ x. x < count) below (v .tame);
           light = kept-all size n (r .size) (λ x. x ≤ P) p (v .light);
           back = grown-back;
@@ -436,31 +429,40 @@ module _ {labels looks : ℕ} {table : List ℕ} {c count : ℕ} {accept : List 
             run-is : q ≡ run M t
             run-is = refl
 
--- the loop over the accepting states
-pub some-on : (accept : List ℕ) (q : ℕ) (r : Bool) → r ≡ anyBelow (acceptsOf accept) q → (getD accept q 0 ≡ 0 → ⊥) → true ≡ anyBelow (acceptsOf accept) (q + 1)
+-- the loop over the states that may accept
+pub any-more : (accepts : ℕ → Bool) (q : ℕ) {r : Bool} (x : Bool) → x ≡ accepts q → r ≡ anyBelow accepts q → (x || r) ≡ anyBelow accepts (q + 1)
 unfolding anyBelow
-some-on accept q r e h = rw (add-one q) (rw (ne-eqb (getD accept q 0) 0 h))
+any-more accepts q x e h = rw (add-one q) (ap₂ _||_ e h)
 
-pub some-off : (accept : List ℕ) (q : ℕ) (r : Bool) → r ≡ anyBelow (acceptsOf accept) q → getD accept q 0 ≡ 0 → r ≡ anyBelow (acceptsOf accept) (q + 1)
-unfolding anyBelow
-some-off accept q r e h = rw (add-one q) (rw (eq-eqb (getD accept q 0) 0 h) e)
-
+-- the search, by whether a state accepts, and whether the first does
 module _ (labels : ℕ) (M : Machine 2 ℕ) (count P : ℕ) where
-  pub find-some : {f : Found} → true ≡ anyBelow (M .accepting) count → Ended (settling labels M count P) f
-      → Ended (search labels (record { count = count; machine = M }) P) f
-  unfolding search settling
-  find-some e h = rw (← e) h
+  abbrev sought : Sought 2
+  sought = search labels (record { count = count; machine = M }) P
 
-  pub find-none : {label first second : List ℕ} → false ≡ anyBelow (M .accepting) count
-      → Ended (search labels (record { count = count; machine = M }) P) (foundAs None 1 0 label first second)
-  unfolding search begin answerBy
-  find-none e = record {
-    answer = rw (← e);
-    counted = λ t f. absurd (let y : absent ≡ tree t = rw (← e) at f in let z : _≡_ {A = ℕ} 0 1 = cc in omega arith);
+  pub find-more : {f : Found} → true ≡ anyBelow (M .accepting) count → false ≡ M .accepting (M .start)
+      → Ended (rounds labels M P (count - 1) (empty ∷ [])) f → Ended sought f
+  unfolding search begin
+  find-more e a h = rw (← e, ← a) h
+
+  -- with one rank, that of the empty tree
+  find-one : (x : Finding) {label first second : List ℕ} → answerBy x empty ≡ sought → Ended sought (foundAs x 1 0 label first second)
+  unfolding decode treeAt positions
+  find-one x e = record {
+    answer = e;
+    counted = λ t f. empty-shown x t (e ∙ f);
     back = λ i h k. absurd (omega arith);
     low = omega arith;
     high = omega arith;
   }
+
+  pub find-empty : {label first second : List ℕ} → true ≡ anyBelow (M .accepting) count → true ≡ M .accepting (M .start)
+      → Ended sought (foundAs Shown 1 0 label first second)
+  unfolding search begin answerBy
+  find-empty e a = find-one Shown (rw (← e, ← a) refl)
+
+  pub find-none : {label first second : List ℕ} → false ≡ anyBelow (M .accepting) count → Ended sought (foundAs None 1 0 label first second)
+  unfolding search begin answerBy
+  find-none e = find-one None (rw (← e) refl)
 
 pub any-done : (accepts : ℕ → Bool) (q count : ℕ) (r : Bool) → q ≤ count → count ≤ q → r ≡ anyBelow accepts q → r ≡ anyBelow accepts count
 any-done accepts q count r h k e = let z : q ≡ count = omega arith in e ∙ ap (anyBelow accepts) z

@@ -1,22 +1,20 @@
 -- One turn of each loop of a scan, its start and its end. Assumes nothing.
-use mathlib.Core.Path.{_≡_, refl, sym, ap, subst, _∙_}
-use mathlib.Core.Bool.{Bool, true, false, not, true≢false}
-use mathlib.Core.List.{List, [], _∷_}
-use Prim.Native.Nat.{ℕ, zero, suc, _+_, _*_, _/_, _%_, _≤_, _<_, min}
-use native.Mathlib.Omega.{arith}
-use native.Mathlib.Nat.{mul-le-mul-right}
-use native.Mathlib.Numerals.{add-one}
-use lib.Bits.{bitAnd, and-step, and-zero-l, and-le-l}
-use lib.Dec.{eqb}
-use borrow.Author.Tests.{eq-eqb, ne-eqb, lt-ltb, le-ltb, ltb-true, ltb-false, eqb-true, eqb-false}
-use lib.ListN.{getD}
-use Rattle.search.specs.declared.Pick.{Pick}
-use Rattle.logic.specs.Search.{Best, nothing, found, View, weight, lighter, choose, consider, loop, tuples, pick, at}
+use Rattle.words.proofs.Vocabulary.{ℕ, zero, suc, _+_, _/_, _%_, _*_, _≤_, _<_, min, _≡_, refl, sym, ap, subst, _∙_, Bool, true, false, not, List, [], _∷_}
+use Rattle.words.proofs.Vocabulary.{arith, add-one, bitAnd, and-step, and-le-l, eqb, eq-eqb, ne-eqb, lt-ltb, le-ltb, ltb-true, ltb-false, eqb-true, eqb-false}
+use Rattle.words.proofs.Vocabulary.{getD, length}
+use mathlib.Core.Bool.{true≢false}
+use lib.Bits.{and-zero-l}
+use Rattle.layout.specs.declared.Shape.{Shape}
+use Rattle.layout.specs.Shape.{labelsIn, placeIn}
+use Rattle.layout.proofs.Places.{few-labels, pair-in, place-in}
+use Rattle.logic.specs.Search.{Best, nothing, found, View, weight, lighter, choose, consider, loop, tuples, pick}
 use Rattle.logic.specs.Tree.{downFrom, sumOf}
 use Rattle.logic.specs.Meaning.{Branch}
 use Rattle.logic.specs.Two.{one, two}
 use Rattle.logic.proofs.Repeats.{label-repeats}
-use Rattle.search.specs.Scan.{kept, stepIn, codeView, bestOf, bestIn, sizeOf, Held, Ready, scanSecond, scanFirst, scanLabel}
+use Rattle.search.specs.declared.Pick.{Pick}
+use Rattle.search.specs.Table.{stepIn, Entry}
+use Rattle.search.specs.Scan.{kept, codeView, bestOf, bestIn, sizeOf, Held, Ready, scanSecond, scanFirst, scanLabel}
 
 -- the bits that are left stay
 and-twice : (m a b : ℕ) → a ≤ m → bitAnd (bitAnd a b) b ≡ bitAnd a b
@@ -37,7 +35,7 @@ pub pick-loops : (v : View 2) (labels n : ℕ) → pick labels n v ≡ scanLabel
 unfolding pick tuples scanLabel scanFirst scanSecond
 pick-loops v labels n = refl
 
-pub weight-two : (v : View 2) (i j : ℕ) → weight v (i ∷ j ∷ []) ≡ v .size i + v .size j
+weight-two : (v : View 2) (i j : ℕ) → weight v (i ∷ j ∷ []) ≡ v .size i + v .size j
 unfolding sumOf downFrom
 weight-two v i j = omega arith
 
@@ -81,43 +79,33 @@ module _ (v : View 2) (o l i j : ℕ) where
       (omega (arith, h .fair, weight-two v i j, ltb-false (weight v (i ∷ j ∷ [])) (weight v is′) f))) h
 
 -- one turn of the inner loop
-pub held-consider : (looks : ℕ) (table : List ℕ) (c : ℕ) (done state size : List ℕ) (l i j : ℕ) (b : Best) (p : Pick)
-    → Held (codeView looks table c done state size) b p
-    → Held (codeView looks table c done state size) (consider (codeView looks table c done state size) l (i ∷ j ∷ []) b)
-    (kept p (getD done (stepIn looks table c l (getD state i 0) (getD state j 0)) 0) (suc (getD size i 0 + getD size j 0)) l i j)
+held-consider : (s : Shape) (looks : ℕ) (table done state size : List ℕ) (l i j : ℕ) (b : Best) (p : Pick)
+    → Held (codeView s looks table done state size) b p
+    → Held (codeView s looks table done state size) (consider (codeView s looks table done state size) l (i ∷ j ∷ []) b)
+    (kept p (getD done (stepIn s looks table l (getD state i 0 ∷ getD state j 0 ∷ [])) 0) (suc (getD size i 0 + getD size j 0)) l i j)
 unfolding consider codeView
-held-consider looks table c done state size l i j b p h =
-    let v : View 2 = codeView looks table c done state size in
-    let o : ℕ = getD done (stepIn looks table c l (getD state i 0) (getD state j 0)) 0 in
+held-consider s looks table done state size l i j b p h =
+    let v : View 2 = codeView s looks table done state size in
+    let o : ℕ = getD done (stepIn s looks table l (getD state i 0 ∷ getD state j 0 ∷ [])) 0 in
     held-choose v o l i j b p h (eqb o 0) refl (lighter v (i ∷ j ∷ []) b) refl
 
--- the place of a step in the table
-pair-lt : (x n y c : ℕ) → x < n → y < c → x * c + y < n * c
-pair-lt x n y c h k = omega (arith, mul-le-mul-right c h)
-
-cell-lt : (labels c l a b : ℕ) → l < labels → a < c → b < c → (l * c + a) * c + b < labels * c * c
-cell-lt labels c l a b h k m = pair-lt (l * c + a) (labels * c) b c (pair-lt l labels a c h k) m
-
-line-le : (x c b : ℕ) → b < c → x ≤ x * c + b
-line-le x zero b h = omega arith
-line-le x (suc c) b h = omega arith
-
 -- the label without the bits that are not looked at is no larger, so its entries lie in the table too
-pub in-table : (labels looks c l a b : ℕ) → l < labels → a < c → b < c
-    → (bitAnd l looks * c + a ≤ (bitAnd l looks * c + a) * c + b) × ((bitAnd l looks * c + a) * c + b < labels * c * c)
-in-table labels looks c l a b h k m =
-    (line-le (bitAnd l looks * c + a) c b m, cell-lt labels c (bitAnd l looks) a b (omega (arith, and-le-l l looks)) k m)
+pub in-table : (s : Shape) (looks : ℕ) (table : List ℕ) (l a b : ℕ) → Entry s table l a b
+    → (bitAnd l looks < 256) × (placeIn s (bitAnd l looks) (a ∷ b ∷ []) < length table)
+in-table s looks table l a b e =
+    let m : bitAnd l looks < labelsIn s = omega (arith, and-le-l l looks) in
+    (omega (arith, few-labels s (e .shape)), omega (arith, place-in s (bitAnd l looks) (a ∷ b ∷ []) m (pair-in s (e .shape) (e .first) (e .second))))
 
 -- One turn of the inner loop, as the code takes it.
-pub row-next : (looks : ℕ) (table : List ℕ) (c : ℕ) (done state size : List ℕ) (l i j : ℕ) (b : Best) (p r : Pick) (x y q : ℕ)
-    → Held (codeView looks table c done state size) (scanSecond (codeView looks table c done state size) l i j b) p
-    → x ≡ getD state i 0 → y ≡ getD state j 0 → q ≡ stepIn looks table c l x y
+pub row-next : (s : Shape) (looks : ℕ) (table done state size : List ℕ) (l i j : ℕ) (b : Best) (p r : Pick) (x y q : ℕ)
+    → Held (codeView s looks table done state size) (scanSecond (codeView s looks table done state size) l i j b) p
+    → x ≡ getD state i 0 → y ≡ getD state j 0 → q ≡ stepIn s looks table l (x ∷ y ∷ [])
     → r ≡ kept p (getD done q 0) (getD size i 0 + getD size j 0 + 1) l i j
-    → Held (codeView looks table c done state size) (scanSecond (codeView looks table c done state size) l i (j + 1) b) r
+    → Held (codeView s looks table done state size) (scanSecond (codeView s looks table done state size) l i (j + 1) b) r
 unfolding scanSecond loop
-row-next looks table c done state size l i j b p r x y q h ex ey eq er =
+row-next s looks table done state size l i j b p r x y q h ex ey eq er =
     rw (er, eq, ex, ey, add-one j, add-one (getD size i 0 + getD size j 0))
-    (held-consider looks table c done state size l i j (scanSecond (codeView looks table c done state size) l i j b) p h)
+    (held-consider s looks table done state size l i j (scanSecond (codeView s looks table done state size) l i j b) p h)
 
 pub row-done : (v : View 2) (l i j n : ℕ) (b : Best) (r : Pick) → j ≤ n → n ≤ j → Held v (scanSecond v l i j b) r → Held v (scanSecond v l i n b) r
 row-done v l i j n b r p q h = subst (λ (k : ℕ). Held v (scanSecond v l i k b) r) (omega arith) h
@@ -144,19 +132,21 @@ unfolding scanLabel loop
 pick-next v n l b p r h k = rw (add-one l) (rw (h .best) at k)
 
 -- a label with a bit that is not looked at is passed over: it has the steps of the label without that bit, which is an earlier one
-pub pick-passed : (looks : ℕ) (table : List ℕ) (c : ℕ) (done state size : List ℕ) (n l : ℕ) (b : Best) (p : Pick) → bitAnd l looks < l
-    → Held (codeView looks table c done state size) (scanLabel (codeView looks table c done state size) n l b) p
-    → Held (codeView looks table c done state size) (scanLabel (codeView looks table c done state size) n (l + 1) b) p
+pub pick-passed : (s : Shape) (looks : ℕ) (table done state size : List ℕ) (n l : ℕ) (b : Best) (p : Pick) → bitAnd l looks < l
+    → Held (codeView s looks table done state size) (scanLabel (codeView s looks table done state size) n l b) p
+    → Held (codeView s looks table done state size) (scanLabel (codeView s looks table done state size) n (l + 1) b) p
 unfolding scanLabel scanFirst scanSecond tuples loop codeView
-pick-passed looks table c done state size n l b p h w =
-    let v : View 2 = codeView looks table c done state size in
-    let alike : (s : Branch 2 → ℕ) → v .step (bitAnd l looks) s ≡ v .step l s =
-    λ s. ap (λ (m : ℕ). getD table ((m * c + s one) * c + s two) 0) (and-twice l l looks (omega arith)) in
+pick-passed s looks table done state size n l b p h w =
+    let v : View 2 = codeView s looks table done state size in
+    let alike : (f : Branch 2 → ℕ) → v .step (bitAnd l looks) f ≡ v .step l f =
+    λ f. ap (λ (m : ℕ). getD table (placeIn s m (f one ∷ f two ∷ [])) 0) (and-twice l l looks (omega arith)) in
     rw (add-one l) (subst (λ (x : Best). Held v x p) (sym (label-repeats v n (bitAnd l looks) l h alike b)) w)
 
 pub pick-done : (v : View 2) (n l labels : ℕ) (b : Best) (r : Pick) → l ≤ labels → labels ≤ l → Held v (scanLabel v n l b) r → Held v (scanLabel v n labels b) r
 pick-done v n l labels b r p q h = subst (λ (k : ℕ). Held v (scanLabel v n k b) r) (omega arith) h
 
-pub ready-steps : {labels looks : ℕ} {table : List ℕ} {c : ℕ} {state size : List ℕ} {n : ℕ} (v : Ready labels looks table c state size n) (l a b : ℕ)
-    → l < labels → a < v .bound → b < v .bound → stepIn looks table c l a b < 64
-ready-steps v l a b hl ha hb = omega (arith, v .steps l a b hl ha hb, v .within, v .few)
+pub ready-steps : {s : Shape} {looks : ℕ} {table state size : List ℕ} {n : ℕ} (v : Ready s looks table state size n) (l a b : ℕ)
+    → l < labelsIn s → a < v .bound → b < v .bound → stepIn s looks table l (a ∷ b ∷ []) < 64
+ready-steps {s} v l a b hl ha hb =
+    let w = v .table-whole in
+    omega (arith, w .steps l (a ∷ b ∷ []) hl (pair-in s (w .shape) ha hb), w .within, w .shape .ceiling)

@@ -1,20 +1,26 @@
 // The earliest accepted tree over a machine's table.
-ghost use Rattle.search.specs.Arrays.{Whole, acceptsOf, machineIn, settling, Ended, foundAs, tableIn};
 ghost use mathlib.Core.Path.{_≡_};
-ghost use Prim.Native.Nat.{_+_, _*_, _<_, _≤_};
-ghost use Rattle.search.specs.Scan.{kept, stepIn, Ready, Held, codeView, bestIn, scanSecond, scanFirst, scanLabel};
-ghost use Rattle.logic.specs.Search.{nothing, anyBelow, search};
+ghost use mathlib.Core.List.{[], _∷_};
+ghost use Prim.Native.Nat.{ℕ, _-_, _<_, _≤_};
+ghost use Rattle.layout.specs.Shape.{labelsIn};
+ghost use Rattle.words.specs.Word.{mem};
+ghost use Rattle.logic.specs.Tree.{empty};
+ghost use Rattle.logic.specs.Search.{nothing, anyBelow, rounds, search};
+ghost use Rattle.search.specs.Table.{stepIn, machineIn, tableIn, Whole, Entry};
+ghost use Rattle.search.specs.Scan.{kept, Ready, Turn, Held, codeView, bestIn, scanSecond, scanFirst, scanLabel};
+ghost use Rattle.search.specs.Rounds.{Ended, foundAs};
+use layout::Shape;
 
 // The best candidate so far: its positions, or 0 for none; its label and the ranks of its branches.
-pub struct Pick {
-    pub size: u64,
-    pub label: usize,
-    pub first: usize,
-    pub second: usize,
+struct Pick {
+    size: u64,
+    label: usize,
+    first: usize,
+    second: usize,
 }
 
 // A candidate of w positions, for a state that is settled already unless `old` is 0.
-pub fn consider(best: Pick, old: u8, w: u64, l: usize, i: usize, j: usize) -> Pick
+fn consider(best: Pick, old: u8, w: u64, l: usize, i: usize, j: usize) -> Pick
     ensures { λ r. ⌜ r ≡ kept best old w l i j ⌝ }
 {
     if old != 0 {
@@ -46,29 +52,19 @@ fn wide(x: u8) -> usize
     x as usize
 }
 
-// The step: the entry of c × c to a label, at the label with no bit but those that the record looks at.
-pub fn cell(
-    labels: usize,
-    looks: usize,
-    table: &[u8],
-    c: usize,
-    l: usize,
-    a: usize,
-    b: usize,
-) -> usize
-    requires { do ⌜ labels * c * c ≤ (← ⟦table.len()⟧) ⌝ }
-    requires { ⌜ (l < labels) × (a < c) × (b < c) ⌝ }
-    ensures { λ r. ⌜ r ≡ stepIn looks (now (table .entry)) c l a b ⌝ }
+// The step: the entry for the branches' states a and b, at the label with no bit but those that the record looks at.
+pub fn cell(s: Shape, looks: usize, table: &[u8], l: usize, a: usize, b: usize) -> usize
+    requires { ⌜ Entry s (now table) l a b ⌝ }
+    ensures { λ r. ⌜ r ≡ stepIn s looks (now (table .entry)) l (a ∷ b ∷ []) ⌝ }
 {
-    wide(table[((l & looks) * c + a) * c + b])
+    wide(table[layout::place(s, l & looks, a, b)])
 }
 
 // The inner loop: the label l, the first branch of rank i, second branches of all ranks.
-pub fn row(
-    labels: usize,
+fn row(
+    s: Shape,
     looks: usize,
     table: &[u8],
-    c: usize,
     done: &[u8; 64],
     state: &[u8; 64],
     size: &[u64; 64],
@@ -77,16 +73,16 @@ pub fn row(
     i: usize,
     best: Pick,
 ) -> Pick
-    requires { ⌜ Ready labels looks (now table) c (now state) (now size) n ⌝ }
-    requires { ⌜ (l < labels) × (i < n) ⌝ }
-    requires { ⌜ Held (codeView looks (now table) c (now done) (now state) (now size)) (bestIn best) best ⌝ }
-    ensures { λ r. ⌜ Held (codeView looks (now (table .entry)) c (now (done .entry)) (now (state .entry)) (now (size .entry)))
-        (scanSecond (codeView looks (now (table .entry)) c (now (done .entry)) (now (state .entry)) (now (size .entry))) l i n (bestIn best)) r ⌝ }
+    requires { ⌜ Ready s looks (now table) (now state) (now size) n ⌝ }
+    requires { ⌜ Turn s n l i ⌝ }
+    requires { ⌜ Held (codeView s looks (now table) (now done) (now state) (now size)) (bestIn best) best ⌝ }
+    ensures { λ r. ⌜ Held (codeView s looks (now (table .entry)) (now (done .entry)) (now (state .entry)) (now (size .entry)))
+        (scanSecond (codeView s looks (now (table .entry)) (now (done .entry)) (now (state .entry)) (now (size .entry))) l i n (bestIn best)) r ⌝ }
 {
     let mut b = best;
     let mut j: usize = 0;
     while j < n {
-        let q = cell(labels, looks, table, c, l, wide(state[i]), wide(state[j]));
+        let q = cell(s, looks, table, l, wide(state[i]), wide(state[j]));
         b = consider(b, done[q], size[i] + size[j] + 1, l, i, j);
         j += 1;
     }
@@ -94,11 +90,10 @@ pub fn row(
 }
 
 // The middle loop: the label l, first branches of all ranks.
-pub fn rows(
-    labels: usize,
+fn rows(
+    s: Shape,
     looks: usize,
     table: &[u8],
-    c: usize,
     done: &[u8; 64],
     state: &[u8; 64],
     size: &[u64; 64],
@@ -106,36 +101,36 @@ pub fn rows(
     l: usize,
     best: Pick,
 ) -> Pick
-    requires { ⌜ Ready labels looks (now table) c (now state) (now size) n ⌝ }
-    requires { ⌜ l < labels ⌝ }
-    requires { ⌜ Held (codeView looks (now table) c (now done) (now state) (now size)) (bestIn best) best ⌝ }
-    ensures { λ r. ⌜ Held (codeView looks (now (table .entry)) c (now (done .entry)) (now (state .entry)) (now (size .entry)))
-        (scanFirst (codeView looks (now (table .entry)) c (now (done .entry)) (now (state .entry)) (now (size .entry))) n l n (bestIn best)) r ⌝ }
+    requires { ⌜ Ready s looks (now table) (now state) (now size) n ⌝ }
+    requires { ⌜ l < labelsIn s ⌝ }
+    requires { ⌜ Held (codeView s looks (now table) (now done) (now state) (now size)) (bestIn best) best ⌝ }
+    ensures { λ r. ⌜ Held (codeView s looks (now (table .entry)) (now (done .entry)) (now (state .entry)) (now (size .entry)))
+        (scanFirst (codeView s looks (now (table .entry)) (now (done .entry)) (now (state .entry)) (now (size .entry))) n l n (bestIn best)) r ⌝ }
 {
     let mut b = best;
     let mut i: usize = 0;
     while i < n {
-        b = row(labels, looks, table, c, done, state, size, n, l, i, b);
+        b = row(s, looks, table, done, state, size, n, l, i, b);
         i += 1;
     }
     b
 }
 
 // The outer loop: the labels with no bit but those that the record looks at. Any other has the steps of an earlier one.
-pub fn scan(
-    labels: usize,
+fn scan(
+    s: Shape,
     looks: usize,
     table: &[u8],
-    c: usize,
     done: &[u8; 64],
     state: &[u8; 64],
     size: &[u64; 64],
     n: usize,
 ) -> Pick
-    requires { ⌜ Ready labels looks (now table) c (now state) (now size) n ⌝ }
-    ensures { λ r. ⌜ Held (codeView looks (now (table .entry)) c (now (done .entry)) (now (state .entry)) (now (size .entry)))
-        (scanLabel (codeView looks (now (table .entry)) c (now (done .entry)) (now (state .entry)) (now (size .entry))) n labels nothing) r ⌝ }
+    requires { ⌜ Ready s looks (now table) (now state) (now size) n ⌝ }
+    ensures { λ r. ⌜ Held (codeView s looks (now (table .entry)) (now (done .entry)) (now (state .entry)) (now (size .entry)))
+        (scanLabel (codeView s looks (now (table .entry)) (now (done .entry)) (now (state .entry)) (now (size .entry))) n (labelsIn s) nothing) r ⌝ }
 {
+    let labels = layout::labels(s);
     let mut b = Pick {
         size: 0,
         label: 0,
@@ -145,7 +140,7 @@ pub fn scan(
     let mut l: usize = 0;
     while l < labels {
         if l <= l & looks {
-            b = rows(labels, looks, table, c, done, state, size, n, l, b);
+            b = rows(s, looks, table, done, state, size, n, l, b);
         }
         l += 1;
     }
@@ -153,7 +148,7 @@ pub fn scan(
 }
 
 fn narrow(x: usize) -> u8
-    requires { ⌜ x < 256 ⌝ }
+    requires { ⌜ x < 64 ⌝ }
     ensures { λ r. ⌜ r ≡ x ⌝ }
 {
     x as u8
@@ -197,18 +192,11 @@ fn ended(
     }
 }
 
-// The rounds, for a machine that accepts something.
-pub fn settle(
-    labels: usize,
-    looks: usize,
-    table: &[u8],
-    c: usize,
-    count: usize,
-    accept: &[u8; 64],
-    p: u64,
-) -> Found
-    requires { ⌜ Whole labels looks (now table) c count p ⌝ }
-    ensures { λ r. ⌜ Ended (settling labels (machineIn looks (now (table .entry)) c (now (accept .entry))) count p) r ⌝ }
+// The rounds, from the empty tree on.
+fn settle(s: Shape, looks: usize, table: &[u8], count: usize, accept: u64, p: u64) -> Found
+    requires { ⌜ Whole s looks (now table) count ⌝ }
+    requires { ⌜ p ≤ 255 ⌝ }
+    ensures { λ r. ⌜ Ended (rounds (labelsIn s) (machineIn s looks (now (table .entry)) accept) p (count - 1) (empty ∷ [])) r ⌝ }
 {
     let mut done = [0u8; 64];
     let mut state = [0u8; 64];
@@ -218,11 +206,8 @@ pub fn settle(
     let mut second = [0usize; 64];
     done[0] = 1;
     let mut n: usize = 1;
-    if accept[0] != 0 {
-        return ended(Finding::Shown, n, 0, label, first, second);
-    }
     while n < count {
-        let b = scan(labels, looks, table, c, &done, &state, &size, n);
+        let b = scan(s, looks, table, &done, &state, &size, n);
         let w = b.size;
         if w == 0 {
             return ended(Finding::None, n, 0, label, first, second);
@@ -233,7 +218,7 @@ pub fn settle(
         let l = b.label;
         let i = b.first;
         let j = b.second;
-        let q = cell(labels, looks, table, c, l, wide(state[i]), wide(state[j]));
+        let q = cell(s, looks, table, l, wide(state[i]), wide(state[j]));
         label[n] = l;
         first[n] = i;
         second[n] = j;
@@ -241,7 +226,7 @@ pub fn settle(
         size[n] = w;
         done[q] = 1;
         n += 1;
-        if accept[q] != 0 {
+        if words::has(accept, q) {
             return ended(Finding::Shown, n, w, label, first, second);
         }
     }
@@ -249,14 +234,14 @@ pub fn settle(
 }
 
 // Does a state below count accept?
-fn any(accept: &[u8; 64], count: usize) -> bool
+pub fn satisfiable(accept: u64, count: usize) -> bool
     requires { ⌜ count ≤ 64 ⌝ }
-    ensures { λ r. ⌜ r ≡ anyBelow (acceptsOf (now (accept .entry))) count ⌝ }
+    ensures { λ r. ⌜ r ≡ anyBelow (λ (q : ℕ). mem q accept) count ⌝ }
 {
     let mut r = false;
     let mut q: usize = 0;
     while q < count {
-        if accept[q] != 0 {
+        if words::has(accept, q) {
             r = true;
         }
         q += 1;
@@ -265,28 +250,17 @@ fn any(accept: &[u8; 64], count: usize) -> bool
 }
 
 // The whole search: the contract is an equation with the definition.
-pub fn find(
-    labels: usize,
-    looks: usize,
-    table: &[u8],
-    c: usize,
-    count: usize,
-    accept: &[u8; 64],
-    p: u64,
-) -> Found
-    requires { ⌜ Whole labels looks (now table) c count p ⌝ }
-    ensures { λ r. ⌜ Ended (search labels (tableIn looks (now (table .entry)) c (now (accept .entry)) count) p) r ⌝ }
+pub fn find(s: Shape, looks: usize, table: &[u8], count: usize, accept: u64, p: u64) -> Found
+    requires { ⌜ Whole s looks (now table) count ⌝ }
+    requires { ⌜ p ≤ 255 ⌝ }
+    ensures { λ r. ⌜ Ended (search (labelsIn s) (tableIn s looks (now (table .entry)) accept count) p) r ⌝ }
 {
-    if any(accept, count) {
-        return settle(labels, looks, table, c, count, accept, p);
-    }
     let zero = [0usize; 64];
-    Found {
-        finding: Finding::None,
-        n: 1,
-        positions: 0,
-        label: zero,
-        first: zero,
-        second: zero,
+    if satisfiable(accept, count) {
+        if words::has(accept, 0) {
+            return ended(Finding::Shown, 1, 0, zero, zero, zero);
+        }
+        return settle(s, looks, table, count, accept, p);
     }
+    ended(Finding::None, 1, 0, zero, zero, zero)
 }

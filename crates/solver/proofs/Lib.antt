@@ -1,3 +1,2 @@
 pub mod Solving
 pub mod Told
-pub mod Walks

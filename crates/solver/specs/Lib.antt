@@ -1,2 +1,1 @@
 pub mod Solve
-pub mod Run

@@ -22,7 +22,7 @@ use Rattle.strip.specs.declared.tree.TreeRead.{TreeRead}
 use Rattle.strip.specs.declared.tree.TreeRead.the-variants as read
 use Rattle.strip.proofs.Fields.{length-bits}
 use Rattle.strip.proofs.TreeBits.{length-from, treeBits-length, bits-drop, bits-bits}
-use Rattle.strip.proofs.TreeParse.{Reading, Good, label-lt, parse-good, parse-reading, parse-enough}
+use Rattle.strip.proofs.TreeParse.{Reading, Good, parse-good, parse-reading, parse-enough}
 
 module _ (s : List ℕ) (n : ℕ) where
   -- the tree that begins with a head
@@ -95,18 +95,12 @@ module _ (s : List ℕ) (n : ℕ) where
       go false e false false f true g = tt
       go false e false false f false g = (refl, ltb-false (8 * length s) (at + 1 + n) g, leb-false 255 met f, refl)
 
-  pub empty-within : (met at next : ℕ) → headAt s n met at ≡ head.Empty next → (next ≡ at + 1) × (next ≤ 8 * length s)
+  empty-within : (met at next : ℕ) → headAt s n met at ≡ head.Empty next → (next ≡ at + 1) × (next ≤ 8 * length s)
   empty-within met at next e = subst (Within met at) e (head-within met at)
 
-  pub node-within : (met at l next : ℕ) → headAt s n met at ≡ head.Node l next
+  node-within : (met at l next : ℕ) → headAt s n met at ≡ head.Node l next
       → (next ≡ at + 1 + n) × (next ≤ 8 * length s) × (met < 255) × (l ≡ field s (at + 1) n)
   node-within met at l next e = subst (Within met at) e (head-within met at)
-
-  pub head-label : (met at l next : ℕ) → headAt s n met at ≡ head.Node l next → l < 2 ^ n
-  head-label met at l next e =
-      let w = node-within met at l next e in
-      let k = length-from s (at + 1) in
-      rw (w .3) (label-lt n (drop (at + 1) (bits s)) (bits-drop (at + 1) (bits s) (bits-bits s)) (omega arith))
 
   -- ---- the reader's answers, with enough for every bit of the strip
   abbrev pub treeAt : ℕ → ℕ → Parsed

@@ -1,26 +1,19 @@
--- A walk over a tree in a strip: at a place where a tree stands, what the head is and where its branches stand. Assumes nothing.
+-- A walk over a tree in a strip: at a place where a tree stands, what its bits are and where its branches stand. Assumes nothing.
 use Prim.Native.Nat.{ℕ, _+_, _*_, _^_, _≤_, _<_}
 use mathlib.Core.Path.{_≡_, refl, sym, ap, _∙_}
 use mathlib.Core.List.{List, _∷_, _++_, append-assoc}
 use native.Mathlib.Nat.{add-zero}
 use native.Mathlib.Omega.{arith}
-use borrow.Author.Tests.{lt-leb, le-ltb, eq-eqb}
 use lib.ListN.{length, getD, take, drop, length-append}
 use lib.Seq.{getD-drop, drop-drop, take-at, drop-at, drop-append-seam}
 use Rattle.logic.specs.Meaning.{Branch}
 use Rattle.logic.specs.Tree.{Tree, empty, node}
 use Rattle.logic.specs.Two.{one, two}
 use Rattle.strip.specs.Bits.{digits, bits, number, field}
-use Rattle.strip.specs.TreeStrip.{treeBits}
-use Rattle.strip.specs.TreeAnswers.{headAt}
-use Rattle.strip.specs.declared.tree.Head.the-variants.{Empty, Node}
+use Rattle.strip.specs.TreeStrip.{treeBits, Stands}
 use Rattle.strip.proofs.Fields.{length-digits}
 use Rattle.strip.proofs.TreeBits.{treeBits-length, length-from, number-of}
 use Rattle.strip.proofs.TreeLaws.{TreeFacts, facts-tree}
-
--- the tree t stands at bit place at
-abbrev pub Stands : List ℕ → ℕ → ℕ → Tree 2 → Type 0
-Stands s n at t = (rest : List ℕ) × (drop at (bits s) ≡ treeBits n t ++ rest)
 
 pub facts-stand : (s : List ℕ) (n : ℕ) (t : Tree 2) → TreeFacts s n t → Stands s n 8 t
 facts-stand s n t f = (_, facts-tree s n t f)
@@ -40,16 +33,16 @@ module _ (s : List ℕ) (n at : ℕ) where
     sym (drop-drop 1 at (bits s)) ∙ ap (drop 1) e,
   )
 
-  pub stands-empty : (met : ℕ) → Stands s n at empty → headAt s n met at ≡ Empty (at + 1)
-  unfolding headAt treeBits
-  stands-empty met p = let w = bit-is 0 (p .0) (p .1) in rw (lt-leb (8 * length s) at (w .0), eq-eqb (getD (bits s) at 0) 0 (w .1)) refl
+  pub empty-bit : Stands s n at empty → (at < 8 * length s) × (getD (bits s) at 0 ≡ 0)
+  unfolding treeBits
+  empty-bit p = let w = bit-is 0 (p .0) (p .1) in (w .0, w .1)
 
   module _ (l : ℕ) (f : Branch 2 → Tree 2) (p : Stands s n at (node l f)) where
     -- what stands after the label
     abbrev after : List ℕ
     after = treeBits n (f one) ++ (treeBits n (f two) ++ p .0)
 
-    node-bit : (at < 8 * length s) × (getD (bits s) at 0 ≡ 1) × (drop (at + 1) (bits s) ≡ digits n l ++ after)
+    pub node-bit : (at < 8 * length s) × (getD (bits s) at 0 ≡ 1) × (drop (at + 1) (bits s) ≡ digits n l ++ after)
     unfolding treeBits
     node-bit =
         let e : (digits n l ++ (treeBits n (f one) ++ treeBits n (f two))) ++ p .0 ≡ digits n l ++ after = simp append-assoc in
@@ -58,22 +51,16 @@ module _ (s : List ℕ) (n at : ℕ) where
     after-label : drop (at + 1 + n) (bits s) ≡ after
     after-label = sym (drop-drop n (at + 1) (bits s)) ∙ ap (drop n) (node-bit .2) ∙ drop-at (digits n l) after n (length-digits n l)
 
-    label-in : at + 1 + n ≤ 8 * length s
+    pub label-in : at + 1 + n ≤ 8 * length s
     label-in =
         let a = ap length (node-bit .2) ∙ length-append (digits n l) after in
         let b = length-from s (at + 1) in
         omega (arith, length-digits n l, node-bit .0)
 
-    label-is : l < 2 ^ n → field s (at + 1) n ≡ l
+    pub label-is : l < 2 ^ n → field s (at + 1) n ≡ l
     label-is k =
         ap (λ (r : List ℕ). number 0 (take n r)) (node-bit .2) ∙ ap (number 0) (take-at (digits n l) after n (length-digits n l))
         ∙ number-of n l k
-
-    pub stands-node : (met : ℕ) → met < 255 → l < 2 ^ n → headAt s n met at ≡ Node l (at + 1 + n)
-    unfolding headAt
-    stands-node met h k =
-        let w = node-bit in
-        rw (lt-leb (8 * length s) at (w .0), w .1, lt-leb 255 met h, le-ltb (8 * length s) (at + 1 + n) label-in, label-is k) refl
 
     pub stands-first : Stands s n (at + 1 + n) (f one)
     stands-first = (treeBits n (f two) ++ p .0, after-label)

@@ -31,6 +31,13 @@ Backs n first second = (i : ℕ) → 0 < i → i < n → (getD first i 0 < i) ×
 abbrev pub Clear : List ℕ → ℕ → Type 0
 Clear l at = (k : ℕ) → at ≤ k → getD l k 0 ≡ 0
 
+-- a node bit and a label of n bits have room in d from a place on, where zeros stand
+pub record NodeRoom (d : List ℕ) (at n : ℕ) : Type 0 where
+  pub few-variables : n ≤ 8
+  pub short : length d ≤ 4096
+  pub room : at + 1 + n ≤ 8 * length d
+  pub clear : Clear (bits d) at
+
 -- the tree of rank r has room in d from a place on, where zeros stand
 pub record Writable (d : List ℕ) (at n : ℕ) (label first second : List ℕ) (count r : ℕ) : Type 0 where
   pub few-variables : n ≤ 8

@@ -1,5 +1,5 @@
 -- What the functions on rule strips answer. Assumes nothing.
-use Prim.Native.Nat.{ℕ, _+_, _-_, _*_}
+use Prim.Native.Nat.{ℕ, _+_, _-_, _*_, _≤_}
 use mathlib.Core.Bool.{not, cond}
 use mathlib.Core.List.{List}
 use lib.Dec.{ltb, leb, eqb}
@@ -14,6 +14,12 @@ use Rattle.strip.specs.declared.rule.Read.{Read}
 use Rattle.strip.specs.declared.rule.Read.the-variants.{Record, Refused}
 use Rattle.strip.specs.declared.rule.RuleCheck.{RuleCheck}
 use Rattle.strip.specs.declared.rule.RuleCheck.the-variants.{Accepted as accepted, Refused as turnedDown}
+
+-- the strip has m records, one at least
+pub record Filled (s : List ℕ) (m : ℕ) : Type 0 where
+  pub short : length s ≤ 4096
+  pub some-record : 1 ≤ m
+  pub room : 16 + 18 * m ≤ 8 * length s
 
 -- the refusal of a field that does not fit its use: "8 a variable not below n; 9 a record number not below its own; 10 an unused field
 -- not 0"

@@ -1,5 +1,6 @@
 -- What the readers of tree strips answer, of the definitions of TreeStrip. Assumes nothing.
-use Prim.Native.Nat.{ℕ, _+_, _-_, _*_}
+use Prim.Native.Nat.{ℕ, _+_, _-_, _*_, _≤_, _<_}
+use mathlib.Core.Path.{_≡_}
 use mathlib.Core.Bool.{_&&_, cond}
 use mathlib.Core.List.{List}
 use lib.Dec.{ltb, leb, eqb}
@@ -12,6 +13,31 @@ use Rattle.strip.specs.declared.tree.TreeRead.{TreeRead}
 use Rattle.strip.specs.declared.tree.TreeRead.the-variants as read
 use Rattle.strip.specs.declared.tree.TreeCheck.{TreeCheck}
 use Rattle.strip.specs.declared.tree.TreeCheck.the-variants as check
+
+-- n is a number of variables, and no sum from the bit place at wraps
+pub record HeadPlace (n at : ℕ) : Type 0 where
+  pub some-variable : 1 ≤ n
+  pub few-variables : n ≤ 8
+  pub near : at ≤ 65536
+
+-- n is a number of variables, and at a place that the bits of `met` positions can have come to
+pub record TreePlace (n met at : ℕ) : Type 0 where
+  pub some-variable : 1 ≤ n
+  pub few-variables : n ≤ 8
+  pub few : met ≤ 255
+  pub near : at ≤ 8 + 10 * met
+
+-- at is a bit place of the strip, or its end
+pub record EndPlace (s : List ℕ) (at : ℕ) : Type 0 where
+  pub near : at ≤ 65536
+  pub within : at ≤ 8 * length s
+
+-- the strip has bytes, and says that it is over n variables
+pub record Headed (s : List ℕ) (n : ℕ) : Type 0 where
+  pub some-variable : 1 ≤ n
+  pub few-variables : n ≤ 8
+  pub some-byte : 0 < length s
+  pub said : n ≡ field s 4 4
 
 -- what stands at bit place at, after `met` positions: "18 the bits end early"; "bit 0 for empty"; "20 a node bit for position 256"; "for a
 -- node bit 1, the label"

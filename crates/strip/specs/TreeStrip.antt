@@ -1,5 +1,6 @@
 -- Tree strips: document 01, "Strips" and "Check a tree strip". Assumes nothing.
 use Prim.Native.Nat.{ℕ, zero, suc, _+_, _*_, _/_}
+use mathlib.Core.Path.{_≡_}
 use mathlib.Core.Bool.{not, _&&_, _||_, cond}
 use mathlib.Core.List.{List, [], _∷_, _++_}
 use lib.Dec.{ltb, leb, eqb}
@@ -14,6 +15,10 @@ use Rattle.strip.specs.RuleStrip.{between}
 unfoldable pub treeBits : ℕ → Tree 2 → List ℕ
 treeBits n empty = 0 ∷ []
 treeBits n (node l f) = 1 ∷ (digits n l ++ (treeBits n (f one) ++ treeBits n (f two)))
+
+-- the tree t, over n variables, stands at bit place at of the strip s
+abbrev pub Stands : List ℕ → ℕ → ℕ → Tree 2 → Type 0
+Stands s n at t = (rest : List ℕ) × (drop at (bits s) ≡ treeBits n t ++ rest)
 
 -- "version 4 bits (1), n 4 bits, then the tree": the strip that is written
 unfoldable pub treeStrip : ℕ → Tree 2 → List ℕ

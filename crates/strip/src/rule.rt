@@ -6,7 +6,7 @@ ghost use Prim.Native.Nat.{_+_, _*_, _<_, _≤_};
 ghost use lib.ListN.{length, drop};
 ghost use Rattle.strip.specs.Bits.{bits, anySet};
 ghost use Rattle.strip.specs.RuleStrip.{between, firstUse, secondUse, recordAt, recordRefusal};
-ghost use Rattle.strip.specs.RuleAnswers.{useRefusal, limitOf, fieldRefusal, fieldsOf, readRecord, readRecords, headRefusal, checkedRule};
+ghost use Rattle.strip.specs.RuleAnswers.{useRefusal, limitOf, fieldRefusal, fieldsOf, readRecord, Filled, readRecords, headRefusal, checkedRule};
 
 // A record's three fields, as they stand in the strip.
 pub struct Fields {
@@ -157,8 +157,7 @@ fn read_record(s: &[u8], n: usize, i: usize, at: usize) -> Read
 
 // All m records, in order: the last of them, or the earliest refusal.
 fn read_records(s: &[u8], n: usize, m: usize) -> Read
-    requires { ⌜ length (now s) ≤ 4096 ⌝ }
-    requires { ⌜ (1 ≤ m) × (16 + 18 * m ≤ 8 * length (now s)) ⌝ }
+    requires { ⌜ Filled (now s) m ⌝ }
     ensures { λ r. ⌜ r ≡ readRecords (now (s .entry)) n m ⌝ }
 {
     let mut at: usize = 16;

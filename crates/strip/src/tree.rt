@@ -1,24 +1,24 @@
 // Tree strips: what stands at a bit place, the tree read there, and the check of a whole strip.
 ghost use mathlib.Core.Path.{_≡_};
 ghost use mathlib.Core.Bool.{_||_};
-ghost use Prim.Native.Nat.{suc, _+_, _*_, _<_, _≤_};
+ghost use Prim.Native.Nat.{suc, _*_};
 ghost use lib.Dec.{leb};
 ghost use lib.ListN.{length, drop};
-ghost use Rattle.strip.specs.Bits.{bits, field, anySet};
+ghost use Rattle.strip.specs.Bits.{bits, anySet};
 ghost use Rattle.strip.specs.TreeStrip.{parse, ended};
-ghost use Rattle.strip.specs.TreeAnswers.{headAt, closed, told, answered, checkedTree};
+ghost use Rattle.strip.specs.TreeAnswers.{HeadPlace, TreePlace, EndPlace, Headed, headAt, closed, told, answered, checkedTree};
 
 // What stands at a bit place: the empty tree, with the place after it; a node's label, with the place of its
 // first branch; or a refusal number.
-pub enum Head {
+enum Head {
     Empty(usize),
     Node { label: usize, next: usize },
     Refused(u64),
 }
 
 // What stands at a place of s, after `met` positions. A place is compared by its byte: 8 times the length could wrap.
-pub fn read_head(s: &[u8], n: usize, met: usize, at: usize) -> Head
-    requires { ⌜ (1 ≤ n) × (n ≤ 8) × (at ≤ 65536) ⌝ }
+fn read_head(s: &[u8], n: usize, met: usize, at: usize) -> Head
+    requires { ⌜ HeadPlace n at ⌝ }
     ensures { λ r. ⌜ r ≡ headAt (now (s .entry)) n met at ⌝ }
 {
     if s.len() <= at / 8 {
@@ -63,7 +63,7 @@ fn close_node(label: usize, met: usize, second: TreeRead) -> TreeRead
 
 // The tree at a place of s, after `met` positions.
 fn read_tree(s: &[u8], n: usize, met: usize, at: usize) -> TreeRead
-    requires { ⌜ (1 ≤ n) × (n ≤ 8) × (met ≤ 255) × (at ≤ 8 + 10 * met) ⌝ }
+    requires { ⌜ TreePlace n met at ⌝ }
     ensures { λ r. ⌜ r ≡ told (now (s .entry)) (parse (suc (8 * length (now (s .entry)))) n met (drop at (bits (now (s .entry))))) ⌝ }
 {
     match read_head(s, n, met, at) {
@@ -86,7 +86,7 @@ fn read_tree(s: &[u8], n: usize, met: usize, at: usize) -> TreeRead
 
 // Whether a bit is set or a byte left over from a place on.
 fn left_over(s: &[u8], at: usize) -> bool
-    requires { ⌜ (at ≤ 65536) × (at ≤ 8 * length (now s)) ⌝ }
+    requires { ⌜ EndPlace (now s) at ⌝ }
     ensures { λ r. ⌜ r ≡ (leb 8 (length (drop at (bits (now (s .entry))))) || anySet (drop at (bits (now (s .entry))))) ⌝ }
 {
     if (at + 7) / 8 < s.len() {
@@ -106,7 +106,7 @@ pub enum TreeCheck {
 
 // Checks the bits after the version and n.
 fn check_bits(s: &[u8], n: usize) -> TreeCheck
-    requires { ⌜ (1 ≤ n) × (n ≤ 8) × (0 < length (now s)) × (n ≡ field (now s) 4 4) ⌝ }
+    requires { ⌜ Headed (now s) n ⌝ }
     ensures { λ r. ⌜ r ≡ answered (now (s .entry)) (ended (parse (suc (8 * length (now (s .entry)))) n 0 (drop 8 (bits (now (s .entry)))))) ⌝ }
 {
     match read_tree(s, n, 0, 8) {

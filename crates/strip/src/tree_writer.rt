@@ -2,17 +2,16 @@
 use crate::bits;
 ghost use mathlib.Core.Path.{_≡_};
 ghost use mathlib.Core.List.{_∷_};
-ghost use Prim.Native.Nat.{_+_, _*_, _<_, _≤_};
+ghost use Prim.Native.Nat.{_+_};
 ghost use lib.ListN.{length};
 ghost use lib.Seq.{sets};
 ghost use Rattle.strip.specs.Bits.{bits, digits};
 ghost use Rattle.strip.specs.TreeStrip.{treeBits, treeStrip};
-ghost use Rattle.strip.specs.Ranks.{treeOfRank, Clear, Writable, AsLong};
+ghost use Rattle.strip.specs.Ranks.{treeOfRank, NodeRoom, Writable, AsLong};
 
 // A node bit and a label of n bits, at a place that holds zeros.
 fn put_node(d: &mut [u8], at: usize, n: usize, label: usize)
-    requires { ⌜ (n ≤ 8) × (length (now d) ≤ 4096) × (at + 1 + n ≤ 8 * length (now d)) ⌝ }
-    requires { ⌜ Clear (bits (now d)) at ⌝ }
+    requires { ⌜ NodeRoom (now d) at n ⌝ }
     ensures { λ _. ⌜ bits (now (d .exit)) ≡ sets (bits (now (d .entry))) at (1 ∷ digits n label) ⌝ }
 {
     bits::set_bit(d, at);

@@ -1,10 +1,11 @@
 -- The bits that a record looks at: it does not tell apart two labels that differ in other bits alone. Assumes nothing.
-use Rattle.words.proofs.Vocabulary.{ℕ, _≤_, _<_, _+_, _*_, suc, _%_, zero, _^_, _/_, Bool, true, false, _||_, _&&_, not, or-true, or-false, and-true}
-use Rattle.words.proofs.Vocabulary.{and-false, and-self, _≡_, _∙_, refl, sym, ap, ap₂, eq-eqb, mod-mul, bitOr, and-le-l, and-mask, eqb, eqb·suc-suc}
-use Rattle.words.proofs.Vocabulary.{eqb·suc-zero, eqb·zero-suc, pow-pos, pow-mono, add-zero, pow-suc, div-div-eq-div-mul, mul-assoc, arith}
+use Rattle.words.proofs.Vocabulary.{ℕ, _≤_, _<_, _+_, _*_, suc, _%_, zero, _^_, _/_, Bool, true, false, _||_, _&&_, cond, or-true, and-true, and-self}
+use Rattle.words.proofs.Vocabulary.{_≡_, _∙_, refl, sym, ap, ap₂, eq-eqb, mod-mul, bitOr, and-le-l, eqb, eqb·suc-suc, eqb·suc-zero, eqb·zero-suc}
+use Rattle.words.proofs.Vocabulary.{List, map, pow-pos, pow-mono, add-zero, pow-suc, div-div-eq-div-mul, mul-assoc, arith}
 use Rattle.table.specs.Entry.{seen, Step, through, off, on, Power}
-use Rattle.table.specs.Succ.{pairCode, hit, existsCode, atomIndex, ruleAt, subsetRule, singleRule, child1Rule, child2Rule, rootRule, kindCode, looksOf}
-use Rattle.words.specs.Word.{mem, any, digit, wordOf}
+use Rattle.table.specs.Succ.{firstPart, secondPart, pairCode, hit, choice, existsCode, atomIndex, ruleAt, subsetRule, singleRule, child1Rule, child2Rule}
+use Rattle.table.specs.Succ.{rootRule, kindCode, looksOf}
+use Rattle.words.specs.Word.{mem, digit, wordOf}
 use Rattle.table.specs.declared.plan.Kind.{Kind}
 use Rattle.table.specs.declared.plan.Kind.the-variants.{Subset, Single, Child1, Child2, Root, Not, Or, And, Exists}
 use Rattle.words.proofs.WordLaws.{mem-or, mem-and, mem-one, mem-shr, digit-mem, word-ext}
@@ -37,9 +38,7 @@ within true false true e = e
 within true false false e = refl
 
 seen-within : (f h l : ℕ) → ((q : ℕ) → (mem q f && mem q h) ≡ mem q f) → seen f (seen h l) ≡ seen f l
-seen-within f h l e =
-    mem-ext (seen f (seen h l)) (seen f l) λ q.
-    mem-seen q f (seen h l) ∙ ap (λ (b : Bool). b && mem q f) (mem-seen q h l) ∙ within (mem q l) (mem q h) (mem q f) (e q) ∙ sym (mem-seen q f l)
+seen-within f h l e = mem-ext (seen f (seen h l)) (seen f l) λ q. simp mem-seen (within (mem q l) (mem q h) (mem q f) (e q))
 
 pub seen-seen : (f l : ℕ) → seen f (seen f l) ≡ seen f l
 seen-seen f l = seen-within f f l (λ q. and-self (mem q f))
@@ -53,15 +52,10 @@ right a true = or-true a
 right a false = refl
 
 seen-left : (f g l : ℕ) → seen f (seen (bitOr f g) l) ≡ seen f l
-seen-left f g l = seen-within f (bitOr f g) l (λ q. ap (λ (b : Bool). mem q f && b) (mem-or q f g) ∙ left (mem q f) (mem q g))
+seen-left f g l = seen-within f (bitOr f g) l (λ q. simp mem-or (left (mem q f) (mem q g)))
 
 seen-right : (f g l : ℕ) → seen g (seen (bitOr f g) l) ≡ seen g l
-seen-right f g l = seen-within g (bitOr f g) l (λ q. ap (λ (b : Bool). mem q g && b) (mem-or q f g) ∙ right (mem q f) (mem q g))
-
--- every label below 256 is seen as it is by a record that looks at all bits
-pub seen-all : (l : ℕ) → l < 256 → seen 255 l ≡ l
-unfolding seen
-seen-all l h = and-mask l 8 ∙ omega arith
+seen-right f g l = seen-within g (bitOr f g) l (λ q. simp mem-or (right (mem q f) (mem q g)))
 
 -- ---- the bit of an atom's variable
 digit-of : (k a : ℕ) → a / 2 ^ k % 2 ≡ digit (mem k a)
@@ -69,8 +63,7 @@ unfolding mem
 digit-of k a = sym (digit-mem (a / 2 ^ k % 2) (omega arith)) ∙ ap digit (mem-shr k zero a ∙ ap (λ (m : ℕ). mem m a) (add-zero k))
 
 bit-seen : (k h l : ℕ) → mem k h ≡ true → seen h l / 2 ^ k % 2 ≡ l / 2 ^ k % 2
-bit-seen k h l e =
-    digit-of k (seen h l) ∙ ap digit (mem-seen k h l ∙ ap (λ (b : Bool). mem k l && b) e ∙ and-true (mem k l)) ∙ sym (digit-of k l)
+bit-seen k h l e = simp (digit-of, mem-seen, e, and-true)
 
 bit-here : (k : ℕ) → mem k (2 ^ k) ≡ true
 bit-here k = mem-one k k ∙ eq-eqb k k refl
@@ -80,11 +73,9 @@ unfolding atomIndex
 atom-seen wx wy l x y px py =
     let k = px .0 in
     let j = py .0 in
-    let a : seen (bitOr (2 ^ k) (2 ^ j)) l / 2 ^ k % 2 ≡ l / 2 ^ k % 2 =
-    bit-seen k (bitOr (2 ^ k) (2 ^ j)) l (mem-or k (2 ^ k) (2 ^ j) ∙ ap (λ (b : Bool). b || mem k (2 ^ j)) (bit-here k)) in
-    let b : seen (bitOr (2 ^ k) (2 ^ j)) l / 2 ^ j % 2 ≡ l / 2 ^ j % 2 =
-    bit-seen j (bitOr (2 ^ k) (2 ^ j)) l (mem-or j (2 ^ k) (2 ^ j) ∙ ap (λ (b : Bool). mem j (2 ^ k) || b) (bit-here j) ∙ or-true (mem j (2 ^ k))) in
-    rw (px .1, py .1) (ap₂ (λ (p q : ℕ). p * 32 + q * 16 + x % 4 * 4 + y % 4) a b)
+    let a = bit-seen k (bitOr (2 ^ k) (2 ^ j)) l (simp (mem-or, bit-here)) in
+    let b = bit-seen j (bitOr (2 ^ k) (2 ^ j)) l (simp (mem-or, bit-here, or-true)) in
+    rw (px .1, py .1, a, b)
 
 -- a rule at the place of a label and two states
 pub rule-bits : (f : ℕ → ℕ → ℕ → ℕ → ℕ) (wx wy l x y : ℕ) → ruleAt f (atomIndex wx wy l x y) ≡ f (l / wx % 2) (l / wy % 2) (x % 4) (y % 4)
@@ -97,7 +88,7 @@ rule-bits f wx wy l x y =
     let b : k / 16 % 2 ≡ q = omega arith in
     let c : k / 4 % 4 ≡ x % 4 = omega arith in
     let d : k % 4 ≡ y % 4 = omega arith in
-    ap₂ (λ (s t : ℕ). f s t (k / 4 % 4) (k % 4)) a b ∙ ap₂ (f p q) c d
+    rw (a, b, c, d)
 
 -- an atom with one variable
 module _ (f : ℕ → ℕ → ℕ → ℕ → ℕ) (one : (p q q′ i j : ℕ) → f p q i j ≡ f p q′ i j) where
@@ -106,114 +97,80 @@ module _ (f : ℕ → ℕ → ℕ → ℕ → ℕ) (one : (p q q′ i j : ℕ) �
       let k = px .0 in
       let m = seen (2 ^ k) l in
       let a : m / 2 ^ k % 2 ≡ l / 2 ^ k % 2 = bit-seen k (2 ^ k) l (bit-here k) in
-      rw (px .1) (
-      rule-bits f (2 ^ k) wy m x y
-      ∙ ap (λ (p : ℕ). f p (m / wy % 2) (x % 4) (y % 4)) a
-      ∙ one (l / 2 ^ k % 2) (m / wy % 2) (l / wy % 2) (x % 4) (y % 4)
-      ∙ sym (rule-bits f (2 ^ k) wy l x y)
-      )
+      rw (px .1, rule-bits f (2 ^ k) wy m x y, rule-bits f (2 ^ k) wy l x y, a) (one (l / 2 ^ k % 2) (m / wy % 2) (l / wy % 2) (x % 4) (y % 4))
 
 -- ---- the bound bit
-off-half : (w l : ℕ) → 0 < w → off (2 * w) l ≡ off w (l / 2) * 2 + l % 2
-unfolding off
-off-half w l h =
-    let q = l / (2 * (2 * w)) in
-    let a : l / 2 / (2 * w) ≡ q = div-div-eq-div-mul l 2 (2 * w) in
-    let d : 2 * w ≡ w * 2 = omega arith in
-    let b : l % (2 * w) ≡ l / 2 % w * 2 + l % 2 = ap (λ (n : ℕ). l % n) d ∙ mod-mul l {m = w} {c = 2} h (omega arith) in
-    let e : 2 * (2 * w) ≡ 2 * w * 2 = omega arith in
-    let c : q * (2 * (2 * w)) ≡ q * (2 * w) * 2 = ap (λ (n : ℕ). q * n) e ∙ sym (mul-assoc q (2 * w) 2) in
-    let g : l / 2 / (2 * w) * (2 * w) ≡ q * (2 * w) = ap (λ (n : ℕ). n * (2 * w)) a in
-    omega arith
-
 off-suc : (k l : ℕ) → off (2 ^ suc k) l ≡ off (2 ^ k) (l / 2) * 2 + l % 2
-off-suc k l = let e : 2 ^ suc k ≡ 2 * 2 ^ k = omega (arith, pow-suc 2 k) in ap (λ (w : ℕ). off w l) e ∙ off-half (2 ^ k) l (pow-pos k)
-
-off-one : (l : ℕ) → off 1 l ≡ l / 2 * 2
 unfolding off
-off-one l = omega arith
+off-suc k l =
+    let w = 2 ^ k in
+    let q = l / 2 / (2 * w) in
+    let d : 2 * (w * 2) ≡ 2 * (2 * w) = omega arith in
+    let e : 2 * (2 * w) ≡ 2 * w * 2 = omega arith in
+    let c : q * (2 * (2 * w)) ≡ q * (2 * w) * 2 = rw (e, mul-assoc q (2 * w) 2) in
+    rw (pow-suc 2 k, d, ← div-div-eq-div-mul l 2 (2 * w), mod-mul l {m = w} {c = 2} (pow-pos k) (omega arith)) (omega arith)
 
-mem-off : (k q l : ℕ) → mem q (off (2 ^ k) l) ≡ (mem q l && not (eqb k q))
+-- the label with the bit of weight w put to b
+abbrev put : Bool → ℕ → ℕ → ℕ
+put true w l = on w l
+put false w l = off w l
+
+put-one : (b : Bool) (l : ℕ) → (put b 1 l % 2 ≡ digit b) × (put b 1 l / 2 ≡ l / 2)
+unfolding off on
+put-one true l = (omega arith, omega arith)
+put-one false l = (omega arith, omega arith)
+
+put-suc : (b : Bool) (k l : ℕ) → put b (2 ^ suc k) l ≡ put b (2 ^ k) (l / 2) * 2 + l % 2
+unfolding on
+put-suc true k l = omega (arith, off-suc k l, pow-suc 2 k)
+put-suc false k l = off-suc k l
+
+digit-one : (b : Bool) → eqb (digit b) 1 ≡ b
+digit-one true = refl
+digit-one false = refl
+
+mem-put : (b : Bool) (k q l : ℕ) → mem q (put b (2 ^ k) l) ≡ cond (eqb k q) b (mem q l)
 unfolding mem
-mem-off zero zero l =
-    let e : off 1 l % 2 ≡ 0 = omega (arith, off-one l) in
-    ap (λ (n : ℕ). eqb n 1) e ∙ sym (and-false (eqb (l % 2) 1))
-mem-off zero (suc q) l =
-    let e : off 1 l / 2 ≡ l / 2 = omega (arith, off-one l) in
-    ap (mem q) e ∙ sym (and-true (mem q (l / 2))) ∙ ap (λ (b : Bool). mem q (l / 2) && not b) (sym (eqb·zero-suc q))
-mem-off (suc k) zero l =
-    let e : off (2 ^ suc k) l % 2 ≡ l % 2 = omega (arith, off-suc k l) in
-    ap (λ (n : ℕ). eqb n 1) e ∙ sym (and-true (eqb (l % 2) 1)) ∙ ap (λ (b : Bool). eqb (l % 2) 1 && not b) (sym (eqb·suc-zero k))
-mem-off (suc k) (suc q) l =
-    let e : off (2 ^ suc k) l / 2 ≡ off (2 ^ k) (l / 2) = omega (arith, off-suc k l) in
-    ap (mem q) e ∙ mem-off k q (l / 2) ∙ ap (λ (b : Bool). mem q (l / 2) && not b) (sym (eqb·suc-suc k q))
+mem-put b zero zero l = rw (put-one b l .0) (digit-one b)
+mem-put b zero (suc q) l = rw (eqb·zero-suc q, put-one b l .1)
+mem-put b (suc k) zero l =
+    let e : put b (2 ^ suc k) l % 2 ≡ l % 2 = omega (arith, put-suc b k l) in
+    rw (eqb·suc-zero k, e)
+mem-put b (suc k) (suc q) l =
+    let e : put b (2 ^ suc k) l / 2 ≡ put b (2 ^ k) (l / 2) = omega (arith, put-suc b k l) in
+    rw (eqb·suc-suc k q, e) (mem-put b k q (l / 2))
 
-mem-on : (k q l : ℕ) → mem q (on (2 ^ k) l) ≡ (mem q l || eqb k q)
-unfolding mem on
-mem-on zero zero l =
-    let e : (off 1 l + 1) % 2 ≡ 1 = omega (arith, off-one l) in
-    ap (λ (n : ℕ). eqb n 1) e ∙ sym (or-true (eqb (l % 2) 1))
-mem-on zero (suc q) l =
-    let e : (off 1 l + 1) / 2 ≡ l / 2 = omega (arith, off-one l) in
-    ap (mem q) e ∙ sym (or-false (mem q (l / 2))) ∙ ap (λ (b : Bool). mem q (l / 2) || b) (sym (eqb·zero-suc q))
-mem-on (suc k) zero l =
-    let e : (off (2 ^ suc k) l + 2 ^ suc k) % 2 ≡ l % 2 = omega (arith, off-suc k l, pow-suc 2 k) in
-    ap (λ (n : ℕ). eqb n 1) e ∙ sym (or-false (eqb (l % 2) 1)) ∙ ap (λ (b : Bool). eqb (l % 2) 1 || b) (sym (eqb·suc-zero k))
-mem-on (suc k) (suc q) l =
-    let e : (off (2 ^ suc k) l + 2 ^ suc k) / 2 ≡ off (2 ^ k) (l / 2) + 2 ^ k = omega (arith, off-suc k l, pow-suc 2 k) in
-    ap (mem q) e ∙ mem-on k q (l / 2) ∙ ap (λ (b : Bool). mem q (l / 2) || b) (sym (eqb·suc-suc k q))
+put-seen : (e b a f : Bool) → (cond e b (a && cond e false f) && f) ≡ (cond e b a && f)
+put-seen true b a f = refl
+put-seen false b true true = refl
+put-seen false b true false = refl
+put-seen false b false f = refl
 
-cleared : (a f e : Bool) → (((a && (f && not e)) && not e) && f) ≡ ((a && not e) && f)
-cleared false f e = refl
-cleared true true true = refl
-cleared true true false = refl
-cleared true false true = refl
-cleared true false false = refl
-
-raised : (a f e : Bool) → (((a && (f && not e)) || e) && f) ≡ ((a || e) && f)
-raised false f e = refl
-raised true true true = refl
-raised true true false = refl
-raised true false true = refl
-raised true false false = refl
-
-seen-off : (w f l : ℕ) → Power w → seen f (off w (seen (off w f) l)) ≡ seen f (off w l)
-seen-off w f l p =
+seen-put : (b : Bool) (w f l : ℕ) → Power w → seen f (put b w (seen (off w f) l)) ≡ seen f (put b w l)
+seen-put b w f l p =
     let k = p .0 in
     let v = 2 ^ k in
-    rw (p .1) (mem-ext (seen f (off v (seen (off v f) l))) (seen f (off v l)) λ q.
-    mem-seen q f (off v (seen (off v f) l))
-    ∙ ap (λ (b : Bool). b && mem q f) (mem-off k q (seen (off v f) l)
-    ∙ ap (λ (b : Bool). b && not (eqb k q)) (mem-seen q (off v f) l ∙ ap (λ (b : Bool). mem q l && b) (mem-off k q f)))
-    ∙ cleared (mem q l) (mem q f) (eqb k q)
-    ∙ sym (mem-seen q f (off v l) ∙ ap (λ (b : Bool). b && mem q f) (mem-off k q l)))
-
-seen-on : (w f l : ℕ) → Power w → seen f (on w (seen (off w f) l)) ≡ seen f (on w l)
-seen-on w f l p =
-    let k = p .0 in
-    let v = 2 ^ k in
-    rw (p .1) (mem-ext (seen f (on v (seen (off v f) l))) (seen f (on v l)) λ q.
-    mem-seen q f (on v (seen (off v f) l))
-    ∙ ap (λ (b : Bool). b && mem q f) (mem-on k q (seen (off v f) l)
-    ∙ ap (λ (b : Bool). b || eqb k q) (mem-seen q (off v f) l ∙ ap (λ (b : Bool). mem q l && b) (mem-off k q f)))
-    ∙ raised (mem q l) (mem q f) (eqb k q)
-    ∙ sym (mem-seen q f (on v l) ∙ ap (λ (b : Bool). b && mem q f) (mem-on k q l)))
+    rw (p .1) (mem-ext (seen f (put b v (seen (off v f) l))) (seen f (put b v l)) λ q.
+    simp (mem-seen, mem-put b k, mem-put false k) (put-seen (eqb k q) b (mem q l) (mem q f)))
 
 -- ---- so a record has the same successors under labels that it sees alike
-module _ (e d : Step) (wx wy f g : ℕ) (px : Power wx) (py : Power wy) (l x y : ℕ) where
-  -- the successor code for "exists", from the two labels as the part sees them
+module _ (e d : Step) (wx wy f g : ℕ) (px : Power wx) (py : Power wy) (l : ℕ) (xs : List ℕ) where
+  -- the pair of successors, and the successor code for "exists", from the two labels as the parts see them
+  abbrev pair : ℕ → ℕ → ℕ
+  pair a b = e a (map firstPart xs) * 64 + d b (map secondPart xs)
+
   abbrev union : ℕ → ℕ → ℕ
-  union a b = wordOf (λ (q : ℕ). any (λ (i : ℕ). mem i x && any (λ (j : ℕ). mem j y && (eqb (e a i j % 64) q || eqb (e b i j % 64) q)) 64) 64) 64
+  union a b = wordOf (λ (q : ℕ). choice (λ (is : List ℕ). eqb (e a is % 64) q || eqb (e b is % 64) q) xs) 64
 
   pub kind-blind : (k : Kind)
-      → kindCode k (through f e) (through g d) wx wy (seen (looksOf k wx wy f g) l) x y ≡ kindCode k (through f e) (through g d) wx wy l x y
+      → kindCode k (through f e) (through g d) wx wy (seen (looksOf k wx wy f g) l) xs ≡ kindCode k (through f e) (through g d) wx wy l xs
   unfolding kindCode through pairCode existsCode hit
-  kind-blind Subset = ap (ruleAt subsetRule) (atom-seen wx wy l x y px py)
-  kind-blind Single = unary-seen singleRule (λ p q q′ i j. refl) wx wy l x y px
-  kind-blind Child1 = ap (ruleAt child1Rule) (atom-seen wx wy l x y px py)
-  kind-blind Child2 = ap (ruleAt child2Rule) (atom-seen wx wy l x y px py)
-  kind-blind Root = unary-seen rootRule (λ p q q′ i j. refl) wx wy l x y px
+  kind-blind Subset = ap (ruleAt subsetRule) (atom-seen wx wy l _ _ px py)
+  kind-blind Single = unary-seen singleRule (λ p q q′ i j. refl) wx wy l _ _ px
+  kind-blind Child1 = ap (ruleAt child1Rule) (atom-seen wx wy l _ _ px py)
+  kind-blind Child2 = ap (ruleAt child2Rule) (atom-seen wx wy l _ _ px py)
+  kind-blind Root = unary-seen rootRule (λ p q q′ i j. refl) wx wy l _ _ px
   kind-blind Not = refl
-  kind-blind Or = ap₂ (λ (m n : ℕ). e m (x / 64 % 64) (y / 64 % 64) * 64 + d n (x % 64) (y % 64)) (seen-left f g l) (seen-right f g l)
-  kind-blind And = ap₂ (λ (m n : ℕ). e m (x / 64 % 64) (y / 64 % 64) * 64 + d n (x % 64) (y % 64)) (seen-left f g l) (seen-right f g l)
-  kind-blind Exists = ap₂ union (seen-off wx f l px) (seen-on wx f l px)
+  kind-blind Or = ap₂ pair (seen-left f g l) (seen-right f g l)
+  kind-blind And = ap₂ pair (seen-left f g l) (seen-right f g l)
+  kind-blind Exists = ap₂ union (seen-put false wx f l px) (seen-put true wx f l px)

@@ -1,40 +1,25 @@
 -- A rule of a table, proved at all of its entries by one test that antt computes.
 -- Assumes nothing.
-use Rattle.words.proofs.Vocabulary.{ℕ, _<_, _+_, suc, zero, Bool, true, false, _≡_, _∙_, sym, subst, List, [], _∷_, eqb, ltb, T, ltb→lt, eqb→eq}
+use Rattle.words.proofs.Vocabulary.{ℕ, _<_, _+_, suc, zero, Bool, true, _&&_, _≡_, List, [], _∷_, eqb, ltb, eqb-true, ltb-true}
 use Rattle.words.proofs.Vocabulary.{length, getD, le-of-suc-le-suc, not-suc-le-zero, add-zero, add-suc, suc-add, zero-add}
+use Rattle.words.proofs.Any.{and-both}
 use Rattle.table.specs.Succ.{ruleAt}
-
-abbrev pub both : Bool → Bool → Bool
-both true b = b
-both false b = false
-
-both-left : (a b : Bool) → T (both a b) → T a
-both-left true b t = tt
-both-left false b t = t
-
-both-right : (a b : Bool) → T (both a b) → T b
-both-right true b t = t
-both-right false b t = absurd t
 
 -- the test f passes at each entry of the list and its place, counted from i
 abbrev pub every : (ℕ → ℕ → Bool) → ℕ → List ℕ → Bool
 every f i [] = true
-every f i (x ∷ xs) = both (f i x) (every f (suc i) xs)
+every f i (x ∷ xs) = f i x && every f (suc i) xs
 
-from : (f : ℕ → ℕ → Bool) (xs : List ℕ) (i : ℕ) → T (every f i xs) → (k : ℕ) → k < length xs → T (f (i + k) (getD xs k 0))
+from : (f : ℕ → ℕ → Bool) (xs : List ℕ) (i : ℕ) → every f i xs ≡ true → (k : ℕ) → k < length xs → f (i + k) (getD xs k 0) ≡ true
 from f [] i t k h = absurd (not-suc-le-zero h)
-from f (x ∷ xs) i t zero h = subst (λ (m : ℕ). T (f m x)) (sym (add-zero i)) (both-left (f i x) (every f (suc i) xs) t)
-from f (x ∷ xs) i t (suc k) h =
-    subst (λ (m : ℕ). T (f m (getD xs k 0))) (suc-add i k ∙ sym (add-suc i k))
-    (from f xs (suc i) (both-right (f i x) (every f (suc i) xs) t) k (le-of-suc-le-suc h))
-
-pub at : (f : ℕ → ℕ → Bool) (xs : List ℕ) → T (every f 0 xs) → (k : ℕ) → k < length xs → T (f k (getD xs k 0))
-at f xs t k h = subst (λ (m : ℕ). T (f m (getD xs k 0))) (zero-add k) (from f xs 0 t k h)
+from f (x ∷ xs) i t zero h = rw add-zero (and-both (f i x) (every f (suc i) xs) t .0)
+from f (x ∷ xs) i t (suc k) h = rw (add-suc, ← suc-add) (from f xs (suc i) (and-both (f i x) (every f (suc i) xs) t .1) k (le-of-suc-le-suc h))
 
 -- an atom's table has the atom's rule
-pub rule-at : (f : ℕ → ℕ → ℕ → ℕ → ℕ) (xs : List ℕ) → T (every (λ (k x : ℕ). eqb x (ruleAt f k)) 0 xs) → (k : ℕ) → k < length xs → getD xs k 0 ≡ ruleAt f k
-rule-at f xs t k h = eqb→eq (getD xs k 0) (ruleAt f k) (at (λ (k x : ℕ). eqb x (ruleAt f k)) xs t k h)
+pub rule-at : (f : ℕ → ℕ → ℕ → ℕ → ℕ) (xs : List ℕ) → every (λ (k x : ℕ). eqb x (ruleAt f k)) 0 xs ≡ true → (k : ℕ) → k < length xs
+    → getD xs k 0 ≡ ruleAt f k
+rule-at f xs t k h = eqb-true (getD xs k 0) (ruleAt f k) (rw zero-add at (from (λ (k x : ℕ). eqb x (ruleAt f k)) xs 0 t k h))
 
 -- its entries are bytes
-pub byte-at : (xs : List ℕ) → T (every (λ (k x : ℕ). ltb x 256) 0 xs) → (k : ℕ) → k < length xs → getD xs k 0 < 256
-byte-at xs t k h = ltb→lt (getD xs k 0) 256 (at (λ (k x : ℕ). ltb x 256) xs t k h)
+pub byte-at : (xs : List ℕ) → every (λ (k x : ℕ). ltb x 256) 0 xs ≡ true → (k : ℕ) → k < length xs → getD xs k 0 < 256
+byte-at xs t k h = ltb-true (getD xs k 0) 256 (from (λ (k x : ℕ). ltb x 256) xs 0 t k h)

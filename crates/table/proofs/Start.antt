@@ -1,44 +1,48 @@
 -- The start of "exists": its set grows until it is closed. Assumes nothing.
-use Rattle.words.proofs.Vocabulary.{ℕ, _≤_, _<_, _+_, _-_, suc, _%_, zero, _^_, _||_, _&&_, _≡_, _∙_, refl, sym, ap, List, bitOr, eqb, add-zero}
-use Rattle.words.proofs.Vocabulary.{add-suc, arith}
+use Rattle.words.proofs.Vocabulary.{ℕ, _≤_, _<_, _+_, _-_, suc, _%_, zero, _^_, Bool, _||_, _≡_, _∙_, refl, sym, ap, List, [], _∷_, bitOr, eqb, add-zero}
+use Rattle.words.proofs.Vocabulary.{add-suc, add-one, bitAnd, arith}
+use Rattle.layout.specs.Shape.{Shaped, labelsIn, placeIn}
 use Rattle.words.specs.Word.{Below, mem, any}
 use Rattle.table.specs.Rows.{Inside}
-use Rattle.table.specs.Entry.{Step, through, entry, seen}
-use Rattle.table.specs.Succ.{hit, hitSet, existsCode, closer, closing, existsStart}
+use Rattle.table.specs.Entry.{entry, through, seen}
+use Rattle.table.specs.Succ.{hit, hitSet, choice, existsCode, closing, existsStart, firstStep}
 use Rattle.table.specs.declared.plan.Plan.{Plan}
 use Rattle.table.proofs.Labels.{off-zero, on-zero}
 use Rattle.table.proofs.Masks.{mem-ext, seen-le}
 use Rattle.words.proofs.WordLaws.{mem-or, word-ext}
 use Rattle.table.proofs.Sets.{closing-same}
 
--- a closed set stays as it is
-still : (f : Step) (w d k : ℕ) → closer f w (closing f w d 1) ≡ closing f w d 1 → closing f w (d + k) 1 ≡ closing f w d 1
-unfolding closing
-still f w d zero e = ap (λ (n : ℕ). closing f w n 1) (add-zero d)
-still f w d (suc k) e = ap (λ (n : ℕ). closing f w n 1) (add-suc d k) ∙ ap (closer f w) (still f w d k e) ∙ e
+-- the set, grown d times
+abbrev pub grown : List ℕ → Plan → ℕ → ℕ
+grown low p d = closing (p .shape .branches) (firstStep low p) (p .wx) d 1
 
-pub closed-early : (f : Step) (w d : ℕ) → d ≤ 64 → closer f w (closing f w d 1) ≡ closing f w d 1 → closing f w d 1 ≡ existsStart f w
-unfolding existsStart
-closed-early f w d h e = let z : d + (64 - d) ≡ 64 = omega arith in sym (still f w d (64 - d) e) ∙ ap (λ (n : ℕ). closing f w n 1) z
+module _ (low : List ℕ) (p : Plan) (d : ℕ) where
+  -- a closed set stays as it is
+  still : grown low p (suc d) ≡ grown low p d → (j : ℕ) → grown low p (d + j) ≡ grown low p d
+  unfolding closing
+  still e zero = rw add-zero
+  still e (suc j) = rw (add-suc, still e j) e
 
--- what follows two members of a set under label 0, from the table's entries
-pub follow-zero : (e : Step) (f w s r : ℕ) → r < 2 ^ 64 → ((q : ℕ) → mem q r ≡ any (hitSet e 0 (seen f w) s s q) 64) → r ≡ existsCode (through f e) w 0 s s
-unfolding existsCode through hit
-follow-zero e f w s r h all =
-    let z : seen f 0 ≡ 0 = omega (arith, seen-le f 0) in
-    rw (off-zero w, on-zero w)
-    (word-ext 64 r (λ (q : ℕ). any (hitSet (through f e) 0 w s s q) 64) h (λ q l.
-    all q ∙ ap (λ (m : ℕ). any (λ (i : ℕ). mem i s && any (λ (j : ℕ). mem j s && (eqb (e m i j % 64) q || eqb (e (seen f w) i j % 64) q)) 64) 64) (sym z)))
+  pub closed-early : d ≤ 64 → grown low p (d + 1) ≡ grown low p d → grown low p d ≡ existsStart (p .shape .branches) (firstStep low p) (p .wx)
+  unfolding existsStart
+  closed-early h e = let z : d + (64 - d) ≡ 64 = omega arith in rw z at (sym (still (rw add-one at e) (64 - d)))
 
-pub closer-is : (e : Step) (f w s r t : ℕ) → r < 2 ^ 64 → ((q : ℕ) → mem q r ≡ any (hitSet e 0 (seen f w) s s q) 64)
-    → ((q : ℕ) → mem q t ≡ (mem q s || mem q r))
-    → t ≡ closer (through f e) w s
-closer-is e f w s r t h follows all = mem-ext t (bitOr s r) (λ q. all q ∙ sym (mem-or q s r)) ∙ ap (bitOr s) (follow-zero e f w s r h follows)
+  -- what follows two members under label 0, from the table's entries, is added
+  pub grows : Shaped (p .shape) → {s r t : ℕ} → s ≡ grown low p d → r < 2 ^ 64
+      → ((q : ℕ) → mem q r ≡ any (hitSet (entry (p .shape) low (p .first)) 0 (bitAnd (p .wx) (p .look1)) s s q) 64)
+      → ((q : ℕ) → mem q t ≡ (mem q s || mem q r)) → t ≡ grown low p (d + 1)
+  unfolding closing existsCode choice through hit seen entry placeIn
+  grows sh {s} {r} {t} is h follows all =
+      let e = entry (p .shape) low (p .first) in
+      let z : seen (p .look1) 0 ≡ 0 = omega (arith, seen-le (p .look1) 0) in
+      let f : ℕ → ℕ → Bool = λ q m. choice (λ (is : List ℕ). eqb (e m is % 64) q || eqb (e (bitAnd (p .wx) (p .look1)) is % 64) q) (s ∷ s ∷ []) in
+      rw (add-one, ← is, sh .branches, off-zero (p .wx), on-zero (p .wx)) (mem-ext t (bitOr s r) (λ q. all q ∙ sym (mem-or q s r)) ∙ ap (bitOr s)
+      (word-ext 64 r (λ (q : ℕ). f q (seen (p .look1) 0)) h (λ q l. follows q ∙ ap (f q) (sym z))))
 
 -- the set holds states of the part only
-pub closing-below : (low : List ℕ) (p : Plan) (n : ℕ) → p .c ≤ 64 → Inside low p n → (d : ℕ)
-    → Below n (closing (through (p .look1) (entry low (p .c) (p .first))) (p .wx) d 1)
+pub closing-below : (low : List ℕ) (p : Plan) (n : ℕ) → Shaped (p .shape) → Inside low p n → (d : ℕ)
+    → Below n (closing (p .shape .branches) (firstStep low p) (p .wx) d 1)
 unfolding through
-closing-below low p n top i d =
-    let f = through (p .look1) (entry low (p .c) (p .first)) in
-    closing-same (p .labels) n f f (omega arith) (λ l j k hl hj hk. (refl, i .stays l j k hl hj hk)) (p .wx) (i .bit) (i .some-state) d .1
+closing-below low p n h i d =
+    let f = firstStep low p in
+    closing-same (labelsIn (p .shape)) n (p .shape .branches) f f (omega arith) (λ l is hl t. (refl, i .stays l is hl t)) (p .wx) (i .bit) (i .some-state) d .1

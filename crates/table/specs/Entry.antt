@@ -1,33 +1,37 @@
--- Where a table's entries stand and which labels a record tells apart; a machine's step, and what a table says of it. Assumes nothing.
+-- A machine's step, a table's entries, and which labels a record tells apart. Assumes nothing.
 use Prim.Native.Nat.{ℕ, _+_, _*_, _/_, _%_, _^_, _≤_, _<_}
 use mathlib.Core.Path.{_≡_}
 use mathlib.Core.List.{List}
 use lib.Bits.{bitAnd}
-use lib.ListN.{getD}
-
--- where the entry for a label and two states stands in a table of c states
-unfoldable pub addr : ℕ → ℕ → ℕ → ℕ → ℕ
-addr c l i j = (l * c + i) * c + j
+use lib.ListN.{length, getD}
+use Rattle.layout.specs.Shape.{Shaped, shareOf, placeIn, Tuple}
+use Rattle.layout.specs.declared.Shape.{Shape}
 
 -- label l as a record sees it that looks at the bits f
 unfoldable pub seen : ℕ → ℕ → ℕ
 seen f l = bitAnd l f
 
--- at k stands no entry of the table at base, whose labels have no bit but those given and whose states are below n
-abbrev pub Bare : ℕ → ℕ → ℕ → ℕ → ℕ → Type 0
-Bare base c bits n k = (l i j : ℕ) → l ≤ seen bits l → i < n → j < n → k ≡ base + addr c l i j → ⊥
-
--- a machine's step: from a label and two states to a state
+-- a machine's step: from a label and the states of the branches, in order, to a state
 abbrev pub Step : Type 0
-Step = ℕ → ℕ → ℕ → ℕ
+Step = ℕ → List ℕ → ℕ
 
--- the entry of the table at a, for a label and two states
-unfoldable pub entry : List ℕ → ℕ → ℕ → ℕ → ℕ → ℕ → ℕ
-entry low c a l i j = getD low (a + addr c l i j) 0
+-- the entry of the table at a
+unfoldable pub entry : Shape → List ℕ → ℕ → Step
+entry s low a l is = getD low (a + placeIn s l is) 0
+
+-- the table at a lies within `low`
+pub record Within (s : Shape) (low : List ℕ) (a : ℕ) : Type 0 where
+  pub shape : Shaped s
+  pub small : a < 4294967296
+  pub share : a + shareOf s ≤ length low
+
+-- at q stands no entry of the table at base, whose labels have no bit but those given and whose states are below n
+abbrev pub Bare : Shape → ℕ → ℕ → ℕ → ℕ → Type 0
+Bare s base bits n q = (l : ℕ) (is : List ℕ) → l ≤ seen bits l → Tuple (s .branches) n is → q ≡ base + placeIn s l is → ⊥
 
 -- the step of a machine that looks at the bits f, from its entries at the labels that it tells apart
 unfoldable pub through : ℕ → Step → Step
-through f e l i j = e (seen f l) i j
+through f e l is = e (seen f l) is
 
 -- the label with the bit of weight w cleared, and set
 unfoldable pub off : ℕ → ℕ → ℕ

@@ -1,12 +1,14 @@
 -- The successors of a new code and the codes before it, and for "exists" what they are the unions of. Document 01, "Machines": "At a node
 -- it collects all steps with the bound bit 0 or 1."
 -- Assumes nothing.
-use Prim.Native.Nat.{ℕ, _+_, _*_, _≤_, _<_}
+use Prim.Native.Nat.{ℕ, _+_, _≤_, _<_}
 use mathlib.Core.Bool.{Bool, _&&_}
-use mathlib.Core.List.{List}
+use mathlib.Core.List.{List, [], _∷_}
 use mathlib.Core.Path.{_≡_}
 use lib.ListN.{length, getD}
-use Rattle.table.specs.Entry.{seen, Bit, Step, entry, on}
+use Rattle.layout.specs.Shape.{labelsIn, shareOf, Tuple}
+use Rattle.layout.specs.declared.Shape.{Shape}
+use Rattle.table.specs.Entry.{seen, Bit, Step, Within, entry, on}
 use Rattle.table.specs.Succ.{hit, hitRow}
 use Rattle.words.specs.Word.{mem, any, wordOf, Below}
 use Rattle.table.specs.declared.plan.Plan.{Plan}
@@ -14,7 +16,7 @@ use Rattle.table.specs.declared.plan.Kind.the-variants.{Exists}
 
 -- does state q follow an i that is a member of x and state j under the label l or m
 abbrev pub hitColumn : Step → ℕ → ℕ → ℕ → ℕ → ℕ → ℕ → Bool
-hitColumn f l m x q j i = mem i x && hit f l m q i j
+hitColumn f l m x q j i = mem i x && hit f l m q (i ∷ j ∷ [])
 
 -- the union of what a row has at the members of s
 unfoldable pub unionOf : List ℕ → ℕ → ℕ
@@ -26,27 +28,45 @@ pub record Follows (f : Step) (l m s t : ℕ) (left right : List ℕ) : Type 0 w
   pub before : (q : ℕ) → mem q (getD right t 0) ≡ any (hitRow f l m s q t) 64
 
 -- the rows have the successors of code k and each code up to it, on either side
-abbrev pub Serves : (ℕ → ℕ → ℕ → ℕ) → ℕ → List ℕ → ℕ → List ℕ → List ℕ → Type 0
+abbrev pub Serves : Step → ℕ → List ℕ → ℕ → List ℕ → List ℕ → Type 0
 Serves succ l codes k left right =
-    (i : ℕ) → i ≤ k → (getD right i 0 ≡ succ l (getD codes i 0) (getD codes k 0)) × (getD left i 0 ≡ succ l (getD codes k 0) (getD codes i 0))
+    (i : ℕ) → i ≤ k
+    → (getD right i 0 ≡ succ l (getD codes i 0 ∷ getD codes k 0 ∷ [])) × (getD left i 0 ≡ succ l (getD codes k 0 ∷ getD codes i 0 ∷ []))
 
 -- the unions of the rows `lefts` and `rights` for each set up to k
 abbrev pub UnionsUpTo : ℕ → List ℕ → List ℕ → List ℕ → List ℕ → List ℕ → Type 0
 UnionsUpTo k lefts rights sets left right =
     (i : ℕ) → i ≤ k → (getD right i 0 ≡ unionOf rights (getD sets i 0)) × (getD left i 0 ≡ unionOf lefts (getD sets i 0))
 
--- the entries that the successors of the sets up to k are taken from lie within `low`
-pub record Ready (low : List ℕ) (c a w l : ℕ) (sets : List ℕ) (k : ℕ) : Type 0 where
-  pub share : a + on w l * c * c + c * c ≤ length low
-  pub states : (i : ℕ) → i ≤ k → Below c (getD sets i 0)
+-- both arrays have a word for each state
+pub record Full (left right : List ℕ) : Type 0 where
+  pub left-long : length left ≡ 64
+  pub right-long : length right ≡ 64
+
+-- the steps under the labels l and m, from members of s, can be read off the table at a
+pub record Readable (sh : Shape) (low : List ℕ) (a l m s : ℕ) : Type 0 where
+  pub table : Within sh low a
+  pub first-label : l < labelsIn sh
+  pub second-label : m < labelsIn sh
+  pub states : Below (sh .ceiling) s
+
+-- the entries that the successors of the sets up to k are taken from, with the bit of weight w cleared and set, lie within `low`
+pub record Ready (sh : Shape) (low : List ℕ) (a w l : ℕ) (sets : List ℕ) (k : ℕ) : Type 0 where
+  pub table : Within sh low a
+  pub weight : 0 < w
+  pub small : w ≤ 128
+  pub label : on w l < labelsIn sh
+  pub last : k < 64
+  pub states : (i : ℕ) → i ≤ k → Below (sh .ceiling) (getD sets i 0)
 
 -- the table of the part of an "exists" lies within `low`, and leads from its n states to its states
 pub record Inside (low : List ℕ) (p : Plan) (n : ℕ) : Type 0 where
   pub some-state : 0 < n
-  pub few : n ≤ p .c
-  pub share : p .first + p .labels * p .c * p .c ≤ length low
-  pub bit : Bit (p .wx) (p .labels)
-  pub stays : (l i j : ℕ) → l < p .labels → i < n → j < n → entry low (p .c) (p .first) (seen (p .look1) l) i j < n
+  pub few : n ≤ p .shape .ceiling
+  pub share : p .first + shareOf (p .shape) ≤ length low
+  pub bit : Bit (p .wx) (labelsIn (p .shape))
+  pub stays : (l : ℕ) (is : List ℕ) → l < labelsIn (p .shape) → Tuple (p .shape .branches) n is
+      → entry (p .shape) low (p .first) (seen (p .look1) l) is < n
 
 -- the part's table is there, if the record is an "exists"
 abbrev pub Led : List ℕ → Plan → Type 0

@@ -1,56 +1,65 @@
--- The successor code of two codes under a label, by the kind of record. Document 01, "Machines": the transition rules of the five atoms,
--- the pairs of "or" and "and", and of "exists" the start, "the smallest set that contains 0 and is closed under nodes whose label is 0
--- except, freely, for the bound variable", and the node, where "it collects all steps with the bound bit 0 or 1".
--- `low` is the workspace before the record's own share. Assumes nothing.
+-- The successor code of the branches' codes under a label, by the kind of record. Document 01, "Machines": the transition rules of the five
+-- atoms, the pairs of "or" and "and", and of "exists" the start, "the smallest set that contains 0 and is closed under nodes whose label is
+-- 0 except, freely, for the bound variable", and the node, where "it collects all steps with the bound bit 0 or 1".
+-- `low` is the workspace before the record's own share. All but the atoms' rules are for any number of branches. Assumes nothing.
 use Prim.Native.Nat.{ℕ, zero, suc, _+_, _*_, _/_, _%_, _≤_, _<_, min}
-use mathlib.Core.List.{List}
+use mathlib.Core.List.{List, [], _∷_, map}
 use mathlib.Core.Bool.{Bool, _&&_, _||_, cond}
 use mathlib.Core.Path.{_≡_}
 use lib.Bits.{bitOr}
 use lib.Dec.{eqb}
+use lib.ListN.{take, getD, replicate}
+use Rattle.layout.specs.Shape.{Shaped, shareOf}
 use Rattle.words.specs.Word.{mem, wordOf, any}
-use lib.ListN.{take}
 use Rattle.table.specs.Entry.{seen, Step, off, through, entry, on}
 use Rattle.table.specs.declared.plan.Plan.{Plan}
 use Rattle.table.specs.declared.plan.Kind.{Kind}
 use Rattle.table.specs.declared.plan.Kind.the-variants.{Subset, Single, Child1, Child2, Root, Not, Or, And, Exists}
 
+-- a pair of states q and r is q * 64 + r
+abbrev pub firstPart : ℕ → ℕ
+firstPart x = x / 64 % 64
+
+abbrev pub secondPart : ℕ → ℕ
+secondPart x = x % 64
+
 -- the pair of states of two machines
-unfoldable pub pairCode : Step → Step → ℕ → ℕ → ℕ → ℕ
-pairCode f g l x y = f l (x / 64 % 64) (y / 64 % 64) * 64 + g l (x % 64) (y % 64)
+unfoldable pub pairCode : Step → Step → Step
+pairCode f g l xs = f l (map firstPart xs) * 64 + g l (map secondPart xs)
 
--- the same, from the tables at a and b of two machines that look at the bits f and g
-abbrev pub pairStep : List ℕ → ℕ → ℕ → ℕ → ℕ → ℕ → Step
-pairStep low c a b f g = pairCode (through f (entry low c a)) (through g (entry low c b))
+-- does state q follow the states under the label l or m
+unfoldable pub hit : Step → ℕ → ℕ → ℕ → List ℕ → Bool
+hit f l m q is = eqb (f l is % 64) q || eqb (f m is % 64) q
 
--- does state q follow the states i and j under the label l or m
-unfoldable pub hit : Step → ℕ → ℕ → ℕ → ℕ → ℕ → Bool
-hit f l m q i j = eqb (f l i j % 64) q || eqb (f m i j % 64) q
+-- does a list pass that has one member of each set
+unfoldable pub choice : (List ℕ → Bool) → List ℕ → Bool
+choice test [] = test []
+choice test (x ∷ xs) = any (λ (i : ℕ). mem i x && choice (λ (is : List ℕ). test (i ∷ is)) xs) 64
 
--- the same of state i and a j that is a member of y
+-- does state q follow state i and a j that is a member of y
 abbrev pub hitRow : Step → ℕ → ℕ → ℕ → ℕ → ℕ → ℕ → Bool
-hitRow f l m y q i j = mem j y && hit f l m q i j
+hitRow f l m y q i j = mem j y && hit f l m q (i ∷ j ∷ [])
 
 -- the same of an i that is a member of x and some member of y
 abbrev pub hitSet : Step → ℕ → ℕ → ℕ → ℕ → ℕ → ℕ → Bool
 hitSet f l m x y q i = mem i x && any (hitRow f l m y q i) 64
 
--- the states that follow a member of x and a member of y, with the bound bit cleared or set
-unfoldable pub existsCode : Step → ℕ → ℕ → ℕ → ℕ → ℕ
-existsCode f w l x y = wordOf (λ (q : ℕ). any (hitSet f (off w l) (on w l) x y q) 64) 64
+-- the states that follow a member of each set, with the bound bit cleared or set
+unfoldable pub existsCode : Step → ℕ → Step
+existsCode f w l xs = wordOf (λ (q : ℕ). choice (hit f (off w l) (on w l) q) xs) 64
 
--- the set s with the states that follow two of its members under label 0, with the bound bit cleared or set
-abbrev pub closer : Step → ℕ → ℕ → ℕ
-closer f w s = bitOr s (existsCode f w 0 s s)
+-- the set s with the states that follow members of it at k branches under label 0, with the bound bit cleared or set
+abbrev pub closer : ℕ → Step → ℕ → ℕ → ℕ
+closer k f w s = bitOr s (existsCode f w 0 (replicate k s))
 
 -- and so on, d times
-unfoldable pub closing : Step → ℕ → ℕ → ℕ → ℕ
-closing f w zero s = s
-closing f w (suc d) s = closer f w (closing f w d s)
+unfoldable pub closing : ℕ → Step → ℕ → ℕ → ℕ → ℕ
+closing k f w zero s = s
+closing k f w (suc d) s = closer k f w (closing k f w d s)
 
 -- the start of "exists": each time adds a state, of at most 64, or changes nothing
-unfoldable pub existsStart : Step → ℕ → ℕ
-existsStart f w = closing f w 64 1
+unfoldable pub existsStart : ℕ → Step → ℕ → ℕ
+existsStart k f w = closing k f w 64 1
 
 -- where an atom's table has the entry for a label and two states: the two bits, and the two states
 unfoldable pub atomIndex : ℕ → ℕ → ℕ → ℕ → ℕ → ℕ
@@ -99,21 +108,22 @@ atomCode Or k = 0
 atomCode And k = 0
 atomCode Exists k = 0
 
-abbrev pub atomStep : Kind → ℕ → ℕ → ℕ → ℕ → ℕ → ℕ
-atomStep k wx wy l x y = atomCode k (atomIndex wx wy l x y)
+-- the step by an atom's table
+abbrev pub tabled : (ℕ → ℕ) → ℕ → ℕ → Step
+tabled table wx wy l xs = table (atomIndex wx wy l (getD xs 0 0) (getD xs 1 0))
 
 -- the successor code by the kind of record, from the steps of its parts' machines and the weights of its variables' bits; 0 for "not",
 -- whose machine is not explored
-unfoldable pub kindCode : Kind → Step → Step → ℕ → ℕ → ℕ → ℕ → ℕ → ℕ
-kindCode Subset f g wx wy l x y = ruleAt subsetRule (atomIndex wx wy l x y)
-kindCode Single f g wx wy l x y = ruleAt singleRule (atomIndex wx wy l x y)
-kindCode Child1 f g wx wy l x y = ruleAt child1Rule (atomIndex wx wy l x y)
-kindCode Child2 f g wx wy l x y = ruleAt child2Rule (atomIndex wx wy l x y)
-kindCode Root f g wx wy l x y = ruleAt rootRule (atomIndex wx wy l x y)
-kindCode Not f g wx wy l x y = 0
-kindCode Or f g wx wy l x y = pairCode f g l x y
-kindCode And f g wx wy l x y = pairCode f g l x y
-kindCode Exists f g wx wy l x y = existsCode f wx l x y
+unfoldable pub kindCode : Kind → Step → Step → ℕ → ℕ → Step
+kindCode Subset f g wx wy l xs = tabled (ruleAt subsetRule) wx wy l xs
+kindCode Single f g wx wy l xs = tabled (ruleAt singleRule) wx wy l xs
+kindCode Child1 f g wx wy l xs = tabled (ruleAt child1Rule) wx wy l xs
+kindCode Child2 f g wx wy l xs = tabled (ruleAt child2Rule) wx wy l xs
+kindCode Root f g wx wy l xs = tabled (ruleAt rootRule) wx wy l xs
+kindCode Not f g wx wy l xs = 0
+kindCode Or f g wx wy l xs = pairCode f g l xs
+kindCode And f g wx wy l xs = pairCode f g l xs
+kindCode Exists f g wx wy l xs = existsCode f wx l xs
 
 -- the bits that a record looks at, where its variables' bits are wx and wy and its parts look at f and g
 abbrev pub looksOf : Kind → ℕ → ℕ → ℕ → ℕ → ℕ
@@ -127,40 +137,47 @@ looksOf Or wx wy f g = bitOr f g
 looksOf And wx wy f g = bitOr f g
 looksOf Exists wx wy f g = off wx f
 
-unfoldable pub successorOf : List ℕ → Plan → ℕ → ℕ → ℕ → ℕ
-successorOf low p l x y =
-    kindCode (p .kind) (through (p .look1) (entry low (p .c) (p .first))) (through (p .look2) (entry low (p .c) (p .second))) (p .wx) (p .wy) l x y
+-- the steps of a plan's parts, from their tables
+abbrev pub firstStep : List ℕ → Plan → Step
+firstStep low p = through (p .look1) (entry (p .shape) low (p .first))
+
+abbrev pub secondStep : List ℕ → Plan → Step
+secondStep low p = through (p .look2) (entry (p .shape) low (p .second))
+
+unfoldable pub successorOf : List ℕ → Plan → Step
+successorOf low p l xs = kindCode (p .kind) (firstStep low p) (secondStep low p) (p .wx) (p .wy) l xs
 
 -- the successor function of a plan over a workspace: it reads only what lies before the plan's own share
-abbrev pub succIn : List ℕ → Plan → ℕ → ℕ → ℕ → ℕ
+abbrev pub succIn : List ℕ → Plan → Step
 succIn ws p = successorOf (take (p .base) ws) p
 
--- the start code, from the step of the first part: 0 for all but "exists"
-unfoldable pub startCode : Kind → Step → ℕ → ℕ
-startCode Subset f w = 0
-startCode Single f w = 0
-startCode Child1 f w = 0
-startCode Child2 f w = 0
-startCode Root f w = 0
-startCode Not f w = 0
-startCode Or f w = 0
-startCode And f w = 0
-startCode Exists f w = existsStart f w
+-- the start code, from the step of the first part with k branches: 0 for all but "exists"
+unfoldable pub startCode : Kind → ℕ → Step → ℕ → ℕ
+startCode Subset k f w = 0
+startCode Single k f w = 0
+startCode Child1 k f w = 0
+startCode Child2 k f w = 0
+startCode Root k f w = 0
+startCode Not k f w = 0
+startCode Or k f w = 0
+startCode And k f w = 0
+startCode Exists k f w = existsStart k f w
 
 abbrev pub startOf : List ℕ → Plan → ℕ
-startOf low p = startCode (p .kind) (through (p .look1) (entry low (p .c) (p .first))) (p .wx)
+startOf low p = startCode (p .kind) (p .shape .branches) (firstStep low p) (p .wx)
 
--- the plan's numbers are in range, its share is within a workspace of n bytes, and two labels that it does not tell apart have the same
--- successors
-pub record Room (p : Plan) (n : ℕ) : Type 0 where
-  pub ceiling : p .c ≤ 64
-  pub some-state : 0 < p .c
-  pub few : p .labels ≤ 256
+-- the weights of a plan's bits and the places of its parts' tables are in range
+pub record Ranged (p : Plan) : Type 0 where
+  pub shape : Shaped (p .shape)
   pub first-small : p .first < 4294967296
   pub second-small : p .second < 4294967296
   pub wx-pos : 0 < p .wx
   pub wx-small : p .wx ≤ 128
   pub wy-pos : 0 < p .wy
   pub wy-small : p .wy ≤ 128
-  pub share : p .base + p .labels * p .c * p .c ≤ n
-  pub blind : (low : List ℕ) (l x y : ℕ) → successorOf low p (seen (p .looks) l) x y ≡ successorOf low p l x y
+
+-- and its share is within a workspace of n bytes, and two labels that it does not tell apart have the same successors
+pub record Room (p : Plan) (n : ℕ) : Type 0 where
+  pub ranged : Ranged p
+  pub share : p .base + shareOf (p .shape) ≤ n
+  pub blind : (low : List ℕ) (l : ℕ) (xs : List ℕ) → successorOf low p (seen (p .looks) l) xs ≡ successorOf low p l xs

@@ -1,19 +1,14 @@
 // The entries of tables, and the labels that they stand at.
 ghost use mathlib.Core.Path.{_≡_};
-ghost use Prim.Native.Nat.{_+_, _≤_, _<_};
+ghost use Prim.Native.Nat.{_≤_, _<_};
+ghost use mathlib.Core.List.{[], _∷_};
 ghost use lib.ListN.{getD};
-ghost use Rattle.table.specs.Entry.{entry, off, addr};
-
-// Where the entry for label l and states i and j stands in a table.
-pub fn cell(c: usize, l: usize, i: usize, j: usize) -> usize
-    requires { ⌜ (c ≤ 64) × (l < 512) × (i < 64) × (j < 64) ⌝ }
-    ensures { λ r. ⌜ r ≡ addr c l i j ⌝ }
-{
-    (l * c + i) * c + j
-}
+ghost use Rattle.layout.specs.Shape.{Shaped, labelsIn};
+ghost use Rattle.table.specs.Entry.{Within, entry, off};
+use layout::Shape;
 
 // The byte at k, and 0 past the end.
-pub fn read(s: &[u8], k: usize) -> u8
+fn read(s: &[u8], k: usize) -> u8
     ensures { λ r. ⌜ r ≡ getD (now (s .entry)) k 0 ⌝ }
 {
     if k < s.len() {
@@ -30,12 +25,22 @@ pub fn wide(x: u8) -> u64
 }
 
 // The entry for label l and states i and j of the table that starts at a; 0 past the end.
-pub fn entry_at(low: &[u8], c: usize, a: usize, l: usize, i: usize, j: usize) -> u64
-    requires { ⌜ (c ≤ 64) × (l < 512) × (i < 64) × (j < 64) × (a < 4294967296) ⌝ }
-    ensures { λ r. ⌜ (r ≡ entry (now (low .entry)) c a l i j) × (r < 256) ⌝ }
+pub fn entry_at(low: &[u8], sh: Shape, a: usize, l: usize, i: usize, j: usize) -> u64
+    requires { ⌜ Shaped sh ⌝ }
+    requires { ⌜ (l < 512) × (i < 64) × (j < 64) × (a < 4294967296) ⌝ }
+    ensures { λ r. ⌜ (r ≡ entry sh (now (low .entry)) a l (i ∷ j ∷ [])) × (r < 256) ⌝ }
 {
-    let k = cell(c, l, i, j);
-    wide(read(low, a + k))
+    wide(read(low, a + layout::place(sh, l, i, j)))
+}
+
+// The entry for label l and states i and j of the table that starts at a, which lies within `low`.
+pub fn entry_within(low: &[u8], sh: Shape, a: usize, l: usize, i: usize, j: usize) -> u64
+    requires { ⌜ Within sh (now low) a ⌝ }
+    requires { ⌜ (l < labelsIn sh) × (i < sh .ceiling) × (j < sh .ceiling) ⌝ }
+    ensures { λ r. ⌜ r ≡ entry sh (now (low .entry)) a l (i ∷ j ∷ []) ⌝ }
+{
+    let k = a + layout::place(sh, l, i, j);
+    wide(low[k])
 }
 
 // The label l with the bit of weight w cleared.

@@ -1,4 +1,5 @@
 // What is to be built of a record: its kind, and where its parts and its table lie.
+use layout::Shape;
 
 // How a record's successor codes are computed.
 pub enum Kind {
@@ -22,17 +23,16 @@ pub enum Kind {
     Exists,
 }
 
-// A machine to be built: its kind, the places where the tables of its parts start, the weights of the bits of its variables, the state
-// ceiling, the number of labels, the place where its own table starts, and the bits of the labels that it and its parts look at. A table
-// has its entries at the labels with no other bit: the record does not tell any other label from one of these.
+// A machine to be built: its kind, the places where the tables of its parts start, the weights of the bits of its variables, the shape of
+// the tables, the place where its own starts, and the bits of the labels that it and its parts look at. A table has its entries at the
+// labels with no other bit: the record does not tell any other label from one of these.
 pub struct Plan {
     pub kind: Kind,
     pub first: usize,
     pub second: usize,
     pub wx: usize,
     pub wy: usize,
-    pub c: usize,
-    pub labels: usize,
+    pub shape: Shape,
     pub base: usize,
     pub looks: usize,
     pub look1: usize,

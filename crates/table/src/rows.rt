@@ -2,12 +2,14 @@
 // set and a single state.
 ghost use mathlib.Core.Bool.{true, _||_};
 ghost use mathlib.Core.Path.{_≡_};
-ghost use Prim.Native.Nat.{ℕ, _+_, _*_, _≤_, _<_};
-ghost use lib.ListN.{length, getD};
+ghost use mathlib.Core.List.{[], _∷_};
+ghost use Prim.Native.Nat.{ℕ, _≤_, _<_};
+ghost use lib.ListN.{getD};
+ghost use Rattle.layout.specs.Shape.{Shaped, labelsIn};
 ghost use Rattle.words.specs.Word.{Below, mem, any};
-ghost use Rattle.table.specs.Rows.{Inside, Ready, hitColumn, unionOf, Follows, Serves, UnionsUpTo};
-ghost use Rattle.table.specs.Succ.{atomCode, atomStep, pairStep, hit, hitRow, hitSet, pairCode, existsCode, existsStart, successorOf};
-ghost use Rattle.table.specs.Entry.{entry, through};
+ghost use Rattle.table.specs.Rows.{Inside, Full, Readable, Ready, hitColumn, unionOf, Follows, Serves, UnionsUpTo};
+ghost use Rattle.table.specs.Succ.{atomCode, tabled, hit, hitRow, hitSet, pairCode, existsCode, existsStart, firstStep, successorOf, Ranged};
+ghost use Rattle.table.specs.Entry.{Within, entry, through};
 use crate::atoms::child1_at;
 use crate::atoms::child2_at;
 use crate::atoms::root_at;
@@ -15,9 +17,10 @@ use crate::atoms::single_at;
 use crate::atoms::subset_at;
 use crate::entries::cleared;
 use crate::entries::entry_at;
-use crate::entries::wide;
+use crate::entries::entry_within;
 use crate::plan::Kind;
 use crate::plan::Plan;
+use layout::Shape;
 use words::size;
 use words::smallest;
 use words::union;
@@ -25,23 +28,15 @@ use words::with_member;
 use words::without;
 
 // At a state t, the states that follow a member of a set and t, and those that follow t and a member.
-pub struct Both {
+struct Both {
     pub left: u64,
     pub right: u64,
 }
 
-// The entry for label l and states i and j of the table that starts at a.
-pub fn entry_within(low: &[u8], c: usize, a: usize, l: usize, i: usize, j: usize) -> u64
-    requires { ⌜ (c ≤ 64) × (l < 512) × (a < 4294967296) × (i < c) × (j < c) × (a + l * c * c + c * c ≤ length (now low)) ⌝ }
-    ensures { λ r. ⌜ r ≡ entry (now (low .entry)) c a l i j ⌝ }
-{
-    wide(low[a + l * c * c + (i * c + j)])
-}
-
 // The set s with the states that follow states i and j under the labels l and m.
-pub fn with_steps(
+fn with_steps(
     low: &[u8],
-    c: usize,
+    sh: Shape,
     a: usize,
     l: usize,
     m: usize,
@@ -49,20 +44,20 @@ pub fn with_steps(
     j: usize,
     s: u64,
 ) -> u64
-    requires { ⌜ (c ≤ 64) × (l < 512) × (m < 512) × (a < 4294967296) × (i < c) × (j < c) ⌝ }
-    requires { ⌜ (a + l * c * c + c * c ≤ length (now low)) × (a + m * c * c + c * c ≤ length (now low)) ⌝ }
-    ensures { λ r. ⌜ ((q : ℕ) → mem q r ≡ (mem q s || hit (entry (now (low .entry)) c a) l m q i j)) ⌝ }
+    requires { ⌜ Within sh (now low) a ⌝ }
+    requires { ⌜ (l < labelsIn sh) × (m < labelsIn sh) × (i < sh .ceiling) × (j < sh .ceiling) ⌝ }
+    ensures { λ r. ⌜ ((q : ℕ) → mem q r ≡ (mem q s || hit (entry sh (now (low .entry)) a) l m q (i ∷ j ∷ []))) ⌝ }
 {
-    let r = with_member(s, entry_within(low, c, a, l, i, j));
-    with_member(r, entry_within(low, c, a, m, i, j))
+    let r = with_member(s, entry_within(low, sh, a, l, i, j));
+    with_member(r, entry_within(low, sh, a, m, i, j))
 }
 
 // The states that follow a member of s and state t, and t and a member, under the labels l and m.
-pub fn both_ways(low: &[u8], c: usize, a: usize, l: usize, m: usize, s: u64, t: usize) -> Both
-    requires { ⌜ (c ≤ 64) × (l < 512) × (m < 512) × (a < 4294967296) × (t < c) × Below c s ⌝ }
-    requires { ⌜ (a + l * c * c + c * c ≤ length (now low)) × (a + m * c * c + c * c ≤ length (now low)) ⌝ }
-    ensures { λ r. ⌜ ((q : ℕ) → mem q (r .left) ≡ any (hitColumn (entry (now (low .entry)) c a) l m s q t) 64) ⌝ }
-    ensures { λ r. ⌜ ((q : ℕ) → mem q (r .right) ≡ any (hitRow (entry (now (low .entry)) c a) l m s q t) 64) ⌝ }
+fn both_ways(low: &[u8], sh: Shape, a: usize, l: usize, m: usize, s: u64, t: usize) -> Both
+    requires { ⌜ Readable sh (now low) a l m s ⌝ }
+    requires { ⌜ t < sh .ceiling ⌝ }
+    ensures { λ r. ⌜ ((q : ℕ) → mem q (r .left) ≡ any (hitColumn (entry sh (now (low .entry)) a) l m s q t) 64) ⌝ }
+    ensures { λ r. ⌜ ((q : ℕ) → mem q (r .right) ≡ any (hitRow (entry sh (now (low .entry)) a) l m s q t) 64) ⌝ }
 {
     let mut left: u64 = 0;
     let mut right: u64 = 0;
@@ -70,8 +65,8 @@ pub fn both_ways(low: &[u8], c: usize, a: usize, l: usize, m: usize, s: u64, t: 
     let mut n = size(s);
     while 0 < n {
         let i = smallest(rest);
-        left = with_steps(low, c, a, l, m, i, t, left);
-        right = with_steps(low, c, a, l, m, t, i, right);
+        left = with_steps(low, sh, a, l, m, i, t, left);
+        right = with_steps(low, sh, a, l, m, t, i, right);
         rest = without(rest, i);
         n -= 1;
     }
@@ -79,9 +74,9 @@ pub fn both_ways(low: &[u8], c: usize, a: usize, l: usize, m: usize, s: u64, t: 
 }
 
 // What follows the set s and each member of `seen`, on either side.
-pub fn fill(
+fn fill(
     low: &[u8],
-    c: usize,
+    sh: Shape,
     a: usize,
     l: usize,
     m: usize,
@@ -90,17 +85,17 @@ pub fn fill(
     left: &mut [u64; 64],
     right: &mut [u64; 64],
 )
-    requires { ⌜ (c ≤ 64) × (l < 512) × (m < 512) × (a < 4294967296) × Below c s × Below c seen ⌝ }
-    requires { ⌜ (a + l * c * c + c * c ≤ length (now low)) × (a + m * c * c + c * c ≤ length (now low)) ⌝ }
-    requires { ⌜ (length (now left) ≡ 64) × (length (now right) ≡ 64) ⌝ }
-    ensures { λ _. ⌜ (length (now (left .exit)) ≡ 64) × (length (now (right .exit)) ≡ 64) ⌝ }
-    ensures { λ _. ⌜ ((t : ℕ) → mem t seen ≡ true → Follows (entry (now (low .entry)) c a) l m s t (now (left .exit)) (now (right .exit))) ⌝ }
+    requires { ⌜ Readable sh (now low) a l m s ⌝ }
+    requires { ⌜ Below (sh .ceiling) seen ⌝ }
+    requires { ⌜ Full (now left) (now right) ⌝ }
+    ensures { λ _. ⌜ Full (now (left .exit)) (now (right .exit)) ⌝ }
+    ensures { λ _. ⌜ ((t : ℕ) → mem t seen ≡ true → Follows (entry sh (now (low .entry)) a) l m s t (now (left .exit)) (now (right .exit))) ⌝ }
 {
     let mut rest = seen;
     let mut n = size(seen);
     while 0 < n {
         let t = smallest(rest);
-        let b = both_ways(low, c, a, l, m, s, t);
+        let b = both_ways(low, sh, a, l, m, s, t);
         left[t] = b.left;
         right[t] = b.right;
         rest = without(rest, t);
@@ -109,7 +104,7 @@ pub fn fill(
 }
 
 // The union of the first n sets.
-pub fn joined(sets: &[u64; 64], n: usize) -> u64
+fn joined(sets: &[u64; 64], n: usize) -> u64
     requires { ⌜ n ≤ 64 ⌝ }
     ensures { λ r. ⌜ ((q : ℕ) → mem q r ≡ any (λ (i : ℕ). mem q (getD (now (sets .entry)) i 0)) n) ⌝ }
 {
@@ -123,7 +118,7 @@ pub fn joined(sets: &[u64; 64], n: usize) -> u64
 }
 
 // The union of what a row has at the members of s.
-pub fn union_of(row: &[u64; 64], s: u64) -> u64
+fn union_of(row: &[u64; 64], s: u64) -> u64
     ensures { λ r. ⌜ r ≡ unionOf (now (row .entry)) s ⌝ }
 {
     let mut r: u64 = 0;
@@ -139,7 +134,7 @@ pub fn union_of(row: &[u64; 64], s: u64) -> u64
 }
 
 // The unions for each set up to k.
-pub fn unions(
+fn unions(
     lefts: &[u64; 64],
     rights: &[u64; 64],
     sets: &[u64; 64],
@@ -148,8 +143,8 @@ pub fn unions(
     right: &mut [u64; 64],
 )
     requires { ⌜ k < 64 ⌝ }
-    requires { ⌜ (length (now left) ≡ 64) × (length (now right) ≡ 64) ⌝ }
-    ensures { λ _. ⌜ (length (now (left .exit)) ≡ 64) × (length (now (right .exit)) ≡ 64) ⌝ }
+    requires { ⌜ Full (now left) (now right) ⌝ }
+    ensures { λ _. ⌜ Full (now (left .exit)) (now (right .exit)) ⌝ }
     ensures { λ _. ⌜ UnionsUpTo k (now (lefts .entry)) (now (rights .entry)) (now (sets .entry)) (now (left .exit)) (now (right .exit)) ⌝ }
 {
     let mut i = 0;
@@ -162,17 +157,16 @@ pub fn unions(
 }
 
 // The states that follow two members of s, under the labels l and m.
-pub fn followers(low: &[u8], c: usize, a: usize, l: usize, m: usize, s: u64) -> u64
-    requires { ⌜ (c ≤ 64) × (l < 512) × (m < 512) × (a < 4294967296) × Below c s ⌝ }
-    requires { ⌜ (a + l * c * c + c * c ≤ length (now low)) × (a + m * c * c + c * c ≤ length (now low)) ⌝ }
-    ensures { λ r. ⌜ ((q : ℕ) → mem q r ≡ any (hitSet (entry (now (low .entry)) c a) l m s s q) 64) ⌝ }
+fn followers(low: &[u8], sh: Shape, a: usize, l: usize, m: usize, s: u64) -> u64
+    requires { ⌜ Readable sh (now low) a l m s ⌝ }
+    ensures { λ r. ⌜ ((q : ℕ) → mem q r ≡ any (hitSet (entry sh (now (low .entry)) a) l m s s q) 64) ⌝ }
 {
     let mut r: u64 = 0;
     let mut rest = s;
     let mut n = size(s);
     while 0 < n {
         let t = smallest(rest);
-        let b = both_ways(low, c, a, l, m, s, t);
+        let b = both_ways(low, sh, a, l, m, s, t);
         r = union(r, b.right);
         rest = without(rest, t);
         n -= 1;
@@ -183,14 +177,15 @@ pub fn followers(low: &[u8], c: usize, a: usize, l: usize, m: usize, s: u64) -> 
 // The start for "exists": the smallest set that holds state 0 and is closed under nodes with label 0 and any bound bit. It grows until it
 // is closed.
 pub fn exists_start(low: &[u8], p: Plan) -> u64
-    requires { ⌜ (p .c ≤ 64) × (p .first < 4294967296) × (0 < p .wx) × (p .wx ≤ 128) ⌝ }
+    requires { ⌜ Ranged p ⌝ }
     requires { ⌜ ((n : ℕ) × Inside (now low) p n) ⌝ }
-    ensures { λ r. ⌜ r ≡ existsStart (through (p .look1) (entry (now (low .entry)) (p .c) (p .first))) (p .wx) ⌝ }
+    ensures { λ r. ⌜ r ≡ existsStart (p .shape .branches) (firstStep (now (low .entry)) p) (p .wx) ⌝ }
 {
+    let shape = p.shape;
     let mut s: u64 = 1;
     let mut d: usize = 0;
     while d < 64 {
-        let t = union(s, followers(low, p.c, p.first, 0, p.wx & p.look1, s));
+        let t = union(s, followers(low, shape, p.first, 0, p.wx & p.look1, s));
         if t == s {
             return s;
         }
@@ -201,9 +196,9 @@ pub fn exists_start(low: &[u8], p: Plan) -> u64
 }
 
 // The successors for "exists", where w is the weight of the bound variable's bit and the part looks at the bits f.
-pub fn exists_rows(
+fn exists_rows(
     low: &[u8],
-    c: usize,
+    sh: Shape,
     a: usize,
     f: usize,
     w: usize,
@@ -213,11 +208,10 @@ pub fn exists_rows(
     left: &mut [u64; 64],
     right: &mut [u64; 64],
 )
-    requires { ⌜ (c ≤ 64) × (l < 256) × (a < 4294967296) × (0 < w) × (w ≤ 128) × (k < 64) ⌝ }
-    requires { ⌜ Ready (now low) c a w l (now sets) k ⌝ }
-    requires { ⌜ (length (now left) ≡ 64) × (length (now right) ≡ 64) ⌝ }
-    ensures { λ _. ⌜ (length (now (left .exit)) ≡ 64) × (length (now (right .exit)) ≡ 64) ⌝ }
-    ensures { λ _. ⌜ Serves (existsCode (through f (entry (now (low .entry)) c a)) w) l (now (sets .entry)) k (now (left .exit)) (now (right .exit)) ⌝ }
+    requires { ⌜ Ready sh (now low) a w l (now sets) k ⌝ }
+    requires { ⌜ Full (now left) (now right) ⌝ }
+    ensures { λ _. ⌜ Full (now (left .exit)) (now (right .exit)) ⌝ }
+    ensures { λ _. ⌜ Serves (existsCode (through f (entry sh (now (low .entry)) a)) w) l (now (sets .entry)) k (now (left .exit)) (now (right .exit)) ⌝ }
 {
     let off = cleared(w, l);
     let on = off + w;
@@ -226,7 +220,7 @@ pub fn exists_rows(
     let mut rights = [0u64; 64];
     fill(
         low,
-        c,
+        sh,
         a,
         off & f,
         on & f,
@@ -239,9 +233,9 @@ pub fn exists_rows(
 }
 
 // The successor for "and" and "or", of one pair.
-pub fn pair_code(
+fn pair_code(
     low: &[u8],
-    c: usize,
+    sh: Shape,
     a: usize,
     b: usize,
     f: usize,
@@ -250,25 +244,26 @@ pub fn pair_code(
     x: u64,
     y: u64,
 ) -> u64
-    requires { ⌜ (c ≤ 64) × (l < 256) × (a < 4294967296) × (b < 4294967296) ⌝ }
-    ensures { λ r. ⌜ r ≡ pairCode (through f (entry (now (low .entry)) c a)) (through g (entry (now (low .entry)) c b)) l x y ⌝ }
+    requires { ⌜ Shaped sh ⌝ }
+    requires { ⌜ (l < 256) × (a < 4294967296) × (b < 4294967296) ⌝ }
+    ensures { λ r. ⌜ r ≡ pairCode (through f (entry sh (now (low .entry)) a)) (through g (entry sh (now (low .entry)) b)) l (x ∷ y ∷ []) ⌝ }
 {
     let first = entry_at(
         low,
-        c,
+        sh,
         a,
         l & f,
         (x / 64 % 64) as usize,
         (y / 64 % 64) as usize,
     );
-    let second = entry_at(low, c, b, l & g, (x % 64) as usize, (y % 64) as usize);
+    let second = entry_at(low, sh, b, l & g, (x % 64) as usize, (y % 64) as usize);
     first * 64 + second
 }
 
 // The successors for "and" and "or".
-pub fn pair_rows(
+fn pair_rows(
     low: &[u8],
-    c: usize,
+    sh: Shape,
     a: usize,
     b: usize,
     f: usize,
@@ -279,23 +274,25 @@ pub fn pair_rows(
     left: &mut [u64; 64],
     right: &mut [u64; 64],
 )
-    requires { ⌜ (c ≤ 64) × (l < 256) × (a < 4294967296) × (b < 4294967296) × (k < 64) ⌝ }
-    requires { ⌜ (length (now left) ≡ 64) × (length (now right) ≡ 64) ⌝ }
-    ensures { λ _. ⌜ (length (now (left .exit)) ≡ 64) × (length (now (right .exit)) ≡ 64) ⌝ }
-    ensures { λ _. ⌜ Serves (pairStep (now (low .entry)) c a b f g) l (now (codes .entry)) k (now (left .exit)) (now (right .exit)) ⌝ }
+    requires { ⌜ Shaped sh ⌝ }
+    requires { ⌜ (l < 256) × (a < 4294967296) × (b < 4294967296) × (k < 64) ⌝ }
+    requires { ⌜ Full (now left) (now right) ⌝ }
+    ensures { λ _. ⌜ Full (now (left .exit)) (now (right .exit)) ⌝ }
+    ensures { λ _. ⌜ Serves (pairCode (through f (entry sh (now (low .entry)) a)) (through g (entry sh (now (low .entry)) b)))
+        l (now (codes .entry)) k (now (left .exit)) (now (right .exit)) ⌝ }
 {
     let new = codes[k];
     let mut i = 0;
     while i <= k {
         let old = codes[i];
-        right[i] = pair_code(low, c, a, b, f, g, l, old, new);
-        left[i] = pair_code(low, c, a, b, f, g, l, new, old);
+        right[i] = pair_code(low, sh, a, b, f, g, l, old, new);
+        left[i] = pair_code(low, sh, a, b, f, g, l, new, old);
         i += 1;
     }
 }
 
 // An atom's successor, from the place in its table; 0 for any other kind.
-pub fn rule_at(kind: Kind, k: usize) -> u64
+fn rule_at(kind: Kind, k: usize) -> u64
     requires { ⌜ k < 64 ⌝ }
     ensures { λ r. ⌜ r ≡ atomCode kind k ⌝ }
 {
@@ -310,7 +307,7 @@ pub fn rule_at(kind: Kind, k: usize) -> u64
 }
 
 // The successors for an atom, where wx and wy are the weights of its variables' bits.
-pub fn atom_rows(
+fn atom_rows(
     kind: Kind,
     wx: usize,
     wy: usize,
@@ -321,9 +318,9 @@ pub fn atom_rows(
     right: &mut [u64; 64],
 )
     requires { ⌜ (0 < wx) × (0 < wy) × (k < 64) ⌝ }
-    requires { ⌜ (length (now left) ≡ 64) × (length (now right) ≡ 64) ⌝ }
-    ensures { λ _. ⌜ (length (now (left .exit)) ≡ 64) × (length (now (right .exit)) ≡ 64) ⌝ }
-    ensures { λ _. ⌜ Serves (atomStep kind wx wy) l (now (codes .entry)) k (now (left .exit)) (now (right .exit)) ⌝ }
+    requires { ⌜ Full (now left) (now right) ⌝ }
+    ensures { λ _. ⌜ Full (now (left .exit)) (now (right .exit)) ⌝ }
+    ensures { λ _. ⌜ Serves (tabled (atomCode kind) wx wy) l (now (codes .entry)) k (now (left .exit)) (now (right .exit)) ⌝ }
 {
     let bits = l / wx % 2 * 32 + l / wy % 2 * 16;
     let new = (codes[k] % 4) as usize;
@@ -346,15 +343,15 @@ pub fn rows_of(
     left: &mut [u64; 64],
     right: &mut [u64; 64],
 )
-    requires { ⌜ (p .c ≤ 64) × (l < 256) × (p .first < 4294967296) × (p .second < 4294967296) × (k < 64) ⌝ }
-    requires { ⌜ (0 < p .wx) × (p .wx ≤ 128) × (0 < p .wy) × (p .wy ≤ 128) ⌝ }
-    requires { ⌜ (p .kind ≡ Kind.Exists → Ready (now low) (p .c) (p .first) (p .wx) l (now codes) k) ⌝ }
-    requires { ⌜ (length (now left) ≡ 64) × (length (now right) ≡ 64) ⌝ }
-    ensures { λ _. ⌜ (length (now (left .exit)) ≡ 64) × (length (now (right .exit)) ≡ 64) ⌝ }
+    requires { ⌜ Ranged p ⌝ }
+    requires { ⌜ (l < labelsIn (p .shape)) × (k < 64) ⌝ }
+    requires { ⌜ (p .kind ≡ Kind.Exists → Ready (p .shape) (now low) (p .first) (p .wx) l (now codes) k) ⌝ }
+    requires { ⌜ Full (now left) (now right) ⌝ }
+    ensures { λ _. ⌜ Full (now (left .exit)) (now (right .exit)) ⌝ }
     ensures { λ _. ⌜ Serves (successorOf (now (low .entry)) p) l (now (codes .entry)) k (now (left .exit)) (now (right .exit)) ⌝ }
 {
     let kind = p.kind;
-    let c = p.c;
+    let sh = p.shape;
     let a = p.first;
     let b = p.second;
     let f = p.look1;
@@ -362,9 +359,9 @@ pub fn rows_of(
     let wx = p.wx;
     let wy = p.wy;
     match kind {
-        Kind::Exists => exists_rows(low, c, a, f, wx, l, codes, k, left, right),
-        Kind::Or => pair_rows(low, c, a, b, f, g, l, codes, k, left, right),
-        Kind::And => pair_rows(low, c, a, b, f, g, l, codes, k, left, right),
+        Kind::Exists => exists_rows(low, sh, a, f, wx, l, codes, k, left, right),
+        Kind::Or => pair_rows(low, sh, a, b, f, g, l, codes, k, left, right),
+        Kind::And => pair_rows(low, sh, a, b, f, g, l, codes, k, left, right),
         _ => atom_rows(kind, wx, wy, l, codes, k, left, right),
     }
 }

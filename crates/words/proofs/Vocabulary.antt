@@ -15,10 +15,10 @@ unfoldable pub use lib.Count.{ones, onesIn, trailingZeros}
 pub use lib.Count.{under, ones-le, ones-step, trailing-le}
 pub use lib.Dec.{eqb, ltb, T, eqb·suc-suc, eqb·suc-zero, eqb·zero-suc, ltb→lt, eqb→eq, leb}
 pub use lib.ListN.{length, getD, take, set, List·getD-append, length-append, drop, length-set, replicate, length-take, List·getD-eq-default}
-pub use lib.ListN.{length-map}
+pub use lib.ListN.{length-map, length-drop}
 pub use lib.Pow.{pow-pos, pow-lt, pow-mono, pow-add, shr-lt, shr-shr}
 pub use lib.Seq.{length-take-le, getD-take, getD-set-other, getD-set-same, drop-set-lt, getD-append-seam, getD-drop, drop-drop, take-set-le}
-pub use lib.Seq.{take-suc-set}
+pub use lib.Seq.{take-suc-set, ext-getD}
 pub use native.Mathlib.Decide.{decLt, ℕ-discrete}
 pub use native.Mathlib.Nat.{le-of-suc-le-suc, not-suc-le-zero, add-zero, eq-or-lt-of-le, add-suc, mul-le-mul-right, pow-suc, suc-mul, mod-lt}
 pub use native.Mathlib.Nat.{mul-le-mul-left, add-mul, div-add-mod', div-div-eq-div-mul, mul-assoc, div-mul-le-self, mod-eq-of-lt, suc-add, zero-add}

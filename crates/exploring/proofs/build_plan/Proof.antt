@@ -18,7 +18,7 @@ build-requires c κs =
     let low = take (a .p .base) (a .ws .now) in (
       s .pre .0,
       subst (λ (n : ℕ). Guided low (a .p) (some (n ∷ []))) (sym (c .before .start-code .ensures))
-          (start-guided low (a .p) (s .pre .0 .ceiling) (s .pre .1)),
+          (start-guided low (a .p) (s .pre .0 .ranged .shape) (s .pre .1)),
     )
 
 returns : tie.Need-returns

@@ -2,7 +2,7 @@
 use Rattle.words.proofs.Vocabulary.{ℕ, _+_, _∙_, ap, ⊎-elim, List, Option, needs, arith}
 use Rattle.exploring.specs.Filling.{listed}
 use Rattle.exploring.specs.declared.Builder.{Builder}
-use Rattle.table.proofs.Places.{id-length}
+use Rattle.layout.proofs.Places.{id-length}
 use Rattle.exploring.proofs.Steps.{put-old, put-new, put-full}
 use Rattle.exploring.proofs.put.Statement.{statement}
 use Rattle.exploring.proofs.put.Tie as tie

@@ -9,17 +9,17 @@ use Rattle.exploring.proofs.start_code.Statement.{statement}
 use Rattle.exploring.proofs.start_code.Tie as tie
 
 -- any other kind starts at 0
-other : (k : Kind) (f : Step) (w : ℕ) → OneOf (0 ∷ 1 ∷ 2 ∷ 3 ∷ 4 ∷ 5 ∷ 6 ∷ 7 ∷ []) (tagOf the-type k) → 0 ≡ startCode k f w
+other : (k : Kind) (b : ℕ) (f : Step) (w : ℕ) → OneOf (0 ∷ 1 ∷ 2 ∷ 3 ∷ 4 ∷ 5 ∷ 6 ∷ 7 ∷ []) (tagOf the-type k) → 0 ≡ startCode k b f w
 unfolding startCode
-other Subset f w h = refl
-other Single f w h = refl
-other Child1 f w h = refl
-other Child2 f w h = refl
-other Root f w h = refl
-other Not f w h = refl
-other Or f w h = refl
-other And f w h = refl
-other Exists f w h = absurd (miss (0 ∷ 1 ∷ 2 ∷ 3 ∷ 4 ∷ 5 ∷ 6 ∷ 7 ∷ []) 8 tt h)
+other Subset b f w h = refl
+other Single b f w h = refl
+other Child1 b f w h = refl
+other Child2 b f w h = refl
+other Root b f w h = refl
+other Not b f w h = refl
+other Or b f w h = refl
+other And b f w h = refl
+other Exists b f w h = absurd (miss (0 ∷ 1 ∷ 2 ∷ 3 ∷ 4 ∷ 5 ∷ 6 ∷ 7 ∷ []) 8 tt h)
 
 returns : tie.Need-returns
 unfolding startCode
@@ -29,4 +29,4 @@ pub start-code-spec : {M : Type 1} → statement M
 start-code-spec =
     tie.close
     (tie.spec (λ c. search needs) (λ c κs. let s = c .before .before .before in (s .pre .0, s .pre .1 (c .enum-told .given .1))) returns
-    (λ c. let a = c .before .before .args in other (a .p .kind) _ (a .p .wx) (c .match .keys2)))
+    (λ c. let a = c .before .before .args in other (a .p .kind) _ _ (a .p .wx) (c .match .keys2)))

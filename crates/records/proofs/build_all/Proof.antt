@@ -7,7 +7,10 @@ use Rattle.records.specs.declared.Ending.the-variants.{Over, Ready}
 use Rattle.records.specs.declared.Machines.{Machines}
 use Rattle.records.specs.declared.Decoded.{Decoded}
 use Rattle.records.proofs.Nexts.{AllStored, ready-first, made-ready, parts-ready, ready-next, wide-next, over-next, made-over}
-use Rattle.records.proofs.Shares.{next-share, drop-later}
+use Rattle.records.proofs.Shares.{drop-later}
+use Rattle.layout.specs.Shape.{shareOf, shareAt}
+use Rattle.layout.specs.declared.Shape.{Shape}
+use Rattle.layout.proofs.Places.{share-next}
 use Rattle.records.proofs.build_all.Statement.{statement}
 use Rattle.records.proofs.build_all.Tie as tie
 
@@ -15,19 +18,19 @@ abbrev machines : List ℕ → List ℕ → List ℕ → Ending → Machines
 machines counts accepts looks ending = record { counts = counts; accepts = accepts; looks = looks; ending = ending }
 
 -- what holds before record r
-record Turn (ws₀ ws : List ℕ) (m c labels : ℕ) (records : List Decoded) (t : Machines) (r : ℕ) : Type 0 where
+record Turn (ws₀ ws : List ℕ) (m : ℕ) (s : Shape) (records : List Decoded) (t : Machines) (r : ℕ) : Type 0 where
   pub within : r ≤ m
   pub long : length ws ≡ length ws₀
   pub wide : Wide t
-  pub ready : AllStored records c labels r t ws
-  pub rest : drop (m * (labels * c * c)) ws ≡ drop (m * (labels * c * c)) ws₀
+  pub ready : AllStored records s r t ws
+  pub rest : drop (shareAt s m) ws ≡ drop (shareAt s m) ws₀
 
 abbrev Inv-loop : tie.InvT-loop
-Inv-loop ws₀ m c labels records counts₀ accepts₀ looks₀ r₀ ws counts accepts looks r =
-    Turn ws₀ ws m c labels records (machines counts accepts looks Ready) r
+Inv-loop ws₀ m s records c counts₀ accepts₀ looks₀ r₀ ws counts accepts looks r =
+    Turn ws₀ ws m s records (machines counts accepts looks Ready) r
 
 abbrev μ-loop : tie.MeasureT-loop
-μ-loop ws₀ m c labels records counts₀ accepts₀ looks₀ r₀ ws counts accepts looks r = m - r
+μ-loop ws₀ m s records c counts₀ accepts₀ looks₀ r₀ ws counts accepts looks r = m - r
 
 loop-holds : tie.Need-loop-holds Inv-loop μ-loop
 loop-holds c =
@@ -40,16 +43,6 @@ loop-holds c =
       rest = refl;
     }
 
-kept-requires : tie.Need-kept-requires Inv-loop μ-loop
-kept-requires c κs =
-    let n = c .before .before .before .before .before in
-    n .before .before .before .pre .1 (n .before .loop .r) (n .loop-test .taken) .first-kept
-
-kept-requires-2 : tie.Need-kept-requires-2 Inv-loop μ-loop
-kept-requires-2 c κs =
-    let n = c .before .before .before .before .before .before .before .before .before .before in
-    n .before .before .before .pre .1 (n .before .loop .r) (n .loop-test .taken) .second-kept
-
 build-next-requires : tie.Need-build-next-requires Inv-loop μ-loop
 build-next-requires c κs =
     let n = c .before .before .before .before .before .before .before .before .before .before .before .before in
@@ -59,12 +52,9 @@ build-next-requires c κs =
     let x = getD (a .t2) (h .r) noDecoded in
     let e = s .pre .1 (h .r) (n .loop-test .taken) in
     let w = h .inv .ready in (
-      subst (Fits x (h .r) (a .c) (a .labels)) (sym (h .inv .long)) (e .fits),
-      (
-        e .sound,
-        rw (c .before .before .before .before .before .before .kept .ensures, c .before .kept2 .ensures)
-            (getD (w .machines) (x .first) noMach, getD (w .machines) (x .second) noMach, parts-ready w (e .sound)),
-      ),
+      subst (Fits x (h .r) (a .s)) (sym (h .inv .long)) (e .fits),
+      rw (c .before .before .before .before .before .before .kept .ensures, c .before .kept2 .ensures)
+          (getD (w .machines) (x .first) noMach, getD (w .machines) (x .second) noMach, parts-ready w (e .fits)),
     )
 
 same-length : tie.Need-same-length Inv-loop μ-loop
@@ -82,42 +72,41 @@ returns c =
     let w = h .inv .ready in
     let x = getD (a .t2) (h .r) noDecoded in
     let e = s .pre .1 (h .r) (n .loop-test .taken) in
-    let share = a .labels * a .c * a .c in
     let first = c .before .before .before .before .before .before .before .before .before .before .before .kept in
     let second = c .before .before .before .before .before .before .kept2 in
     let added = (rw (first .ensures, second .ensures) at (v .ensures .0)) (getD (w .machines) (x .first) noMach) (getD (w .machines) (x .second) noMach)
-    (parts-ready w (e .sound)) in
-    let after = next-share (h .r) (a .m) share (n .loop-test .taken) in
-    let later = drop-later (h .r * share + share) (a .m * share) (v .last .0) (h .ws) after (v .ensures .1 .high) in
+    (parts-ready w (e .fits)) in
+    let after = share-next (a .s) (h .r) (a .m) (n .loop-test .taken) in
+    let later = drop-later (shareAt (a .s) (h .r) + shareOf (a .s)) (shareAt (a .s) (a .m)) (v .last .0) (h .ws) after (v .ensures .1 .high) in
     let t = machines (h .counts) (h .accepts) (h .looks) (Over (h .r)) in (
-      made-over (a .t2) (a .c) (a .labels) (h .r) (a .m) t (v .last .0) (n .loop-test .taken) refl (over-next w added (c .if1 .taken)),
+      made-over (a .t2) (a .s) (h .r) (a .m) t (v .last .0) (n .loop-test .taken) refl (over-next w added (c .if1 .taken)),
       later ∙ h .inv .rest,
     )
 
 array-write-counts : tie.Need-array-write-counts Inv-loop μ-loop
 array-write-counts c =
     let n = c .before .before .before .before .before .before .before .before .before .before .before .before .before .before .before .before .before in
-    omega (arith, n .loop-test .taken, n .before .before .before .pre .0 .1)
+    omega (arith, n .loop-test .taken, n .before .before .before .pre .0)
 
 mul-accepts : tie.Need-mul-accepts Inv-loop μ-loop
 mul-accepts c =
     let n = c .before .before .before .before .before .before .before .before .before .before .before .before .before .before .before .before .before in
-    omega (arith, n .loop-test .taken, n .before .before .before .pre .0 .1)
+    omega (arith, n .loop-test .taken, n .before .before .before .pre .0)
 
 array-write-accepts : tie.Need-array-write-accepts Inv-loop μ-loop
 array-write-accepts c =
     let n = c .before .before .before .before .before .before .before .before .before .before .before .before .before .before .before .before .before in
-    omega (arith, n .loop-test .taken, n .before .before .before .pre .0 .1)
+    omega (arith, n .loop-test .taken, n .before .before .before .pre .0)
 
 array-write-looks : tie.Need-array-write-looks Inv-loop μ-loop
 array-write-looks c =
     let n = c .before .before .before .before .before .before .before .before .before .before .before .before .before .before .before .before .before in
-    omega (arith, n .loop-test .taken, n .before .before .before .pre .0 .1)
+    omega (arith, n .loop-test .taken, n .before .before .before .pre .0)
 
 add-r : tie.Need-add-r Inv-loop μ-loop
 add-r c =
     let n = c .before .before .before .before .before .before .before .before .before .before .before .before .before .before .before .before .before in
-    omega (arith, n .loop-test .taken, n .before .before .before .pre .0 .1)
+    omega (arith, n .loop-test .taken, n .before .before .before .pre .0)
 
 loop-less : tie.Need-loop-less Inv-loop μ-loop
 loop-less c =
@@ -134,20 +123,29 @@ loop-again c =
     let w = h .inv .ready in
     let x = getD (a .t2) (h .r) noDecoded in
     let e = s .pre .1 (h .r) (n .loop-test .taken) in
-    let share = a .labels * a .c * a .c in
     let first = c .before .before .before .before .before .before .before .before .before .before .before .kept in
     let second = c .before .before .before .before .before .before .kept2 in
     let added = (rw (first .ensures, second .ensures) at (v .ensures .0)) (getD (w .machines) (x .first) noMach) (getD (w .machines) (x .second) noMach)
-    (parts-ready w (e .sound)) in
-    let after = next-share (h .r) (a .m) share (n .loop-test .taken) in
-    let later = drop-later (h .r * share + share) (a .m * share) (v .last .0) (h .ws) after (v .ensures .1 .high) in
+    (parts-ready w (e .fits)) in
+    let after = share-next (a .s) (h .r) (a .m) (n .loop-test .taken) in
+    let later = drop-later (shareAt (a .s) (h .r) + shareOf (a .s)) (shareAt (a .s) (a .m)) (v .last .0) (h .ws) after (v .ensures .1 .high) in
     record {
       within = omega (arith, n .loop-test .taken);
       long = v .kept .0 ∙ h .inv .long;
       wide = wide-next (machines (h .counts) (h .accepts) (h .looks) Ready) (h .r) (v .result) (h .inv .wide);
-      ready = ready-next w added (h .inv .wide) (omega (arith, n .loop-test .taken, s .pre .0 .1)) (omega arith) (v .ensures .1);
+      ready = ready-next w added (h .inv .wide) (omega (arith, n .loop-test .taken, s .pre .0)) (omega arith) (v .ensures .1);
       rest = later ∙ h .inv .rest;
     }
+
+kept-requires : tie.Need-kept-requires Inv-loop μ-loop
+kept-requires c κs =
+    let n = c .before .before .before .before .before in
+    n .before .before .before .pre .1 (n .before .loop .r) (n .loop-test .taken) .first-kept
+
+kept-requires-2 : tie.Need-kept-requires-2 Inv-loop μ-loop
+kept-requires-2 c κs =
+    let n = c .before .before .before .before .before .before .before .before .before .before in
+    n .before .before .before .pre .1 (n .before .loop .r) (n .loop-test .taken) .second-kept
 
 returns-2 : tie.Need-returns-2 Inv-loop μ-loop
 returns-2 c =

@@ -22,7 +22,7 @@ other Exists h = refl
 explore-next-requires : tie.Need-explore-next-requires
 explore-next-requires c κs =
     let s = c .before .before .before in
-    (s .pre .0, (s .pre .1 .0, (other (s .args .x .kind) (c .before .match .keys2), s .pre .1 .1)))
+    (s .pre .0, (other (s .args .x .kind) (c .before .match .keys2), s .pre .1))
 
 pub build-next-spec : {M : Type 1} → statement M
 build-next-spec =

@@ -1,24 +1,17 @@
 -- `search::row` meets its contract. Assumes nothing.
-use Prim.Native.Nat.{_-_, _≤_}
-use native.Mathlib.Omega.{arith}
-use borrow.Author.Needs.{needs}
+use Rattle.words.proofs.Vocabulary.{_-_, _≤_, arith, needs}
 use Rattle.logic.specs.Search.{loop}
 use Rattle.search.specs.Scan.{scanSecond, Held, codeView, bestIn}
 use Rattle.search.proofs.ScanLaws.{row-next, row-done, ready-steps}
 use Rattle.search.proofs.row.Statement.{statement}
 use Rattle.search.proofs.row.Tie as tie
-use Rattle.search.proofs.row.Reads as reads
-use Rattle.search.proofs.row.Lts as lts
-use Rattle.search.proofs.cell.Reads as cell-reads
-use Rattle.search.proofs.consider.Reads as consider-reads
-use Rattle.search.proofs.wide.Reads as wide-reads
 
 abbrev Inv-loop : tie.InvT-loop
-Inv-loop labels looks table c done state size n l i b₀ j₀ b j =
-    (j ≤ n) × Held (codeView looks table c done state size) (scanSecond (codeView looks table c done state size) l i j (bestIn b₀)) b
+Inv-loop s looks table done state size n l i b₀ j₀ b j =
+    (j ≤ n) × Held (codeView s looks table done state size) (scanSecond (codeView s looks table done state size) l i j (bestIn b₀)) b
 
 abbrev μ-loop : tie.MeasureT-loop
-μ-loop labels looks table c done state size n l i b₀ j₀ b j = n - j
+μ-loop s looks table done state size n l i b₀ j₀ b j = n - j
 
 loop-holds : tie.Need-loop-holds Inv-loop μ-loop
 unfolding scanSecond loop
@@ -28,35 +21,35 @@ cell-requires : tie.Need-cell-requires Inv-loop μ-loop
 cell-requires c κs =
     let loop = c .before .before .before .before .before .loop in
     let start = c .before .before .before .before .before .before .before in
-    let ready = start .pre .0 in (
-      ready .whole,
-      (
-        start .pre .1 .0 .0,
-        omega (arith, ready .states (start .args .i) (start .pre .1 .0 .1)),
-        omega
-            (arith, ready .states (loop .j) (omega arith)),
-      ),
-    )
+    let ready = start .pre .0 in
+    let whole = ready .table-whole in
+    record {
+      shape = whole .shape;
+      whole = whole .whole;
+      label = start .pre .1 .0 .label;
+      first = omega (arith, ready .states (start .args .i) (start .pre .1 .0 .first));
+      second = omega (arith, ready .states (loop .j) (omega arith));
+    }
 
 element-copy-out-consider : tie.Need-element-copy-out-consider Inv-loop μ-loop
 element-copy-out-consider c =
     let loop = c .before .before .before .before .before .before .loop in
     let start = c .before .before .before .before .before .before .before .before in
     let ready = start .pre .0 in
-    rw (c .cell .ensures) (ready-steps ready _ _ _ (start .pre .1 .0 .0) (omega (arith, ready .states (start .args .i) (start .pre .1 .0 .1)))
-    (omega (arith, ready .states (loop .j) (omega arith))))
+    rw (c .cell .ensures) (ready-steps ready _ _ _ (start .pre .1 .0 .label)
+    (omega (arith, ready .states (start .args .i) (start .pre .1 .0 .first))) (omega (arith, ready .states (loop .j) (omega arith))))
 
 add-consider : tie.Need-add-consider Inv-loop μ-loop
 add-consider c =
     let loop = c .before .before .before .before .before .before .before .before .before .loop in
     let start = c .before .before .before .before .before .before .before .before .before .before .before in
-    omega (arith, start .pre .0 .sizes (start .args .i) (start .pre .1 .0 .1), start .pre .0 .sizes (loop .j) (omega arith))
+    omega (arith, start .pre .0 .sizes (start .args .i) (start .pre .1 .0 .first), start .pre .0 .sizes (loop .j) (omega arith))
 
 add-consider-2 : tie.Need-add-consider-2 Inv-loop μ-loop
 add-consider-2 c =
     let loop = c .before .before .before .before .before .before .before .before .before .loop in
     let start = c .before .before .before .before .before .before .before .before .before .before .before in
-    omega (arith, start .pre .0 .sizes (start .args .i) (start .pre .1 .0 .1), start .pre .0 .sizes (loop .j) (omega arith))
+    omega (arith, start .pre .0 .sizes (start .args .i) (start .pre .1 .0 .first), start .pre .0 .sizes (loop .j) (omega arith))
 
 loop-again : tie.Need-loop-again Inv-loop μ-loop
 loop-again c =

@@ -14,7 +14,7 @@ work-refusal-requires c κs =
     let st = c .before .before .before in
     let h = st .pre in
     let f = rule-accepted (st .args .rule .now) (h .unrefused) in
-    (omega arith, omega arith)
+    (omega arith, omega arith, omega arith)
 
 returns : tie.Need-returns
 returns c =

@@ -1,30 +1,19 @@
 -- `operations::room::needed` meets its contract. Assumes nothing.
-use mathlib.Core.Path.{refl}
+use mathlib.Core.Path.{_∙_}
 use native.Mathlib.Omega.{arith}
-use Rattle.operations.proofs.Rooms.{row-few, share-few, room-few}
 use borrow.Author.Needs.{needs}
+use Rattle.operations.proofs.Rooms.{room-shares, shaped}
 use Rattle.operations.proofs.room.needed.Statement.{statement}
 use Rattle.operations.proofs.room.needed.Tie as tie
 
-mul-result : tie.Need-mul-result
-mul-result c =
-    let a = c .before in
-    rw (c .labels .ensures .0) (record { fits = omega (arith, row-few (a .args .n) (a .args .c) (a .pre .0) (a .pre .2)) })
-
-mul-result-2 : tie.Need-mul-result-2
-mul-result-2 c =
-    let a = c .before in
-    rw (c .labels .ensures .0) (record { fits = omega (arith, share-few (a .args .n) (a .args .c) (a .pre .0) (a .pre .2)) })
-
-mul-result-3 : tie.Need-mul-result-3
-mul-result-3 c =
-    let a = c .before in
-    rw (c .labels .ensures .0) (record { fits = omega (arith, room-few (a .args .n) (a .args .c) (a .pre .0) (a .pre .2) (a .args .m) (a .pre .1)) })
+share-at-requires : tie.Need-share-at-requires
+share-at-requires c κs = let p = c .before .pre in rw (c .shape .ensures) (shaped (p .0) (p .1) (p .3) (p .4), omega arith)
 
 returns : tie.Need-returns
 returns c =
-    let a = c .before in
-    rw (c .labels .ensures .0) (refl, room-few (a .args .n) (a .args .c) (a .pre .0) (a .pre .2) (a .args .m) (a .pre .1))
+    let s = c .before .before in
+    let p = s .pre in
+    (rw (c .before .shape .ensures) at (c .share-at .ensures .0)) ∙ room-shares (s .args .n) (s .args .m) (s .args .c) (shaped (p .0) (p .1) (p .3) (p .4))
 
 pub needed-spec : {M : Type 1} → statement M
-needed-spec = tie.close (tie.spec (λ c κs. search needs) mul-result mul-result-2 mul-result-3 returns)
+needed-spec = tie.close (tie.spec (λ c κs. search needs) share-at-requires returns)

@@ -23,4 +23,6 @@ stored d at h =
 
 pub set-bit-spec : {M : Type 1} → statement M
 set-bit-spec =
-    tie.close (tie.spec (λ c. search needs) (λ c. search needs) (λ c. search needs) (λ c. search needs) (λ c. search needs) (λ c. search needs) (λ c. stored _ _ (c .before .pre)))
+    tie.close
+    (tie.spec (λ c. search needs) (λ c. search needs) (λ c. search needs) (λ c. search needs) (λ c. search needs) (λ c. search needs)
+    (λ c. stored _ _ (c .before .pre)))

@@ -20,6 +20,11 @@ returns-2 c =
     check-padding _ (unrefused a) _ _ (b .before .field-at .ensures) (b .field-at2 .ensures)
     _ (c .before .any-set .ensures) (c .if2 .taken)
 
+read-records-requires : tie.Need-read-records-requires
+read-records-requires c κs =
+    let h = head (c .before .before .before .before) in
+    record { short = omega arith; some-record = omega arith; room = omega arith }
+
 returns-3 : tie.Need-returns-3
 returns-3 c =
     let d = c .before .before .before .before in
@@ -43,4 +48,4 @@ check-rule-spec =
     (λ c κs. search needs) (λ c. check-head _ _ (c .before .head-refusal .ensures) (c .if1 .taken)) (λ c κs. let h = head c in omega arith)
     (λ c κs. let h = head (c .before) in omega arith) (λ c. let h = head (c .before .before) in omega arith)
     (λ c. let h = head (c .before .before) in omega arith) (λ c κs. let h = head (c .before .before) in omega arith) returns-2
-    (λ c κs. let h = head (c .before .before .before .before) in omega arith) (λ c. search needs) (λ c. search needs) returns-3 returns-4)
+    read-records-requires (λ c. search needs) (λ c. search needs) returns-3 returns-4)

@@ -9,4 +9,7 @@ returns : tie.Need-returns
 returns c = rw (← c .before .before .limit .ensures, le-leb _ _ (c .before .if1 .taken)) (c .use-refusal .ensures)
 
 pub field-refusal-spec : {M : Type 1} → statement M
-field-refusal-spec = tie.close (tie.spec (λ c κs. search needs) (λ c κs. search needs) returns (λ c. rw (← c .before .limit .ensures, lt-leb _ _ (c .if1 .left)) refl))
+field-refusal-spec =
+    tie.close
+    (tie.spec (λ c κs. search needs) (λ c κs. search needs) returns
+    (λ c. rw (← c .before .limit .ensures, lt-leb _ _ (c .if1 .left)) refl))

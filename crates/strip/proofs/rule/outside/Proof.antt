@@ -16,4 +16,7 @@ flip a b = go (ltb a b) refl
     go false e = rw (le-leb b a (ltb-false a b e)) e
 
 pub outside-spec : {M : Type 1} → statement M
-outside-spec = tie.close (tie.spec (λ c. rw (lt-leb 1 _ (c .if1 .taken)) refl) (λ c. rw (le-leb 1 _ (c .if1 .left)) (flip (c .before .args .high) (c .before .args .v))))
+outside-spec =
+    tie.close
+    (tie.spec (λ c. rw (lt-leb 1 _ (c .if1 .taken)) refl)
+    (λ c. rw (le-leb 1 _ (c .if1 .left)) (flip (c .before .args .high) (c .before .args .v))))

@@ -26,6 +26,6 @@ pub read-records-spec : {M : Type 1} → statement M
 read-records-spec =
     tie.close
     (tie.spec
-    Inv-loop μ-loop (λ c. reach-first _ _ _ (c .before .pre .1 .0)) (λ c. omega arith) (λ c κs. omega arith) (λ c. search needs)
+    Inv-loop μ-loop (λ c. reach-first _ _ _ (c .before .pre .some-record)) (λ c. omega arith) (λ c κs. omega arith) (λ c. search needs)
     (λ c. search needs) returns (λ c. omega arith) (λ c. omega arith) loop-again (λ c κs. omega arith)
     (λ c. reach-last (c .before .before .loop .inv) (c .read-record2 .ensures) (c .before .loop-test .left)))

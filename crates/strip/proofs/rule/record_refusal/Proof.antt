@@ -19,4 +19,6 @@ returns-3 c =
 
 pub record-refusal-spec : {M : Type 1} → statement M
 record-refusal-spec =
-    tie.close (tie.spec (λ c. sym (record-split _ _ _ _ _ ∙ rw (le-leb 9 _ (c .if1 .taken)) refl)) (λ c κs. search needs) (λ c κs. search needs) returns-2 (λ c κs. search needs) (λ c κs. search needs) returns-3)
+    tie.close
+    (tie.spec (λ c. sym (record-split _ _ _ _ _ ∙ rw (le-leb 9 _ (c .if1 .taken)) refl)) (λ c κs. search needs) (λ c κs. search needs) returns-2
+    (λ c κs. search needs) (λ c κs. search needs) returns-3)

@@ -36,8 +36,8 @@ read-tree-read-tree-requires t c κs =
     let g = c .before .label .given in
     let e = b .pre .0 in
     let p = b .pre .1 in
-    let r = first-room (a .s .now) (a .n) (a .met) (a .at) (g .0 .0) (g .0 .1 .0) (h .result) (h .ensures) (g .1) (p .1) (p .2) (p .3) in
-    (omega arith, (p .0, p .1, r .0, r .1))
+    let r = first-room (a .s .now) (a .n) (a .met) (a .at) (g .0 .0) (g .0 .1 .0) (h .result) (h .ensures) (g .1) (p .few-variables) (p .few) (p .near) in
+    (omega arith, record { some-variable = p .some-variable; few-variables = p .few-variables; few = r .0; near = r .1 })
 
 read-tree-returns : (t : ℕ) → read-tree-lts.Need-returns (R t) (read-tree-at t) read-tree.Post
 read-tree-returns t c =
@@ -59,8 +59,8 @@ read-tree-read-tree-requires-2 t c κs =
     let r = c .before .before .before .read-tree in
     let f = c .before .first .given in
     let q = second-room (a .s .now) (a .n) (a .met) (a .at) (g .0 .0) (g .0 .1 .0) (h .result) (h .ensures) (g .1)
-    (f .0 .0) (f .0 .1 .0) (r .result) (r .ensures) (f .1) (p .1) (p .2) (p .3) in
-    (omega arith, (p .0, p .1, q .1, q .2))
+    (f .0 .0) (f .0 .1 .0) (r .result) (r .ensures) (f .1) (p .few-variables) (p .few) (p .near) in
+    (omega arith, record { some-variable = p .some-variable; few-variables = p .few-variables; few = q .1; near = q .2 })
 
 read-tree-returns-2 : (t : ℕ) → read-tree-lts.Need-returns-2 (R t) (read-tree-at t) read-tree.Post
 read-tree-returns-2 t c =
@@ -85,7 +85,7 @@ read-tree-returns-4 t c =
     let r′ = c .before .read-tree2 in
     c .close-node .ensures
     ∙ told-node (a .s .now) (a .n) (a .met) (a .at) (g .0 .0) (g .0 .1 .0) (h .result) (h .ensures) (g .1)
-    (f .0 .0) (f .0 .1 .0) (r .result) (r .ensures) (f .1) (b .pre .1 .2) (r′ .result) (r′ .ensures)
+    (f .0 .0) (f .0 .1 .0) (r .result) (r .ensures) (f .1) (b .pre .1 .few) (r′ .result) (r′ .ensures)
 
 pub +read-tree-spec : {M : Type 1} → statement M
 +read-tree-spec = close μ-read-tree λ t. read-tree-lts.spec (R t)

@@ -8,14 +8,15 @@ left-over-requires : tie.Need-left-over-requires
 left-over-requires c κs =
     let b = c .before .before .before .before .before in
     let r = c .before .before .before .read-tree in
-    end-room (b .args .s .now) (b .args .n) (r .result) (r .ensures) _ _ (c .before .met .given .1) (b .pre .2) (b .pre .1)
+    let e = end-room (b .args .s .now) (b .args .n) (r .result) (r .ensures) _ _ (c .before .met .given .1) (b .pre .some-byte) (b .pre .few-variables) in
+    record { near = e .0; within = e .1 }
 
 returns : tie.Need-returns
 returns c =
     let b = c .before .before .before .before .before .before .before in
     let r = c .before .before .before .before .before .read-tree in
     let o = c .before .left-over in
-    end-over (b .args .s .now) (b .args .n) (r .result) (r .ensures) _ _ (c .before .before .before .met .given .1) (b .pre .2) (o .result) (o .ensures)
+    end-over (b .args .s .now) (b .args .n) (r .result) (r .ensures) _ _ (c .before .before .before .met .given .1) (b .pre .some-byte) (o .result) (o .ensures)
     (c .if1 .taken)
 
 returns-2 : tie.Need-returns-2
@@ -29,8 +30,8 @@ returns-3 c =
     let b = c .before .before .before .before .before .before .before in
     let r = c .before .before .before .before .before .read-tree in
     let o = c .before .left-over in
-    end-clean (b .args .s .now) (b .args .n) (r .result) (r .ensures) _ _ (c .before .before .before .met .given .1) (b .pre .2) (o .result) (o .ensures)
-    (c .if1 .left) (b .pre .3)
+    end-clean (b .args .s .now) (b .args .n) (r .result) (r .ensures) _ _ (c .before .before .before .met .given .1) (b .pre .some-byte) (o .result)
+    (o .ensures) (c .if1 .left) (b .pre .said)
 
 pub check-bits-spec : {M : Type 1} → statement M
 check-bits-spec =

@@ -22,4 +22,8 @@ module _ (label met : ℕ) {all next : ℕ} {r : TreeRead} (e : r ≡ Tree all n
 
 pub close-node-spec : {M : Type 1} → statement M
 close-node-spec =
-    tie.close (tie.spec (λ c. search needs) (λ c. search needs) (λ c. search needs) (λ c. bare _ _ (c .before .before .before .second .given .1) (c .before .if1 .taken) (c .if2 .taken)) (λ c. branched _ _ (c .before .before .before .second .given .1) (c .before .if1 .taken) (c .if2 .left)) (λ c. labelled _ _ (c .before .before .second .given .1) (c .if1 .left)))
+    tie.close
+    (tie.spec (λ c. search needs) (λ c. search needs) (λ c. search needs)
+    (λ c. bare _ _ (c .before .before .before .second .given .1) (c .before .if1 .taken) (c .if2 .taken))
+    (λ c. branched _ _ (c .before .before .before .second .given .1) (c .before .if1 .taken) (c .if2 .left))
+    (λ c. labelled _ _ (c .before .before .second .given .1) (c .if1 .left)))

@@ -32,7 +32,7 @@ write-tree-returns t c = empty-written (c .before .before .pre .1) (c .if1 .take
 write-tree-put-node-requires : (t : ℕ) → write-tree-lts.Need-put-node-requires (R t) (write-tree-at t) write-tree.Post
 write-tree-put-node-requires t c κs =
     let w = c .before .before .before .before .pre .1 in
-    ((w .few-variables, w .short, head-room w (c .before .before .if1 .left)), w .clear)
+    record { few-variables = w .few-variables; short = w .short; room = head-room w (c .before .before .if1 .left); clear = w .clear }
 
 write-tree-write-tree-requires : (t : ℕ) → write-tree-lts.Need-write-tree-requires (R t) (write-tree-at t) write-tree.Post
 write-tree-write-tree-requires t c κs =

@@ -19,7 +19,7 @@ put-field-requires : tie.Need-put-field-requires
 put-field-requires c κs =
     let a = c .before .before .before .before .before .before in
     let b = c .before .before .before .set-bit in
-    (omega arith, (omega arith, (omega arith, λ k l. rest (bits (a .args .d .now)) _ _ (b .ensures) (a .pre .1) k)))
+    (omega arith, (omega arith, (omega arith, λ k l. rest (bits (a .args .d .now)) _ _ (b .ensures) (a .pre .clear) k)))
 
 both : (l₀ l₁ l₂ : List ℕ) (at n v : ℕ) → l₁ ≡ set l₀ at 1 → l₂ ≡ sets l₁ (at + 1) (digits n v) → l₂ ≡ sets (set l₀ at 1) (suc at) (digits n v)
 both l₀ l₁ l₂ at n v p q = rw (← p, ← (add-one at)) q

@@ -1,22 +1,17 @@
 -- `root_at` meets its contract: the table's rule is a test at each of its entries, which antt computes. Assumes nothing.
-use Rattle.words.proofs.Vocabulary.{ℕ, List, [], _∷_, needs, arith}
+use Rattle.words.proofs.Vocabulary.{ℕ, refl, List, [], _∷_, needs, arith}
 use Rattle.table.specs.Succ.{rootRule}
 use Rattle.table.proofs.Rules.{rule-at, byte-at}
 use Rattle.table.proofs.atoms.root_at.Statement.{statement}
 use Rattle.table.proofs.atoms.root_at.Tie as tie
 
-entries : List ℕ
+abbrev entries : List ℕ
 entries =
     0 ∷ 2 ∷ 2 ∷ 2 ∷ 2 ∷ 2 ∷ 2 ∷ 2 ∷ 2 ∷ 2 ∷ 2 ∷ 2 ∷ 2 ∷ 2 ∷ 2 ∷ 2 ∷ 0 ∷ 2 ∷ 2 ∷ 2 ∷ 2 ∷ 2 ∷ 2 ∷ 2 ∷ 2 ∷ 2 ∷ 2 ∷ 2 ∷ 2 ∷ 2 ∷ 2 ∷ 2
     ∷ 1 ∷ 2 ∷ 2 ∷ 2 ∷ 2 ∷ 2 ∷ 2 ∷ 2 ∷ 2 ∷ 2 ∷ 2 ∷ 2 ∷ 2 ∷ 2 ∷ 2 ∷ 2 ∷ 1 ∷ 2 ∷ 2 ∷ 2 ∷ 2 ∷ 2 ∷ 2 ∷ 2 ∷ 2 ∷ 2 ∷ 2 ∷ 2 ∷ 2 ∷ 2 ∷ 2 ∷ 2 ∷ []
 
-returns : tie.Need-returns
-unfolding entries
-returns c = rule-at rootRule entries tt (c .args .k) (search needs)
-
-cast-result : tie.Need-cast-result
-unfolding entries
-cast-result c = let b = byte-at entries tt (c .args .k) (search needs) in omega arith
-
 pub root-at-spec : {M : Type 1} → statement M
-root-at-spec = tie.close (tie.spec (λ c. search needs) cast-result returns)
+root-at-spec =
+    tie.close
+    (tie.spec (λ c. search needs) (λ c. let b = byte-at entries refl (c .args .k) (search needs) in omega arith)
+    (λ c. rule-at rootRule entries refl (c .args .k) (search needs)))

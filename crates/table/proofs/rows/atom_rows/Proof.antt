@@ -1,14 +1,12 @@
 -- `atom_rows` meets its contract. The invariant: the words below i are written. Assumes nothing.
-use Rattle.words.proofs.Vocabulary.{ℕ, _≤_, _+_, _-_, _≡_, getD, arith}
-use Rattle.table.specs.Succ.{atomIndex, atomStep}
-use Rattle.table.proofs.RowLaws.{Written, written-first, written-next}
+use Rattle.words.proofs.Vocabulary.{_+_, _-_, arith}
+use Rattle.table.specs.Succ.{atomIndex, atomCode, tabled}
+use Rattle.table.proofs.RowLaws.{Served, written-first, written-next, written-last}
 use Rattle.table.proofs.rows.atom_rows.Statement.{statement}
 use Rattle.table.proofs.rows.atom_rows.Tie as tie
 
 abbrev Inv-loop : tie.InvT-loop
-Inv-loop kind wx wy l codes k left₀ right₀ bits new i₀ left right i =
-    let succ = atomStep kind wx wy l in
-    (i ≤ k + 1) × Written (λ (j : ℕ). succ (getD codes j 0) (getD codes k 0)) (λ (j : ℕ). succ (getD codes k 0) (getD codes j 0)) i left right
+Inv-loop kind wx wy l codes k left₀ right₀ bits new i₀ left right i = Served (tabled (atomCode kind) wx wy) l codes k i left right
 
 abbrev μ-loop : tie.MeasureT-loop
 μ-loop kind wx wy l codes k left₀ right₀ bits new i₀ left right i = k + 1 - i
@@ -16,24 +14,14 @@ abbrev μ-loop : tie.MeasureT-loop
 loop-again : tie.Need-loop-again Inv-loop μ-loop
 unfolding atomIndex
 loop-again c =
-    let h = c .before .before .before .before .loop in
-    let t = c .before .before .before .loop-test .taken in (
-      omega arith,
-      written-next (omega arith) (h .inv .1) (c .before .rule-at .ensures) (c .rule-at2 .ensures),
-    )
-
-returns : tie.Need-returns Inv-loop μ-loop
-returns c =
-    let h = c .before .loop in
-    let e : h .i ≡ c .before .before .before .args .k + 1 = omega arith in
-    let w = rw e at (h .inv .1) in
-    ((w .long-left, w .long-right), λ i l. w .done i (omega arith))
+    let t = c .before .before .before .loop-test .taken in
+    written-next (omega arith) (c .before .before .before .before .loop .inv) (c .before .rule-at .ensures) (c .rule-at2 .ensures)
 
 pub atom-rows-spec : {M : Type 1} → statement M
 atom-rows-spec =
     tie.close
     (tie.spec Inv-loop μ-loop (λ c. c .pre .0 .0) (λ c. omega arith) (λ c. c .pre .0 .1) (λ c. omega arith) (λ c. omega arith) (λ c. omega arith)
-    (λ c. omega arith) (λ c. let s = c .before in (omega arith, written-first (s .pre .1 .0) (s .pre .1 .1))) (λ c. omega arith) (λ c. omega arith)
+    (λ c. omega arith) (λ c. written-first (c .before .pre .1)) (λ c. omega arith) (λ c. omega arith)
     (λ c. omega arith) (λ c. omega arith) (λ c. omega arith) (λ c κs. omega arith) (λ c. omega arith) (λ c. omega arith) (λ c. omega arith)
     (λ c. omega arith) (λ c. omega arith) (λ c κs. omega arith) (λ c. omega arith) (λ c. omega arith) (λ c. omega arith) (λ c. omega arith)
-    loop-again returns)
+    loop-again (λ c. written-last (omega arith) (c .before .loop .inv)))

@@ -1,5 +1,5 @@
 -- `joined` meets its contract. The invariant: the first i sets are in. Assumes nothing.
-use Rattle.words.proofs.Vocabulary.{ℕ, _≤_, _-_, Bool, _||_, _≡_, _∙_, ap, needs, getD, add-one, arith}
+use Rattle.words.proofs.Vocabulary.{ℕ, _≤_, _-_, _≡_, needs, getD, add-one, arith}
 use Rattle.words.specs.Word.{mem, any}
 use Rattle.words.proofs.WordLaws.{mem-zero}
 use Rattle.table.proofs.rows.joined.Statement.{statement}
@@ -17,22 +17,10 @@ loop-holds c = (omega arith, mem-zero)
 
 loop-again : tie.Need-loop-again Inv-loop μ-loop
 unfolding any
-loop-again c =
-    let s = c .before .before .before .before .args .sets .now in
-    let h = c .before .before .before .loop in (
-      omega arith,
-      λ q.
-          c .union .ensures q ∙ ap (λ (b : Bool). b || mem q (getD s (h .i) 0)) (h .inv .1 q) ∙ (rw add-one),
-    )
-
-returns : tie.Need-returns Inv-loop μ-loop
-returns c =
-    let h = c .before .loop in
-    let e : h .i ≡ c .before .before .args .n = omega arith in
-    rw e at (h .inv .1)
+loop-again c = let h = c .before .before .before .loop in (omega arith, λ q. rw (c .union .ensures q, h .inv .1 q, add-one))
 
 pub joined-spec : {M : Type 1} → statement M
 joined-spec =
     tie.close
     (tie.spec Inv-loop μ-loop loop-holds (λ c. search needs) (λ c. search needs) (λ c κs. search needs) (λ c. search needs) (λ c. search needs)
-    loop-again returns)
+    loop-again (λ c. let h = c .before .loop in let e : h .i ≡ c .before .before .args .n = omega arith in rw e at (h .inv .1)))

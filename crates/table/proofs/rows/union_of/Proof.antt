@@ -1,5 +1,5 @@
 -- `union_of` meets its contract. The invariant: what is left of the set is still to be walked. Assumes nothing.
-use Rattle.words.proofs.Vocabulary.{ℕ, _<_, _^_, Bool, _&&_, _≡_, needs, getD, arith}
+use Rattle.words.proofs.Vocabulary.{ℕ, _<_, _^_, _&&_, _≡_, needs, getD, arith}
 use Rattle.table.specs.Rows.{unionOf}
 use Rattle.words.specs.Word.{mem, any}
 use Rattle.words.proofs.Members.{Walk, walk-first, walk-next, walk-last, some-in}
@@ -15,13 +15,8 @@ abbrev μ-loop : tie.MeasureT-loop
 
 loop-again : tie.Need-loop-again Inv-loop μ-loop
 loop-again c =
-    let h = c .before .before .before .before .before .loop in
-    let t = c .before .before .before .smallest in
-    let v = c .before .union in
-    let o = c .without in (
-      omega arith,
-      walk-next (t .ensures .top) (h .inv .1) (o .ensures) (v .ensures),
-    )
+    let t = c .before .before .before .smallest .ensures .top in
+    (omega arith, walk-next t (c .before .before .before .before .before .loop .inv .1) (c .without .ensures) (c .before .union .ensures))
 
 returns : tie.Need-returns Inv-loop μ-loop
 unfolding unionOf
@@ -29,8 +24,8 @@ returns c =
     let a = c .before .before .before .args in
     let h = c .before .loop in
     let e : h .left ≡ 0 = omega arith in
-    let g : ℕ → ℕ → Bool = λ q t. mem q (getD (a .row .now) t 0) in
-    word-ext 64 (h .r) (λ (q : ℕ). any (λ (t : ℕ). mem t (a .s) && g q t) 64) (h .inv .0) (λ q l. walk-last (rw e at (h .inv .1)) q)
+    word-ext 64 (h .r) (λ (q : ℕ). any (λ (t : ℕ). mem t (a .s) && mem q (getD (a .row .now) t 0)) 64) (h .inv .0)
+    (λ q l. walk-last (rw e at (h .inv .1)) q)
 
 pub union-of-spec : {M : Type 1} → statement M
 union-of-spec =
