@@ -1,5 +1,6 @@
 -- The machine that a table in bytes stands for does what the machine does that is stored there. Assumes nothing.
-use Rattle.words.proofs.Vocabulary.{ℕ, _≤_, _<_, _+_, _-_, _^_, _≡_, _∙_, refl, sym, ap, List, [], _∷_, bitAnd, length, getD, take, drop, length-drop, getD-drop, arith}
+use Rattle.words.proofs.Vocabulary.{ℕ, _≤_, _<_, _+_, _-_, _^_, _≡_, _∙_, refl, sym, ap, List, [], _∷_, bitAnd, length, getD}
+use Rattle.words.proofs.Vocabulary.{take, drop, length-drop, getD-drop, arith}
 use lib.Seq.{take-all}
 use Rattle.layout.specs.Shape.{Shaped, labelsIn, shareOf, placeIn, Tuple}
 use Rattle.layout.specs.declared.Shape.{Shape}

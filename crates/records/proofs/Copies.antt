@@ -76,7 +76,8 @@ module _ {from to : ℕ} where
 
         differ : (a j b : ℕ) → a < i → j < n → b < n → placeIn s l (a ∷ j ∷ []) ≡ placeIn s l (i ∷ b ∷ []) → ⊥
         differ a j b ha hj hb e =
-            let z = place-one s l l (a ∷ j ∷ []) (i ∷ b ∷ []) (pair-in s shape (omega arith) (omega arith)) (pair-in s shape (omega arith) (omega arith)) e .1 in
+            let z = place-one s l l (a ∷ j ∷ []) (i ∷ b ∷ []) (pair-in s shape (omega arith) (omega arith))
+            (pair-in s shape (omega arith) (omega arith)) e .1 in
             let y : a ≡ i = cc in
             omega arith
 
@@ -157,7 +158,8 @@ pub copied-spared : (s : Shape) (r : ℕ) {from : ℕ} (bits n : ℕ) {ws ws′ 
 copied-spared s r bits n {ws} {ws′} hn w = record {
   low = λ q h. w .rest q (λ k a e. omega arith);
   high = ext-getD 0 (drop end ws′) (drop end ws) (length-drop end ws′ ∙ ap (λ (z : ℕ). z - end) (w .long) ∙ sym (length-drop end ws)) (λ i h.
-      getD-drop end ws′ i 0 ∙ w .rest (end + i) (λ k a e. omega (arith, a .5, place-in s (a .0) (a .1) (a .2) (tuple-up hn (a .4)))) ∙ sym (getD-drop end ws i 0));
+      getD-drop end ws′ i 0
+      ∙ w .rest (end + i) (λ k a e. omega (arith, a .5, place-in s (a .0) (a .1) (a .2) (tuple-up hn (a .4)))) ∙ sym (getD-drop end ws i 0));
 }
   where
     end : ℕ

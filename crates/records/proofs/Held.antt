@@ -46,7 +46,8 @@ module _ (s : Shape) (shape : Shaped s) (wx wy : ℕ) (bit : Bit wx (labelsIn s)
         → (pairCode e d l xs ≡ pairCode f g l xs) × ((firstPart (pairCode e d l xs) < n) × (secondPart (pairCode e d l xs) < m))
     unfolding pairCode
     pair-step l xs hl long h =
-        let a = p .same l (map firstPart xs) hl (record { long = length-map xs firstPart ∙ long; below = each-map (λ (i : ℕ). i < n) firstPart (λ x v. v .0) h }) in
+        let a = p .same l (map firstPart xs) hl
+        (record { long = length-map xs firstPart ∙ long; below = each-map (λ (i : ℕ). i < n) firstPart (λ x v. v .0) h }) in
         let b = q .same l (map secondPart xs) hl
         (record { long = length-map xs secondPart ∙ long; below = each-map (λ (i : ℕ). i < m) secondPart (λ x v. v .1) h }) in
         let a₁ : e l (map firstPart xs) < n = omega (arith, a .0, a .1) in

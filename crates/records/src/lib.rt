@@ -128,14 +128,7 @@ fn plan_of(x: Decoded, r: usize, s: Shape, f: usize, g: usize) -> Plan
 }
 
 // The machine of record r by exploring its states, from what is kept of its parts f and g; its count is above c where it has too many.
-fn explore_next(
-    ws: &mut [u8],
-    x: Decoded,
-    f: Summary,
-    g: Summary,
-    r: usize,
-    s: Shape,
-) -> Summary
+fn explore_next(ws: &mut [u8], x: Decoded, f: Summary, g: Summary, r: usize, s: Shape) -> Summary
     requires { ⌜ Fits x r s (length (now ws)) ⌝ }
     requires { ⌜ isNot (x .kind) ≡ false ⌝ }
     requires { ⌜ SomeParts x s f g (now ws) ⌝ }
@@ -163,14 +156,7 @@ fn explore_next(
 }
 
 // The machine of record r, a "not", from its part's: the table is copied, and the other states accept.
-fn complement_next(
-    ws: &mut [u8],
-    x: Decoded,
-    f: Summary,
-    g: Summary,
-    r: usize,
-    s: Shape,
-) -> Summary
+fn complement_next(ws: &mut [u8], x: Decoded, f: Summary, g: Summary, r: usize, s: Shape) -> Summary
     requires { ⌜ Fits x r s (length (now ws)) ⌝ }
     requires { ⌜ x .kind ≡ Kind.Not ⌝ }
     requires { ⌜ SomeParts x s f g (now ws) ⌝ }
@@ -192,14 +178,7 @@ fn complement_next(
 }
 
 // The machine of record r, from what is kept of its parts f and g, into the record's share.
-pub fn build_next(
-    ws: &mut [u8],
-    x: Decoded,
-    f: Summary,
-    g: Summary,
-    r: usize,
-    s: Shape,
-) -> Summary
+pub fn build_next(ws: &mut [u8], x: Decoded, f: Summary, g: Summary, r: usize, s: Shape) -> Summary
     requires { ⌜ Fits x r s (length (now ws)) ⌝ }
     requires { ⌜ SomeParts x s f g (now ws) ⌝ }
     ensures { λ k. ⌜ Adds x s r f g k (now (ws .entry)) (now (ws .exit)) ⌝ }

@@ -44,7 +44,8 @@ reported q (tree u) places states t e = let z : u ≡ t = cc in ap {B = Sought 2
 reported q large places states t e = absurd (let z : _≡_ {A = ℕ} 0 1 = cc in omega arith)
 reported q absent places states t e = absurd (let z : _≡_ {A = ℕ} 0 1 = cc in omega arith)
 
-module _ (records : List Decoded) (m : ℕ) (s : Shape) (shape : Shaped s) (some : 0 < m) (t : Machines) (ws : List ℕ) (made : Made (upto records s m) s m t ws) where
+module _ (records : List Decoded) (m : ℕ) (s : Shape) (shape : Shaped s) (some : 0 < m) (t : Machines) (ws : List ℕ)
+    (made : Made (upto records s m) s m t ws) where
   -- the last record's machine can be read
   pub last-readable : m ≤ 128 → shareAt s m ≤ length ws → t .ending ≡ Ready → Readable ws s (m - 1) (entryOf t (m - 1))
   last-readable few room e =

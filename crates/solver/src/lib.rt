@@ -69,13 +69,7 @@ pub struct Ruling {
 }
 
 // Judge's answer to the rule that the records are decoded from and the tree in a strip.
-pub fn judge(
-    ws: &mut [u8],
-    records: [Decoded; 128],
-    m: usize,
-    s: Shape,
-    tree: &[u8],
-) -> Ruling
+pub fn judge(ws: &mut [u8], records: [Decoded; 128], m: usize, s: Shape, tree: &[u8]) -> Ruling
     requires { ⌜ Solvable records m s (length (now ws)) ⌝ }
     requires { ⌜ HasTree (now tree) s ⌝ }
     ensures { λ r. ⌜ Judged records m s (now (tree .entry)) r ⌝ }

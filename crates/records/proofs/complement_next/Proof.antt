@@ -37,7 +37,9 @@ returns c =
     let v = c .before .before .before .copy-table in
     let w = c .flipped in
     let p = s .pre .1 .1 in
-    let copied = rw (c .before .before .before .before .before .before .share-at .ensures .0, c .before .before .before .before .before .share-at2 .ensures .0) at (v .ensures) in (
+    let copied =
+    rw (c .before .before .before .before .before .before .share-at .ensures .0, c .before .before .before .before .before .share-at2 .ensures .0)
+    at (v .ensures) in (
       λ f g parts. added-not (a .x) (a .r) (a .s) (a .f) (a .g) (a .ws .now) f g (s .pre .1 .0) parts (v .last .0)
           (record { count = a .f .count; accept = w .result; looks = a .f .looks }) copied refl (w .ensures) refl,
       copied-spared (a .s) (a .r) (a .f .looks) (a .f .count)
@@ -47,6 +49,7 @@ returns c =
 pub complement-next-spec : {M : Type 1} → statement M
 complement-next-spec =
     tie.close
-    (tie.spec (λ c. search needs) (λ c. search needs) (λ c. search needs) (λ c κs. (c .before .before .before .before .pre .0 .shape, c .before .before .before .before .pre .0 .first-in))
-    (λ c κs. (c .before .before .before .before .before .pre .0 .shape, c .before .before .before .before .before .pre .0 .here-in)) copy-table-requires flipped-requires
-    (λ c. search needs) returns)
+    (tie.spec (λ c. search needs) (λ c. search needs) (λ c. search needs)
+    (λ c κs. (c .before .before .before .before .pre .0 .shape, c .before .before .before .before .pre .0 .first-in))
+    (λ c κs. (c .before .before .before .before .before .pre .0 .shape, c .before .before .before .before .before .pre .0 .here-in))
+    copy-table-requires flipped-requires (λ c. search needs) returns)

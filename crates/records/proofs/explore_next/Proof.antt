@@ -48,7 +48,11 @@ cast-t22 c =
     let hf : a .f .looks ≤ 255 = omega (arith, s .good .1 .1 .0 .1 .1 .1 .1 .0) in
     let hg : a .g .looks ≤ 255 = omega (arith, s .good .1 .1 .1 .0 .1 .1 .1 .1 .0) in
     rw (c .before .before .before .before .before .before .before .before .before .plan-of .ensures)
-    (omega (arith, looks-byte (a .x .kind) (a .x .wx) (a .x .wy) (a .f .looks) (a .g .looks) (power-pos (a .x .wx) (e .wx-power)) (e .wx-small) (e .wy-small) hf hg))
+    (omega (
+      arith,
+      looks-byte (a .x .kind) (a .x .wx) (a .x .wy) (a .f .looks) (a .g .looks)
+          (power-pos (a .x .wx) (e .wx-power)) (e .wx-small) (e .wy-small) hf hg,
+    ))
 
 returns-2 : tie.Need-returns-2
 returns-2 c =

@@ -9,9 +9,11 @@ accepted-requires c κs =
     let s = c .before .before .before .before .before .before .before .before .before .before .before .before in
     let a = s .args in
     let w = s .pre .0 in
-    let b = c .before .before .before .before .before .before .before .before .build-all in
-    (last-readable (a .records) (a .m) (a .s) (w .shape) (w .some) (b .result) (b .last .0) (b .ensures .0) (w .few) (omega (arith, w .room, b .kept .0))
-    (c .before .before .before .before .enum-told .given .1), s .pre .1)
+    let b = c .before .before .before .before .before .before .before .before .build-all in (
+      last-readable (a .records) (a .m) (a .s) (w .shape) (w .some) (b .result) (b .last .0) (b .ensures .0) (w .few) (omega (arith, w .room, b .kept .0))
+          (c .before .before .before .before .enum-told .given .1),
+      s .pre .1,
+    )
 
 returns : tie.Need-returns
 returns c =
@@ -29,8 +31,8 @@ returns-2 c =
     let w = s .pre .0 in
     let b = c .before .before .before .before .before .before .before .before .before .build-all in
     let y = c .accepted in (
-      judge-ruled (a .records) (a .m) (a .s) (w .shape) (w .some) (b .result) (b .last .0) (b .ensures .0) (a .tree .now) (c .before .before .before .before .before .enum-told .given .1)
-          (y .result) (y .ensures),
+      judge-ruled (a .records) (a .m) (a .s) (w .shape) (w .some) (b .result) (b .last .0) (b .ensures .0) (a .tree .now)
+          (c .before .before .before .before .before .enum-told .given .1) (y .result) (y .ensures),
       b .ensures .1,
     )
 

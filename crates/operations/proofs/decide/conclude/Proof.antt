@@ -53,10 +53,12 @@ returns : tie.Need-returns
 returns c = let g = c .before .ending .given in tells-over _ (c .before .before .before .before .args .v) _ (g .0 .0) (g .1)
 
 returns-2 : tie.Need-returns-2
-returns-2 c = tells-none _ (c .before .before .before .before .before .before .args .v) _ (c .before .before .before .enum-told .given .1) (c .enum-told2 .given .1)
+returns-2 c =
+    tells-none _ (c .before .before .before .before .before .before .args .v) _ (c .before .before .before .enum-told .given .1) (c .enum-told2 .given .1)
 
 returns-3 : tie.Need-returns-3
-returns-3 c = tells-larger _ (c .before .before .before .before .before .before .args .v) _ (c .before .before .before .enum-told .given .1) (c .enum-told3 .given .1)
+returns-3 c =
+    tells-larger _ (c .before .before .before .before .before .before .args .v) _ (c .before .before .before .enum-told .given .1) (c .enum-told3 .given .1)
 
 returns-4 : tie.Need-returns-4
 returns-4 c =

@@ -16,4 +16,6 @@ returns-4 c = room-fits _ _ _ _ _ _ (search needs) _ (c .before .before .before 
 pub room-refusal-spec : {M : Type 1} → statement M
 room-refusal-spec =
     tie.close
-    (tie.spec (λ c. room-places _ _ _ _ _ _ (c .if1 .taken)) (λ c κs. search needs) (λ c. room-work _ _ _ _ _ _ (search needs) _ (c .before .work-refusal .ensures) (c .if2 .taken)) (λ c κs. search needs) returns-3 returns-4)
+    (tie.spec (λ c. room-places _ _ _ _ _ _ (c .if1 .taken)) (λ c κs. search needs)
+    (λ c. room-work _ _ _ _ _ _ (search needs) _ (c .before .work-refusal .ensures) (c .if2 .taken)) (λ c κs. search needs)
+    returns-3 returns-4)

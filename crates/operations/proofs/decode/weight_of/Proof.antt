@@ -19,4 +19,6 @@ outside : (n x : ℕ) → n ≤ x → _≡_ {A = ℕ} 1 (weight n x)
 outside n x h = let e : n - suc x ≡ 0 = omega arith in sym (ap (λ (i : ℕ). 2 ^ i) e)
 
 pub weight-of-spec : {M : Type 1} → statement M
-weight-of-spec = tie.close (tie.spec (λ c. search needs) (λ c. search needs) (λ c. search needs) (λ c. shifted _ _ (c .before .pre) (c .if1 .taken)) (λ c. outside _ _ (c .if1 .left)))
+weight-of-spec =
+    tie.close
+    (tie.spec (λ c. search needs) (λ c. search needs) (λ c. search needs) (λ c. shifted _ _ (c .before .pre) (c .if1 .taken)) (λ c. outside _ _ (c .if1 .left)))

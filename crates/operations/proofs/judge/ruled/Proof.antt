@@ -5,4 +5,9 @@ use Rattle.operations.proofs.judge.ruled.Statement.{statement}
 use Rattle.operations.proofs.judge.ruled.Tie as tie
 
 pub ruled-spec : {M : Type 1} → statement M
-ruled-spec = tie.close (tie.spec (λ c. search needs) (λ c. search needs) (λ c. ruled-yes (c .before .before .before .args .v) (c .before .enum-told .given .1) (c .if1 .taken)) (λ c. let g = c .before .ending .given in ruled-over (c .before .before .before .args .v) (g .0 .0) (g .1)) (λ c. ruled-no (c .before .before .before .args .v) (c .before .enum-told .given .1) (c .if1 .left)))
+ruled-spec =
+    tie.close
+    (tie.spec (λ c. search needs) (λ c. search needs)
+    (λ c. ruled-yes (c .before .before .before .args .v) (c .before .enum-told .given .1) (c .if1 .taken))
+    (λ c. let g = c .before .ending .given in ruled-over (c .before .before .before .args .v) (g .0 .0) (g .1))
+    (λ c. ruled-no (c .before .before .before .args .v) (c .before .enum-told .given .1) (c .if1 .left)))

@@ -8,4 +8,7 @@ use Rattle.report.proofs.program.rule_in.Statement.{statement}
 use Rattle.report.proofs.program.rule_in.Tie as tie
 
 pub rule-in-spec : {M : Type 1} → statement M
-rule-in-spec = tie.close (tie.spec (λ c. sym (length-take-le _ (c .before .before .args .input .now) (le-of-lt (c .before .if1 .taken)))) (λ c. search needs) (λ c. sym (take-all 300 (c .before .args .input .now) (omega arith))))
+rule-in-spec =
+    tie.close
+    (tie.spec (λ c. sym (length-take-le _ (c .before .before .args .input .now) (le-of-lt (c .before .if1 .taken))))
+    (λ c. search needs) (λ c. sym (take-all 300 (c .before .args .input .now) (omega arith))))

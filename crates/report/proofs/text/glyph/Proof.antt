@@ -7,4 +7,6 @@ use Rattle.report.proofs.text.glyph.Tie as tie
 
 pub glyph-spec : {M : Type 1} → statement M
 glyph-spec =
-    tie.close (tie.spec (λ c. search needs) (λ c. search needs) (λ c. rw (lt-ltb _ _ (c .if1 .taken)) refl) (λ c. search needs) (λ c. search needs) (λ c. rw (le-ltb _ _ (c .if1 .left)) refl))
+    tie.close
+    (tie.spec (λ c. search needs) (λ c. search needs) (λ c. rw (lt-ltb _ _ (c .if1 .taken)) refl)
+    (λ c. search needs) (λ c. search needs) (λ c. rw (le-ltb _ _ (c .if1 .left)) refl))
