@@ -30,7 +30,7 @@ pub fn set_bit(d: &mut [u8], at: usize)
 }
 
 // The bit at a place that holds 0 is made x.
-pub fn put_bit(d: &mut [u8], at: usize, x: u64)
+fn put_bit(d: &mut [u8], at: usize, x: u64)
     requires { ⌜ at < 8 * length (now d) ⌝ }
     requires { ⌜ getD (bits (now d)) at 0 ≡ 0 ⌝ }
     requires { ⌜ x < 2 ⌝ }

@@ -16,7 +16,7 @@ pub struct Fields {
 }
 
 // What reading a record answers: the record with the next bit place, or a refusal number.
-pub enum Read {
+enum Read {
     Record {
         op: usize,
         first: usize,
@@ -33,7 +33,7 @@ pub enum RuleCheck {
 }
 
 // What a field of a record holds: a variable, an earlier record's number, or nothing.
-pub enum Use {
+enum Use {
     Variable,
     Earlier,
     Unused,

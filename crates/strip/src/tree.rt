@@ -40,7 +40,7 @@ fn read_head(s: &[u8], n: usize, met: usize, at: usize) -> Head
 }
 
 // A tree that was read: the positions met, and the place after it; or a refusal number.
-pub enum TreeRead {
+enum TreeRead {
     Tree { met: usize, next: usize },
     Refused(u64),
 }
