@@ -33,14 +33,15 @@ pub fn entry_at(low: &[u8], sh: Shape, a: usize, l: usize, i: usize, j: usize) -
     wide(read(low, a + layout::place(sh, l, i, j)))
 }
 
-// The entry for label l and states i and j of the table that starts at a, which lies within `low`.
+// The entry for label l and states i and j of the table that starts at a, which lies within `low`. Its place is that of the label's first
+// entry and of the states together, so that a loop over states need not reckon the label's again.
 pub fn entry_within(low: &[u8], sh: Shape, a: usize, l: usize, i: usize, j: usize) -> u64
     requires { ⌜ Within sh (now low) a ⌝ }
     requires { ⌜ (l < labelsIn sh) × (i < sh .ceiling) × (j < sh .ceiling) ⌝ }
     ensures { λ r. ⌜ r ≡ entry sh (now (low .entry)) a l (i ∷ j ∷ []) ⌝ }
 {
-    let k = a + layout::place(sh, l, i, j);
-    wide(low[k])
+    let first = a + layout::place(sh, l, 0, 0);
+    wide(low[first + layout::place(sh, 0, i, j)])
 }
 
 // The label l with the bit of weight w cleared.
