@@ -111,7 +111,7 @@ alter crates.txt 's/^\(verdict:.*\) report/\1/'
 refused run 'a crate missing in crates.txt' 'verdict NOT PROVED'
 
 # the archive
-deep=$(first crates/operations/proofs/*/*/Proof.antt) || exit
+deep=$(first crates/ws2s/proofs/*/*/Proof.antt) || exit
 spoil "$deep"
 refused target/staticlib/libws2s.a "$deep broken" "$deep:"
 
