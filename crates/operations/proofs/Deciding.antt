@@ -16,13 +16,13 @@ use Rattle.refinement.proofs.Ready.{ready}
 use Rattle.solver.specs.Solve.{outcomeOf, Solvable, DecodedFrom, Ranked, Solved}
 use Rattle.solver.proofs.Told.{treeIn, told-over, told-none, told-larger, told-shown}
 use Rattle.solver.specs.declared.Solution.{Solution}
-use Rattle.strip.specs.RuleStrip.{recordAt, recordsOf, AcceptedRule}
-use Rattle.strip.proofs.RuleLaws.{rule-accepted, records-at, widths-at}
+use Rattle.rule_strip.specs.RuleStrip.{recordAt, recordsOf, AcceptedRule}
+use Rattle.rule_strip.proofs.RuleLaws.{rule-accepted, records-at, widths-at}
 use Rattle.operations.specs.Decoding.{DecodesTo}
 use Rattle.operations.specs.Room.{cleared, Roomy}
 use Rattle.operations.proofs.Rooms.{room-shares, shaped}
-use Rattle.strip.specs.TreeStrip.{treeStrip, treeBytes}
-use Rattle.strip.proofs.TreeLaws.{treeStrip-length}
+use Rattle.tree_strip.specs.TreeStrip.{treeStrip, treeBytes}
+use Rattle.tree_strip.proofs.TreeLaws.{treeStrip-length}
 use Rattle.operations.specs.Decide.{decidedOf, tell, outAfter, Spacious}
 use Rattle.operations.specs.declared.decide.Verdict.{Verdict}
 use Rattle.operations.specs.declared.decide.Verdict.the-variants.{Shown, None, Larger, TooManyStates}

@@ -10,10 +10,10 @@ use lib.Seq.{getD-set-same, getD-set-other}
 use Rattle.records.specs.declared.Decoded.{Decoded}
 use Rattle.records.specs.Rule.{noDecoded}
 use Rattle.refinement.specs.Decode.{weight, decodedOf}
-use Rattle.strip.specs.RuleStrip.{recordAt, AcceptedRule}
-use Rattle.strip.specs.RuleAnswers.{fieldsOf}
-use Rattle.strip.specs.declared.rule.Fields.{Fields}
-use Rattle.strip.proofs.RuleLaws.{rule-accepted, records-at, widths-at}
+use Rattle.rule_strip.specs.RuleStrip.{recordAt, AcceptedRule}
+use Rattle.rule_strip.specs.RuleAnswers.{fieldsOf}
+use Rattle.rule_strip.specs.declared.Fields.{Fields}
+use Rattle.rule_strip.proofs.RuleLaws.{rule-accepted, records-at, widths-at}
 use Rattle.operations.specs.Decoding.{DecodesTo}
 
 -- a weight fits in a byte

@@ -18,14 +18,15 @@ use Rattle.reading.specs.Reading.{HasTree}
 use Rattle.refinement.specs.Decode.{shapeOf}
 use Rattle.solver.specs.Solve.{judgementAfter, judgementOf, Judged}
 use Rattle.solver.specs.declared.Ruling.{Ruling}
-use Rattle.strip.specs.Bits.{bits, number, field, anySet}
-use Rattle.strip.specs.RuleStrip.{between, variablesOf, countOf, recordsOf, ruleRefusal, AcceptedRule}
-use Rattle.strip.specs.TreeStrip.{Parsed, parsed, refused, join, andThen, parse, ended, readTree}
-use Rattle.strip.specs.TreeAnswers.{answered, checkedTree}
-use Rattle.strip.specs.declared.tree.TreeCheck.the-variants.{Accepted as treeAccepted, Refused as treeRefused}
-use Rattle.strip.proofs.RuleLaws.{rule-accepted}
-use Rattle.strip.proofs.TreeLaws.{TreeFacts, tree-accepted, facts-length, treeBytes-most}
-use Rattle.strip.proofs.TreeWalk.{facts-stand}
+use Rattle.bits.specs.Bits.{bits, number, field, anySet}
+use Rattle.rule_strip.specs.RuleStrip.{variablesOf, countOf, recordsOf, ruleRefusal, AcceptedRule}
+use Rattle.bits.specs.Bits.{between}
+use Rattle.tree_strip.specs.TreeStrip.{Parsed, parsed, refused, join, andThen, parse, ended, readTree}
+use Rattle.tree_strip.specs.TreeAnswers.{answered, checkedTree}
+use Rattle.tree_strip.specs.declared.check.TreeCheck.the-variants.{Accepted as treeAccepted, Refused as treeRefused}
+use Rattle.rule_strip.proofs.RuleLaws.{rule-accepted}
+use Rattle.tree_strip.proofs.TreeLaws.{TreeFacts, tree-accepted, facts-length, treeBytes-most}
+use Rattle.tree_strip.proofs.TreeWalk.{facts-stand}
 use Rattle.operations.specs.Decoding.{DecodesTo}
 use Rattle.operations.specs.Room.{roomFor, cleared, workRefusal, Roomy}
 use Rattle.operations.specs.Judge.{Readable, treeRefusal, lateRefusal, refusalBefore, tell, judgedOf, judgementFor, workspaceFor, JudgedTree, JudgeClaim}

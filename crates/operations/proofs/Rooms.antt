@@ -9,8 +9,8 @@ use Rattle.refinement.specs.Decode.{shapeOf}
 use mathlib.Core.Bool.{Bool, true, false, not, _&&_, _||_, or-true, cond}
 use borrow.Author.Tests.{lt-ltb, le-ltb, le-leb, lt-leb, ne-eqb, ltb-true, ltb-false, leb-true}
 use lib.Dec.{ltb, leb, eqb, eqb·suc-zero}
-use Rattle.strip.specs.RuleStrip.{between}
-use Rattle.strip.specs.TreeStrip.{treeBytes}
+use Rattle.bits.specs.Bits.{between}
+use Rattle.tree_strip.specs.TreeStrip.{treeBytes}
 use Rattle.operations.specs.Room.{roomFor, workRefusal, roomRefusal, Roomy}
 
 -- "m × 2^n × c × c bytes" are m shares

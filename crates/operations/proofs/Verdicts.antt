@@ -13,9 +13,9 @@ use Rattle.logic.specs.Tree.{positions}
 use Rattle.logic.proofs.Answers.{decide-answers, shown-fits}
 use Rattle.solver.specs.Solve.{outcomeOf}
 use Rattle.solver.specs.declared.Solution.{Solution}
-use Rattle.strip.specs.RuleStrip.{variablesOf, countOf, recordsOf, ruleRefusal, AcceptedRule}
-use Rattle.strip.specs.TreeStrip.{treeStrip, treeBytes}
-use Rattle.strip.proofs.RuleLaws.{rule-accepted}
+use Rattle.rule_strip.specs.RuleStrip.{variablesOf, countOf, recordsOf, ruleRefusal, AcceptedRule}
+use Rattle.tree_strip.specs.TreeStrip.{treeStrip, treeBytes}
+use Rattle.rule_strip.proofs.RuleLaws.{rule-accepted}
 use Rattle.operations.specs.Room.{roomFor, cleared, roomRefusal, Roomy}
 use Rattle.operations.specs.Decide.{earlyRefusal, decidedOf, tell, outAfter, Spacious, verdictOf, workspaceOf, outOf, Claim}
 use Rattle.operations.specs.declared.decide.Verdict.{Verdict}

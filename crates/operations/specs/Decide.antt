@@ -9,8 +9,8 @@ use Rattle.logic.specs.Rule.{lastOf}
 use Rattle.logic.specs.Tree.{Tree, positions}
 use Rattle.logic.specs.Claims.{Outcome, refused14, shown, none, larger, statesAt, Answers}
 use Rattle.logic.specs.Decide.{decideOf}
-use Rattle.strip.specs.RuleStrip.{variablesOf, countOf, recordsOf, ruleRefusal}
-use Rattle.strip.specs.TreeStrip.{treeStrip, treeBytes}
+use Rattle.rule_strip.specs.RuleStrip.{variablesOf, countOf, recordsOf, ruleRefusal}
+use Rattle.tree_strip.specs.TreeStrip.{treeStrip, treeBytes}
 use Rattle.operations.specs.Room.{roomFor, cleared, roomRefusal}
 use Rattle.operations.specs.declared.decide.Verdict.{Verdict}
 use Rattle.operations.specs.declared.decide.Verdict.the-variants.{Shown, None, Larger, Refused, TooManyStates}

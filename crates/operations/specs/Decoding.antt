@@ -7,7 +7,7 @@ use Rattle.logic.specs.Rule.{noRecord}
 use Rattle.records.specs.declared.Decoded.{Decoded}
 use Rattle.records.specs.Rule.{noDecoded}
 use Rattle.refinement.specs.Decode.{decodedOf}
-use Rattle.strip.specs.RuleStrip.{variablesOf, recordsOf}
+use Rattle.rule_strip.specs.RuleStrip.{variablesOf, recordsOf}
 
 -- the first m entries of xs are the strip's first m records
 abbrev pub DecodesTo : List ℕ → ℕ → List Decoded → Type 0

@@ -9,9 +9,9 @@ use Rattle.logic.specs.Meaning.{Assignment}
 use Rattle.logic.specs.Tree.{Tree, empty, TreeOf}
 use Rattle.logic.specs.Claims.{Judgement as Ruled, unbuilt, yes, no, Judges}
 use Rattle.logic.specs.Decide.{judgeOf}
-use Rattle.strip.specs.Bits.{field}
-use Rattle.strip.specs.RuleStrip.{variablesOf, countOf, recordsOf, ruleRefusal}
-use Rattle.strip.specs.TreeStrip.{Parsed, parsed, refused, readTree}
+use Rattle.bits.specs.Bits.{field}
+use Rattle.rule_strip.specs.RuleStrip.{variablesOf, countOf, recordsOf, ruleRefusal}
+use Rattle.tree_strip.specs.TreeStrip.{Parsed, parsed, refused, readTree}
 use Rattle.operations.specs.Room.{roomFor, cleared, workRefusal}
 use Rattle.operations.specs.declared.judge.Judgement.{Judgement}
 use Rattle.operations.specs.declared.judge.Judgement.the-variants.{No, Yes, Refused, TooManyStates}

@@ -4,8 +4,8 @@ use mathlib.Core.Bool.{not, _||_, cond}
 use mathlib.Core.List.{List, _++_}
 use lib.Dec.{ltb}
 use lib.ListN.{drop, replicate}
-use Rattle.strip.specs.RuleStrip.{between}
-use Rattle.strip.specs.TreeStrip.{treeBytes}
+use Rattle.bits.specs.Bits.{between}
+use Rattle.tree_strip.specs.TreeStrip.{treeBytes}
 
 -- "m × 2^n × c × c bytes": what refusal 12 asks for
 abbrev pub roomFor : ℕ → ℕ → ℕ → ℕ

@@ -3,14 +3,14 @@ ghost use mathlib.Core.Path.{_≡_};
 ghost use Prim.Native.Nat.{_≤_};
 ghost use lib.ListN.{length};
 ghost use Rattle.solver.specs.Solve.{outcomeOf, Ranked};
-ghost use Rattle.strip.specs.RuleStrip.{AcceptedRule};
+ghost use Rattle.rule_strip.specs.RuleStrip.{AcceptedRule};
 ghost use Rattle.operations.specs.Room.{roomFor, cleared, roomRefusal, Roomy};
 ghost use Rattle.operations.specs.Decide.{decidedOf, tell, outAfter, Spacious, verdictOf, workspaceOf, outOf, Claim};
 use crate::decode::decode;
 use records::Ending;
 use search::Finding;
 use solver::Solution;
-use strip::rule::RuleCheck;
+use rule_strip::RuleCheck;
 
 // Decide's answer: the tree shown in out, with its positions, the states of the last record and the strip's length; none or
 // larger, with the states; a refusal's number; or refusal 14, with the record's number.
@@ -54,7 +54,7 @@ fn solve_rule(rule: &[u8], n: usize, m: usize, c: usize, p: u64, ws: &mut [u8]) 
 {
     let records = decode(rule, n, m);
     let v = solver::solve(ws, records, m, crate::room::shape(n, c), p);
-    strip::bits::clear(ws, crate::room::needed(n, m, c));
+    bits::clear(ws, crate::room::needed(n, m, c));
     v
 }
 
@@ -81,7 +81,7 @@ fn conclude(n: usize, v: Solution, out: &mut [u8]) -> Verdict
                     let first = f.first;
                     let second = f.second;
                     let len = crate::room::strip_bytes(n, positions as usize);
-                    strip::tree_writer::write_strip(
+                    tree_strip::write::write_strip(
                         &mut out[..len],
                         n,
                         &label,
@@ -131,7 +131,7 @@ pub fn decide(rule: &[u8], c: u64, p: u64, ws: &mut [u8], out: &mut [u8]) -> Ver
     ensures { λ _. ⌜ now (out .exit) ≡ outOf (now (rule .entry)) c p (length (now (ws .entry))) (now (out .entry)) ⌝ }
     ensures { λ r. ⌜ Claim (now (rule .entry)) c p (length (now (ws .entry))) (length (now (out .entry))) r (now (out .exit)) ⌝ }
 {
-    match strip::rule::check_rule(rule) {
+    match rule_strip::check_rule(rule) {
         RuleCheck::Refused(k) => Verdict::Refused(k),
         RuleCheck::Accepted { variables, records } => decide_accepted(
             rule,

@@ -2,7 +2,7 @@
 ghost use mathlib.Core.Path.{_≡_};
 ghost use Prim.Native.Nat.{_<_, _≤_};
 ghost use Rattle.refinement.specs.Decode.{weight, kindAt, decodedOf};
-ghost use Rattle.strip.specs.RuleStrip.{AcceptedRule};
+ghost use Rattle.rule_strip.specs.RuleStrip.{AcceptedRule};
 ghost use Rattle.operations.specs.Decoding.{DecodesTo};
 use records::Decoded;
 use table::plan::Kind;
@@ -71,7 +71,7 @@ pub fn decode(s: &[u8], n: usize, m: usize) -> [Decoded; 128]
     let mut at: usize = 16;
     let mut i: usize = 0;
     while i < m {
-        let f = strip::rule::fields_at(s, at);
+        let f = rule_strip::fields_at(s, at);
         records[i] = decoded(n, f.op, f.first, f.second);
         at += 18;
         i += 1;

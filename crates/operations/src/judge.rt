@@ -2,14 +2,14 @@
 ghost use mathlib.Core.Path.{_≡_};
 ghost use lib.ListN.{length};
 ghost use Rattle.solver.specs.Solve.{judgementOf};
-ghost use Rattle.strip.specs.RuleStrip.{AcceptedRule};
+ghost use Rattle.rule_strip.specs.RuleStrip.{AcceptedRule};
 ghost use Rattle.operations.specs.Room.{roomFor, cleared, Roomy};
 ghost use Rattle.operations.specs.Judge.{Readable, judgedOf, tell, judgementFor, workspaceFor, JudgeClaim};
 use crate::decode::decode;
 use records::Ending;
 use solver::Ruling;
-use strip::rule::RuleCheck;
-use strip::tree::TreeCheck;
+use rule_strip::RuleCheck;
+use tree_strip::check::TreeCheck;
 
 // Judge's answer: no or yes; a refusal's number; or refusal 14, with the record's number.
 pub enum Judgement {
@@ -46,7 +46,7 @@ fn judge_rule(rule: &[u8], n: usize, m: usize, c: usize, ws: &mut [u8], tree: &[
 {
     let records = decode(rule, n, m);
     let v = solver::judge(ws, records, m, crate::room::shape(n, c), tree);
-    strip::bits::clear(ws, crate::room::needed(n, m, c));
+    bits::clear(ws, crate::room::needed(n, m, c));
     v
 }
 
@@ -60,7 +60,7 @@ fn judge_accepted(rule: &[u8], n: usize, m: usize, c: u64, ws: &mut [u8], tree: 
     if k != 0 {
         return Judgement::Refused(k);
     }
-    match strip::tree::check_tree(tree) {
+    match tree_strip::check::check_tree(tree) {
         TreeCheck::Refused(k) => Judgement::Refused(k),
         TreeCheck::Accepted {
             variables,
@@ -80,7 +80,7 @@ pub fn judge(rule: &[u8], c: u64, ws: &mut [u8], tree: &[u8]) -> Judgement
     ensures { λ _. ⌜ now (ws .exit) ≡ workspaceFor (now (rule .entry)) c (now (ws .entry)) (now (tree .entry)) ⌝ }
     ensures { λ r. ⌜ JudgeClaim (now (rule .entry)) c (length (now (ws .entry))) (now (tree .entry)) r ⌝ }
 {
-    match strip::rule::check_rule(rule) {
+    match rule_strip::check_rule(rule) {
         RuleCheck::Refused(k) => Judgement::Refused(k),
         RuleCheck::Accepted { variables, records } => judge_accepted(
             rule,

@@ -2,7 +2,7 @@
 ghost use mathlib.Core.Path.{_≡_};
 ghost use Prim.Native.Nat.{_≤_};
 ghost use Rattle.refinement.specs.Decode.{shapeOf};
-ghost use Rattle.strip.specs.TreeStrip.{treeBytes};
+ghost use Rattle.tree_strip.specs.TreeStrip.{treeBytes};
 ghost use Rattle.operations.specs.Room.{roomFor, workRefusal};
 use layout::Shape;
 

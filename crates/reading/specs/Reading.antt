@@ -10,7 +10,7 @@ use Rattle.logic.specs.Tree.{Tree, Proper}
 use Rattle.logic.specs.Machine.{run}
 use Rattle.logic.specs.Search.{anyBelow, search}
 use Rattle.logic.specs.Table.{Table}
-use Rattle.strip.specs.TreeStrip.{Stands}
+use Rattle.tree_strip.specs.TreeStrip.{Stands}
 use Rattle.records.specs.Rule.{Mach, machOf, Stored}
 use Rattle.records.specs.declared.Summary.{Summary}
 use Rattle.search.specs.Rounds.{Ended}

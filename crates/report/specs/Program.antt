@@ -3,7 +3,7 @@ use Prim.Native.Nat.{ℕ, _≤_}
 use mathlib.Core.Path.{_≡_}
 use mathlib.Core.List.{List}
 use lib.ListN.{length, take, replicate}
-use Rattle.strip.specs.TreeStrip.{treeBytes}
+use Rattle.tree_strip.specs.TreeStrip.{treeBytes}
 use Rattle.operations.specs.Decide.{verdictOf, outOf}
 use Rattle.report.specs.Line.{lineOf}
 use Rattle.report.specs.declared.program.Output.{Output}

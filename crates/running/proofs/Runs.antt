@@ -4,11 +4,11 @@ use Rattle.logic.specs.Meaning.{Branch}
 use Rattle.logic.specs.Tree.{Tree, empty, node, Proper}
 use Rattle.logic.specs.Machine.{run}
 use Rattle.logic.specs.Two.{one, two}
-use Rattle.strip.specs.Bits.{bits, digits, field}
-use Rattle.strip.specs.TreeStrip.{treeBits, Stands}
-use Rattle.strip.proofs.Fields.{length-digits}
-use Rattle.strip.proofs.TreeBits.{treeBits-length}
-use Rattle.strip.proofs.TreeWalk.{stands-within, empty-bit, node-bit, label-in, label-is, stands-first, stands-second}
+use Rattle.bits.specs.Bits.{bits, digits, field}
+use Rattle.tree_strip.specs.TreeStrip.{treeBits, Stands}
+use Rattle.bits.proofs.Fields.{length-digits}
+use Rattle.tree_strip.proofs.TreeBits.{treeBits-length}
+use Rattle.tree_strip.proofs.TreeWalk.{stands-within, empty-bit, node-bit, label-in, label-is, stands-first, stands-second}
 use Rattle.layout.specs.declared.Shape.{Shape}
 use Rattle.layout.specs.Shape.{labelsIn}
 use Rattle.layout.proofs.Places.{pair-in}

@@ -5,7 +5,7 @@ use mathlib.Core.List.{List}
 use lib.ListN.{length}
 use Rattle.logic.specs.Tree.{Tree, Proper}
 use Rattle.logic.specs.Machine.{run}
-use Rattle.strip.specs.TreeStrip.{treeBits, Stands}
+use Rattle.tree_strip.specs.TreeStrip.{treeBits, Stands}
 use Rattle.layout.specs.declared.Shape.{Shape}
 use Rattle.search.specs.Table.{machineIn, Whole}
 use Rattle.running.specs.declared.Ran.{Ran}

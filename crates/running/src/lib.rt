@@ -13,14 +13,14 @@ pub fn run(strip: &[u8], at: usize, s: Shape, looks: usize, table: &[u8], count:
     requires { ⌜ Runnable (now strip) at s looks (now table) count ⌝ }
     ensures { λ r. ⌜ Came (now (strip .entry)) at s looks (now (table .entry)) count r ⌝ }
 {
-    if strip::bits::bit_at(strip, at) == 0 {
+    if bits::bit_at(strip, at) == 0 {
         return Ran {
             state: 0,
             next: at + 1,
         };
     }
     let n = s.variables;
-    let label = strip::bits::field_at(strip, at + 1, n) as usize;
+    let label = bits::field_at(strip, at + 1, n) as usize;
     let first = run(strip, at + 1 + n, s, looks, table, count);
     let second = run(strip, first.next, s, looks, table, count);
     Ran {

@@ -13,8 +13,8 @@ use Rattle.logic.specs.Machine.{Machine, run}
 use Rattle.logic.specs.Search.{Best, nothing, found, View, lighter, choose, consider, loop, pick, at, rank, settled, candidate, view, Sought, tree, absent}
 use Rattle.logic.specs.Search.{verdict, next, rounds, anyBelow, begin, search}
 use Rattle.logic.proofs.Orders.{less, same, more, ℕ-tri}
-use Rattle.strip.specs.Ranks.{treeAt, decode, Backs}
-use Rattle.strip.proofs.Ranks.{decode-length}
+use Rattle.tree_strip.specs.Ranks.{treeAt, decode, Backs}
+use Rattle.tree_strip.proofs.Ranks.{decode-length}
 use Rattle.search.specs.declared.Pick.{Pick}
 use Rattle.search.specs.declared.Finding.{Finding}
 use Rattle.search.specs.declared.Found.{Found}

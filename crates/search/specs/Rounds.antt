@@ -4,7 +4,7 @@ use mathlib.Core.List.{List}
 use Prim.Native.Nat.{ℕ, _≤_, _<_, _-_}
 use Rattle.logic.specs.Search.{at, Sought, tree, large, absent}
 use Rattle.logic.specs.Tree.{Tree, positions}
-use Rattle.strip.specs.Ranks.{decode, Backs}
+use Rattle.tree_strip.specs.Ranks.{decode, Backs}
 use Rattle.search.specs.declared.Finding.{Finding}
 use Rattle.search.specs.declared.Found.{Found}
 use Rattle.search.specs.declared.Finding.the-variants.{None, Larger, Shown}

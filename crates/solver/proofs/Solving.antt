@@ -20,7 +20,7 @@ use Rattle.search.specs.declared.Found.{Found}
 use Rattle.reading.specs.Reading.{Readable, Earliest, Accepts}
 use Rattle.refinement.specs.Decode.{shapeOf}
 use Rattle.refinement.proofs.Upto.{decide-over, judge-over, decide-built, judge-built}
-use Rattle.strip.specs.TreeStrip.{Stands}
+use Rattle.tree_strip.specs.TreeStrip.{Stands}
 use Rattle.solver.specs.Solve.{outcomeAfter, judgementAfter, Solvable, DecodedFrom, Solved, Judged}
 
 -- building does not end in both ways

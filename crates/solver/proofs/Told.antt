@@ -6,7 +6,7 @@ use Rattle.logic.specs.Claims.{refused14, shown, none, larger}
 use Rattle.logic.specs.Decide.{report}
 use Rattle.records.specs.declared.Ending.the-variants.{Over, Ready}
 use Rattle.search.specs.Rounds.{answerBy}
-use Rattle.strip.specs.Ranks.{treeOfRank}
+use Rattle.tree_strip.specs.Ranks.{treeOfRank}
 use Rattle.search.specs.declared.Finding.the-variants.{None, Larger, Shown}
 use Rattle.solver.specs.declared.Solution.{Solution}
 use Rattle.solver.specs.Solve.{outcomeAfter, outcomeOf}

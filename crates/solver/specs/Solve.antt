@@ -17,8 +17,8 @@ use Rattle.records.specs.declared.Ending.{Ending}
 use Rattle.records.specs.declared.Ending.the-variants.{Over, Ready}
 use Rattle.search.specs.Rounds.{answerOf}
 use Rattle.search.specs.declared.Found.{Found}
-use Rattle.strip.specs.Ranks.{Backs}
-use Rattle.strip.specs.TreeStrip.{Stands}
+use Rattle.tree_strip.specs.Ranks.{Backs}
+use Rattle.tree_strip.specs.TreeStrip.{Stands}
 use Rattle.refinement.specs.Decode.{decodedOf}
 use Rattle.solver.specs.declared.Solution.{Solution}
 use Rattle.solver.specs.declared.Ruling.{Ruling}

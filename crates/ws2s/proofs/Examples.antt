@@ -12,9 +12,9 @@ use Rattle.logic.specs.Reach.{elem, below, flat, select, outcomes, successors, 
 use Rattle.logic.specs.Table.{table, codedProduct, build, productTable, projectionTable, complementTable, tableOf, admit, buildAll, kindOf}
 use Rattle.logic.specs.Search.{settled, view, lighter, choose, consider, loop, tuples, pick, verdict, next, rounds, anyBelow, begin, search}
 use Rattle.logic.specs.Decide.{report, conclude, decideOf}
-use Rattle.strip.specs.Bits.{digits, bits, anySet, pack}
-use Rattle.strip.specs.RuleStrip.{variablesOf, recordAt, recordsFrom, recordsOf, firstUse, secondUse, recordRefusal, recordsRefusal, ruleRefusal}
-use Rattle.strip.specs.TreeStrip.{treeBits, treeStrip}
+use Rattle.bits.specs.Bits.{digits, bits, anySet, pack}
+use Rattle.rule_strip.specs.RuleStrip.{variablesOf, recordAt, recordsFrom, recordsOf, firstUse, secondUse, recordRefusal, recordsRefusal, ruleRefusal}
+use Rattle.tree_strip.specs.TreeStrip.{treeBits, treeStrip}
 use Rattle.operations.specs.Room.{roomRefusal}
 use Rattle.operations.specs.Decide.{earlyRefusal, tell, outAfter, verdictOf, outOf}
 use Rattle.operations.specs.declared.decide.Verdict.{Verdict}

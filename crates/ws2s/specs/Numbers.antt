@@ -3,10 +3,10 @@
 use Prim.Native.Nat.{ℕ}
 use mathlib.Core.Path.{_≡_}
 use mathlib.Core.List.{List}
-use Rattle.strip.specs.declared.rule.RuleCheck.{RuleCheck}
-use Rattle.strip.specs.declared.rule.RuleCheck.the-variants as rule
-use Rattle.strip.specs.declared.tree.TreeCheck.{TreeCheck}
-use Rattle.strip.specs.declared.tree.TreeCheck.the-variants as tree
+use Rattle.rule_strip.specs.declared.RuleCheck.{RuleCheck}
+use Rattle.rule_strip.specs.declared.RuleCheck.the-variants as rule
+use Rattle.tree_strip.specs.declared.check.TreeCheck.{TreeCheck}
+use Rattle.tree_strip.specs.declared.check.TreeCheck.the-variants as tree
 use Rattle.operations.specs.declared.judge.Judgement.{Judgement}
 use Rattle.operations.specs.declared.judge.Judgement.the-variants as judgement
 use Rattle.operations.specs.declared.decide.Verdict.{Verdict}

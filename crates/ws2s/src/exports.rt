@@ -1,15 +1,15 @@
 // The C interface, include/ws2s.h: the entry points over numbers and byte slices. Fields that do not apply are 0.
 ghost use mathlib.Core.Path.{_≡_};
 ghost use lib.ListN.{length};
-ghost use Rattle.strip.specs.RuleAnswers.{checkedRule};
-ghost use Rattle.strip.specs.TreeAnswers.{checkedTree};
+ghost use Rattle.rule_strip.specs.RuleAnswers.{checkedRule};
+ghost use Rattle.tree_strip.specs.TreeAnswers.{checkedTree};
 ghost use Rattle.operations.specs.Decide.{verdictOf, workspaceOf, outOf};
 ghost use Rattle.operations.specs.Judge.{judgementFor, workspaceFor};
 ghost use Rattle.ws2s.specs.Numbers.{ruleNumbers, treeNumbers, judgementNumbers, verdictNumbers, JudgedInNumbers, DecidedInNumbers};
 use operations::decide::Verdict;
 use operations::judge::Judgement;
-use strip::rule::RuleCheck;
-use strip::tree::TreeCheck;
+use rule_strip::RuleCheck;
+use tree_strip::check::TreeCheck;
 
 #[repr(C)]
 pub struct RuleNumbers {
@@ -150,7 +150,7 @@ fn verdict_numbers(v: Verdict) -> VerdictNumbers
 pub extern "C" fn ws2s_check_rule(rule: &[u8]) -> RuleNumbers
     ensures { λ r. ⌜ r ≡ ruleNumbers (checkedRule (now (rule .entry))) ⌝ }
 {
-    rule_numbers(strip::rule::check_rule(rule))
+    rule_numbers(rule_strip::check_rule(rule))
 }
 
 // Whether any bytes are a tree strip.
@@ -158,7 +158,7 @@ pub extern "C" fn ws2s_check_rule(rule: &[u8]) -> RuleNumbers
 pub extern "C" fn ws2s_check_tree(tree: &[u8]) -> TreeNumbers
     ensures { λ r. ⌜ r ≡ treeNumbers (checkedTree (now (tree .entry))) ⌝ }
 {
-    tree_numbers(strip::tree::check_tree(tree))
+    tree_numbers(tree_strip::check::check_tree(tree))
 }
 
 // Whether the sets of a tree satisfy a rule, with the state ceiling c.

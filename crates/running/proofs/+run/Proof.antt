@@ -2,14 +2,14 @@
 use Rattle.words.proofs.Vocabulary.{ℕ, _<_, _-_, _*_, _≡_, sym, _∙_, getD, length, arith}
 use borrow.Fn.Kinds.{In}
 use borrow.Fn.PlainCycle.{Measures, is, falls, and}
-use Rattle.strip.specs.Bits.{bits}
+use Rattle.bits.specs.Bits.{bits}
 use Rattle.running.proofs.Runs.{at-in, came-empty, label-within, first-runnable, second-after, second-runnable, entry, came-node}
 use Rattle.running.proofs.run.Reads as run
 use Rattle.running.proofs.run.Kinds as run-kinds
 use Rattle.running.proofs.+run.Lts-run as run-lts
 use Rattle.search.proofs.cell.Reads as cell-reads
-use Rattle.strip.proofs.bits.bit_at.Reads as bit-at-reads
-use Rattle.strip.proofs.bits.field_at.Reads as field-at-reads
+use Rattle.bits.proofs.bit_at.Reads as bit-at-reads
+use Rattle.bits.proofs.field_at.Reads as field-at-reads
 use Rattle.running.proofs.+run.{statement}
 use Rattle.running.proofs.+run.Tie.{close}
 

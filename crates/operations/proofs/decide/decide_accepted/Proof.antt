@@ -1,6 +1,6 @@
 -- `operations::decide::decide_accepted` meets its contract. Assumes nothing.
 use native.Mathlib.Omega.{arith}
-use Rattle.strip.proofs.RuleLaws.{rule-accepted}
+use Rattle.rule_strip.proofs.RuleLaws.{rule-accepted}
 use Rattle.operations.proofs.Verdicts.{ends-room, room-known, spacious, ends-told}
 use borrow.Author.Needs.{needs}
 use Rattle.operations.proofs.decide.decide_accepted.Statement.{statement}

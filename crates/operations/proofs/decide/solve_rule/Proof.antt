@@ -1,7 +1,7 @@
 -- `operations::decide::solve_rule` meets its contract. Assumes nothing.
 use native.Mathlib.Omega.{arith}
 use borrow.Author.Needs.{needs}
-use Rattle.strip.proofs.RuleLaws.{rule-accepted}
+use Rattle.rule_strip.proofs.RuleLaws.{rule-accepted}
 use Rattle.operations.proofs.Deciding.{rule-solvable, rule-solved, workspace-cleared}
 use Rattle.operations.proofs.Rooms.{room-shares}
 use Rattle.operations.proofs.decide.solve_rule.Statement.{statement}

@@ -2,7 +2,7 @@
 use mathlib.Core.Path.{sym, _∙_, subst}
 use Prim.Native.Nat.{ℕ}
 use native.Mathlib.Omega.{arith}
-use Rattle.strip.proofs.RuleLaws.{rule-accepted}
+use Rattle.rule_strip.proofs.RuleLaws.{rule-accepted}
 use Rattle.operations.specs.Judge.{Readable}
 use Rattle.operations.proofs.Judging.{check-readable, check-refused, ends-room, ends-tree, ends-other, room-known, ends-told}
 use borrow.Author.Needs.{needs}

@@ -1,0 +1,2 @@
+pub mod RuleChecks
+pub mod RuleLaws

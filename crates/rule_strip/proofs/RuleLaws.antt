@@ -1,0 +1,241 @@
+-- What an accepted rule strip gives: its head and its records. Assumes nothing.
+use mathlib.Core.Path.{_≡_, refl, sym, ap, _∙_}
+use mathlib.Core.Logic.{_↔_, _⊎_, ⊎-elim}
+use mathlib.Core.Bool.{Bool, true, false, _&&_, cond}
+use mathlib.Core.List.{List, [], _∷_}
+use Prim.Native.Nat.{ℕ, zero, suc, _+_, _-_, _*_, _/_, _%_, _^_, _≤_, _<_}
+use native.Mathlib.Decide.{decLt}
+use native.Mathlib.Nat.{not-suc-le-zero, le-of-suc-le-suc, lt-of-lt-of-le, le-mul-of-pos-right, mul-le-mul-right, mul-comm, mul-assoc, one-mul, pow-suc}
+use native.Mathlib.Omega.{arith}
+use lib.Dec.{T, ltb, leb, eqb, lt→ltb, ltb→lt, eqb→eq, eqb·suc-zero}
+use lib.ListN.{length, getD, take, drop, List·getD-eq-default}
+use lib.Pow.{pow-pos}
+use lib.Seq.{getD-drop}
+use borrow.Author.Tests.{lt-leb, leb-false, le-ltb}
+use Rattle.logic.specs.Rule.{Record, noRecord, good, goodFrom, Accepted}
+use Rattle.bits.specs.Bits.{bits, number, field, anySet}
+use Rattle.rule_strip.specs.RuleStrip.{variablesOf, countOf, recordAt, recordsFrom, recordsOf, ruleBytes, firstUse, secondUse, recordRefusal}
+use Rattle.rule_strip.specs.RuleStrip.{recordsRefusal, ruleRefusal, AcceptedRule}
+use Rattle.rule_strip.specs.RuleAnswers.{limitOf, fieldRefusal, headRefusal, checkedRule}
+use Rattle.rule_strip.specs.declared.Use.{Use}
+use Rattle.rule_strip.specs.declared.Use.the-variants.{Variable, Earlier, Unused}
+use Rattle.rule_strip.specs.declared.RuleCheck.the-variants.{Accepted as accepted, Refused as turnedDown}
+use Rattle.bits.proofs.Digits.{bit-lt}
+use Rattle.bits.proofs.Fields.{length-bits, bits-at}
+use Rattle.rule_strip.proofs.RuleChecks.{firstOf, record-split, zero-or, head-facts, bodyRefusal, rule-split}
+
+-- ---- one record
+
+-- what the refusals 7 to 10 leave: a known op, and each field below its limit (n for a variable, i for an earlier record, 1 if unused)
+pub record RecordFacts (n i : ℕ) (r : Record) : Type 0 where
+  pub known : r .op < 9
+  pub first-below : r .first < limitOf n i (firstUse (r .op))
+  pub second-below : r .second < limitOf n i (secondUse (r .op))
+
+-- a test that gives no refusal was not met
+passed : (t : Bool) (k x : ℕ) → cond t (suc k) x ≡ 0 → (t ≡ false) × (x ≡ 0)
+passed true k x e = absurd (omega arith)
+passed false k x e = (refl, e)
+
+first-passed : (k l : ℕ) → firstOf k l ≡ 0 → (k ≡ 0) × (l ≡ 0)
+first-passed zero l e = (refl, e)
+first-passed (suc k) l e = absurd (let f = rw eqb·suc-zero at e in omega arith)
+
+field-passed : (n i : ℕ) (u : Use) (v : ℕ) → fieldRefusal n i u v ≡ 0 → v < limitOf n i u
+field-passed n i Variable v e = leb-false n v (passed (leb n v) 7 0 e .0)
+field-passed n i Earlier v e = leb-false i v (passed (leb i v) 8 0 e .0)
+field-passed n i Unused v e = leb-false 1 v (passed (leb 1 v) 9 0 e .0)
+
+field-good : (n i : ℕ) (u : Use) (v : ℕ) → v < limitOf n i u → fieldRefusal n i u v ≡ 0
+field-good n i u v h = rw (lt-leb _ v h) refl
+
+pub record-facts : (n i : ℕ) (r : Record) → recordRefusal n i r ≡ 0 → RecordFacts n i r
+record-facts n i r e =
+    let w = passed (leb 9 (r .op)) 6 _ (sym (record-split n i (r .op) (r .first) (r .second)) ∙ e) in
+    let f = first-passed (fieldRefusal n i (firstUse (r .op)) (r .first)) (fieldRefusal n i (secondUse (r .op)) (r .second)) (w .1) in
+    record {
+      known = leb-false 9 (r .op) (w .0);
+      first-below = field-passed n i (firstUse (r .op)) (r .first) (f .0);
+      second-below = field-passed n i (secondUse (r .op)) (r .second) (f .1);
+    }
+
+pub record-unrefused : (n i : ℕ) (r : Record) → RecordFacts n i r → recordRefusal n i r ≡ 0
+record-unrefused n i r w =
+    record-split n i (r .op) (r .first) (r .second)
+    ∙ rw (lt-leb 9 (r .op) (w .known), field-good n i (firstUse (r .op)) (r .first) (w .first-below))
+    (field-good n i (secondUse (r .op)) (r .second) (w .second-below))
+
+-- logic's test of a field
+abbrev fits : ℕ → ℕ → Use → ℕ → Bool
+fits n i Variable v = ltb v n
+fits n i Earlier v = ltb v i
+fits n i Unused v = eqb v 0
+
+fits-below : (n i : ℕ) (u : Use) (v : ℕ) → T (fits n i u v) → v < limitOf n i u
+fits-below n i Variable v t = ltb→lt v n t
+fits-below n i Earlier v t = ltb→lt v i t
+fits-below n i Unused v t = let e = eqb→eq v 0 t in omega arith
+
+below-fits : (n i : ℕ) (u : Use) (v : ℕ) → v < limitOf n i u → T (fits n i u v)
+below-fits n i Variable v h = lt→ltb v n h
+below-fits n i Earlier v h = lt→ltb v i h
+below-fits n i Unused v h = let e : v ≡ 0 = omega arith in rw e tt
+
+both-of : (a b : Bool) → T (a && b) → T a × T b
+both-of true b t = (tt, t)
+both-of false b t = absurd t
+
+of-both : (a b : Bool) → T a → T b → T (a && b)
+of-both true b p q = q
+of-both false b p q = absurd p
+
+-- `good` asks for an op up to 8, and both fields to fit their uses
+good-is : (n i op a b : ℕ)
+    → good 2 n i (record { op = op; first = a; second = b }) ≡ (ltb op 9 && (fits n i (firstUse op) a && fits n i (secondUse op) b))
+unfolding good firstUse secondUse
+good-is n i zero a b = refl
+good-is n i (suc zero) a b = refl
+good-is n i (suc (suc zero)) a b = refl
+good-is n i (suc (suc (suc zero))) a b = refl
+good-is n i (suc (suc (suc (suc zero)))) a b = refl
+good-is n i (suc (suc (suc (suc (suc zero))))) a b = refl
+good-is n i (suc (suc (suc (suc (suc (suc zero)))))) a b = refl
+good-is n i (suc (suc (suc (suc (suc (suc (suc zero))))))) a b = refl
+good-is n i (suc (suc (suc (suc (suc (suc (suc (suc zero)))))))) a b = refl
+good-is n i (suc (suc (suc (suc (suc (suc (suc (suc (suc zero))))))))) a b = refl
+good-is n i (suc (suc (suc (suc (suc (suc (suc (suc (suc (suc op)))))))))) a b =
+    rw (le-ltb (suc (suc (suc (suc (suc (suc (suc (suc (suc (suc op)))))))))) 9 (omega arith)) refl
+
+abbrev one : ℕ → ℕ → Record → Bool
+one n i r = fits n i (firstUse (r .op)) (r .first)
+
+abbrev two : ℕ → ℕ → Record → Bool
+two n i r = fits n i (secondUse (r .op)) (r .second)
+
+-- the refusals 7 to 10 are what `good` asks
+pub good-iff : (n i : ℕ) (r : Record) → (recordRefusal n i r ≡ 0) ↔ T (good 2 n i r)
+good-iff n i r = (forth, back)
+  where
+    forth : recordRefusal n i r ≡ 0 → T (good 2 n i r)
+    forth e =
+        let w = record-facts n i r e in
+        let f = of-both (one n i r) (two n i r) (below-fits n i (firstUse (r .op)) (r .first) (w .first-below))
+        (below-fits n i (secondUse (r .op)) (r .second) (w .second-below)) in
+        rw (good-is n i (r .op) (r .first) (r .second)) (of-both (ltb (r .op) 9) (one n i r && two n i r) (lt→ltb (r .op) 9 (w .known)) f)
+
+    back : T (good 2 n i r) → recordRefusal n i r ≡ 0
+    back t =
+        let w = both-of (ltb (r .op) 9) (one n i r && two n i r) (rw (good-is n i (r .op) (r .first) (r .second)) at t) in
+        let v = both-of (one n i r) (two n i r) (w .1) in
+        record-unrefused n i r
+        (record {
+          known = ltb→lt (r .op) 9 (w .0);
+          first-below = fits-below n i (firstUse (r .op)) (r .first) (v .0);
+          second-below = fits-below n i (secondUse (r .op)) (r .second) (v .1);
+        })
+
+-- ---- all records
+
+records-good : (n i : ℕ) (rs : List Record) → recordsRefusal n i rs ≡ 0 → T (goodFrom 2 n i rs)
+unfolding recordsRefusal goodFrom
+records-good n i [] e = tt
+records-good n i (r ∷ rs) e =
+    let w = first-passed (recordRefusal n i r) (recordsRefusal n (suc i) rs) e in
+    of-both (good 2 n i r) _ (good-iff n i r .0 (w .0)) (records-good n (suc i) rs (w .1))
+
+records-length : (s : List ℕ) (at m : ℕ) → length (recordsFrom s at m) ≡ m
+unfolding recordsFrom
+records-length s at zero = refl
+records-length s at (suc m) = ap suc (records-length s (at + 18) m)
+
+from-at : (s : List ℕ) (at m i : ℕ) → i < m → getD (recordsFrom s at m) i noRecord ≡ recordAt s (at + 18 * i)
+unfolding recordsFrom
+from-at s at zero i h = absurd (not-suc-le-zero h)
+from-at s at (suc m) zero h = let e : at + 18 * 0 ≡ at = omega arith in rw e refl
+from-at s at (suc m) (suc i) h =
+    let e : at + 18 * suc i ≡ at + 18 + 18 * i = omega arith in
+    rw e (from-at s (at + 18) m i (le-of-suc-le-suc h))
+
+-- record i stands at bit place 16 + 18i
+pub records-at : (s : List ℕ) (i : ℕ) → i < countOf s → getD (recordsOf s) i noRecord ≡ recordAt s (16 + 18 * i)
+unfolding recordsOf
+records-at s i h = from-at s 16 (countOf s) i h
+
+-- ---- an accepted strip
+
+pub record RuleFacts (s : List ℕ) : Type 0 where
+  pub some-variable : 1 ≤ variablesOf s
+  pub few-variables : variablesOf s ≤ 8
+  pub some-record : 1 ≤ countOf s
+  pub few-records : countOf s ≤ 128
+  pub size : length s ≡ ruleBytes (countOf s)
+  pub records-accepted : Accepted 2 (variablesOf s) (recordsOf s)
+  pub records-count : length (recordsOf s) ≡ countOf s
+
+-- a field of b bits is below 2 ^ b
+number-below : (b n : ℕ) (l : List ℕ) → ((j : ℕ) → getD l j 0 < 2) → number n (take b l) < suc n * 2 ^ b
+number-below zero n l h = omega arith
+number-below (suc b) n [] h = le-mul-of-pos-right (suc n) (pow-pos (suc b))
+number-below (suc b) n (x ∷ l) h =
+    let f : suc n * 2 ^ suc b ≡ suc n * 2 * 2 ^ b = ap (λ (k : ℕ). suc n * k) (pow-suc 2 b ∙ mul-comm (2 ^ b) 2) ∙ sym (mul-assoc (suc n) 2 (2 ^ b)) in
+    let m : suc (n * 2 + x) ≤ suc n * 2 = (let g = h 0 in omega arith) in
+    rw f (lt-of-lt-of-le (number-below b (n * 2 + x) l (λ j. h (suc j))) (mul-le-mul-right (2 ^ b) m))
+
+bits-below : (s : List ℕ) (j : ℕ) → getD (bits s) j 0 < 2
+bits-below s j = elim (decLt j (8 * length s)) [
+  | yes h ↦
+      let e : 8 * (j / 8) + j % 8 ≡ j = omega arith in
+      rw (← e, bits-at s (j / 8) (j % 8) (omega arith) (omega arith)) (bit-lt (7 - j % 8) (getD s (j / 8) 0))
+  | no h ↦ rw (List·getD-eq-default (bits s) 0 {n = j} (let l = length-bits s in omega arith)) (omega arith)
+]
+
+pub field-below : (s : List ℕ) (at b : ℕ) → field s at b < 2 ^ b
+field-below s at b =
+    rw one-mul at (number-below b 0 (drop at (bits s)) (λ j. rw getD-drop (bits-below s (at + j))))
+
+-- the widths of an op and of the fields
+pub widths-at : (s : List ℕ) (at : ℕ) → (recordAt s at .op < 16) × (recordAt s at .first < 128) × (recordAt s at .second < 128)
+unfolding recordAt
+widths-at s at = (field-below s at 4, field-below s (at + 4) 7, field-below s (at + 11) 7)
+
+module _ (s : List ℕ) (e : ruleRefusal s ≡ 0) where
+  parts : (headRefusal s ≡ 0) × (bodyRefusal s ≡ 0)
+  parts = first-passed (headRefusal s) (bodyRefusal s) (sym (rule-split s) ∙ e)
+
+  unrefused : recordsRefusal (variablesOf s) 0 (recordsOf s) ≡ 0
+  unrefused = passed (anySet (drop (16 + 18 * countOf s) (bits s))) 5 _ (parts .1) .1
+
+  records-count : length (recordsOf s) ≡ countOf s
+  unfolding recordsOf
+  records-count = records-length s 16 (countOf s)
+
+  pub rule-accepted : RuleFacts s
+  rule-accepted =
+      let h = head-facts s (parts .0) in
+      let l = records-count in
+      record {
+        some-variable = h .some;
+        few-variables = h .few;
+        some-record = h .records;
+        few-records = h .bound;
+        size = h .size;
+        records-accepted = (omega arith, records-good (variablesOf s) 0 (recordsOf s) unrefused);
+        records-count = l;
+      }
+
+-- ---- what the check's answer says
+module _ (s : List ℕ) where
+  checked-or : ((ruleRefusal s ≡ 0) × (checkedRule s ≡ accepted (variablesOf s) (countOf s)))
+      ⊎ ((ruleRefusal s ≡ 0 → ⊥) × (checkedRule s ≡ turnedDown (ruleRefusal s)))
+  unfolding checkedRule
+  checked-or = zero-or (ruleRefusal s) (accepted (variablesOf s) (countOf s)) (turnedDown (ruleRefusal s))
+
+  pub checked-accepted : (n m : ℕ) → checkedRule s ≡ accepted n m → AcceptedRule s n m
+  checked-accepted n m e =
+      ⊎-elim (λ w. let f = sym e ∙ w .1 in record { unrefused = w .0; variables = cc; count = cc })
+      (λ w. let f = sym e ∙ w .1 in absurd (let z : _≡_ {A = ℕ} 0 1 = cc in omega arith)) checked-or
+
+  pub checked-refused : (k : ℕ) → checkedRule s ≡ turnedDown k → (ruleRefusal s ≡ k) × (k ≡ 0 → ⊥)
+  checked-refused k e =
+      ⊎-elim (λ w. let f = sym e ∙ w .1 in absurd (let z : _≡_ {A = ℕ} 0 1 = cc in omega arith))
+      (λ w. let f = sym e ∙ w .1 in let g : ruleRefusal s ≡ k = cc in (g, λ z. w .0 (g ∙ z))) checked-or

@@ -1,0 +1,2 @@
+pub mod RuleAnswers
+pub mod RuleStrip

@@ -1,6 +1,0 @@
-pub mod Bits
-pub mod RuleAnswers
-pub mod RuleStrip
-pub mod TreeStrip
-pub mod TreeAnswers
-pub mod Ranks

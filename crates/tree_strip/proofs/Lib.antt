@@ -1,0 +1,9 @@
+pub mod TreeBits
+pub mod TreeParse
+pub mod TreeHead
+pub mod TreeEnd
+pub mod TreePack
+pub mod TreeLaws
+pub mod TreeWalk
+pub mod Ranks
+pub mod TreeWriting

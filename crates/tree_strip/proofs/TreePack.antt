@@ -1,0 +1,122 @@
+-- Bits packed into bytes: packing is unpacked by `bits`, up to padding, and nothing else packs to the same. Assumes nothing.
+use Prim.Native.Nat.{ℕ, zero, suc, _+_, _-_, _*_, _^_, _≤_, _<_}
+use mathlib.Core.Path.{_≡_, refl, sym, ap, ap₂, _∙_}
+use mathlib.Core.Bool.{Bool, true, false}
+use mathlib.Core.List.{List, [], _∷_, _++_, append-assoc, append-nil}
+use native.Mathlib.Nat.{not-suc-le-zero, le-of-suc-le-suc, pow-suc, mul-one, mul-assoc, mul-comm}
+use native.Mathlib.Omega.{arith}
+use borrow.Author.Tests.{ltb-true, ltb-false}
+use lib.Dec.{ltb, lit<}
+use lib.ListN.{length, getD, take, drop, replicate, length-append, length-drop, length-replicate, take-append-drop}
+use lib.Seq.{length-take-le, take-append-le, drop-append-le, take-at, drop-at}
+use Rattle.bits.specs.Bits.{digits, bits, number, pack}
+use Rattle.bits.proofs.Fields.{length-digits, length-bits}
+use Rattle.tree_strip.proofs.TreeBits.{AreBits, bits-append, bits-drop, bits-take, number-of, digits-number}
+
+-- ---- the first byte, and the rest
+number-zeros : (a d : ℕ) → number a (replicate d 0) ≡ a * 2 ^ d
+number-zeros a zero = sym (mul-one a)
+number-zeros a (suc d) =
+    let e : a * 2 + 0 ≡ a * 2 = omega arith in
+    number-zeros (a * 2 + 0) d ∙ ap (λ (k : ℕ). k * 2 ^ d) e ∙ mul-assoc a 2 (2 ^ d) ∙ ap (λ (k : ℕ). a * k) (mul-comm 2 (2 ^ d) ∙ sym (pow-suc 2 d))
+
+pack-more : (a d : ℕ) (bs : List ℕ) → d < length bs → pack a d bs ≡ number a (take d bs) ∷ pack 0 8 (drop d bs)
+unfolding pack
+pack-more a d [] h = absurd (not-suc-le-zero h)
+pack-more a zero (b ∷ bs) h = let e : b ≡ 0 * 2 + b = omega arith in ap (λ (k : ℕ). a ∷ pack k 7 bs) e
+pack-more a (suc d) (b ∷ bs) h = pack-more (a * 2 + b) d bs (le-of-suc-le-suc h)
+
+pack-last : (a d : ℕ) (bs : List ℕ) → length bs ≤ d → pack a d bs ≡ number a (bs ++ replicate (d - length bs) 0) ∷ []
+unfolding pack
+pack-last a zero [] h = refl
+pack-last a zero (b ∷ bs) h = absurd (not-suc-le-zero h)
+pack-last a (suc d) [] h = let e : suc d - 0 ≡ suc d = omega arith in rw e (ap (λ (x : ℕ). x ∷ []) (sym (number-zeros a (suc d))))
+pack-last a (suc d) (b ∷ bs) h = let e : suc d - suc (length bs) ≡ d - length bs = omega arith in rw e (pack-last (a * 2 + b) d bs (le-of-suc-le-suc h))
+
+zeros-bits : (z : ℕ) → AreBits (replicate z 0)
+zeros-bits zero k = lit< tt
+zeros-bits (suc z) zero = lit< tt
+zeros-bits (suc z) (suc k) = zeros-bits z k
+
+eight : (l : List ℕ) → length l ≡ 8 → AreBits l → digits 8 (number 0 l) ≡ l
+eight l e a = ap (λ (k : ℕ). digits k (number 0 l)) (sym e) ∙ digits-number 0 l a
+
+-- ---- "then zero bits to a whole byte"
+abbrev pub Padded : List ℕ → List ℕ → Type 0
+Padded s bs = (z : ℕ) × (z < 8) × (bits s ≡ bs ++ replicate z 0)
+
+last-bits : (bs : List ℕ) → 0 < length bs → length bs ≤ 8 → AreBits bs → Padded (pack 0 8 bs) bs
+unfolding bits
+last-bits bs h l a =
+    let w = bs ++ replicate (8 - length bs) 0 in
+    let e : length w ≡ 8 = length-append bs (replicate (8 - length bs) 0) ∙ ap (λ (k : ℕ). length bs + k) (length-replicate (8 - length bs) 0)
+    ∙ omega arith in (
+      8 - length bs,
+      omega arith,
+      ap bits (pack-last 0 8 bs l) ∙ append-nil (digits 8 (number 0 w))
+          ∙ eight w e (bits-append bs (replicate (8 - length bs) 0) a (zeros-bits (8 - length bs))),
+    )
+
+more-bits : (bs : List ℕ) → 8 < length bs → AreBits bs → Padded (pack 0 8 (drop 8 bs)) (drop 8 bs) → Padded (pack 0 8 bs) bs
+unfolding bits
+more-bits bs h a p = (
+  p .0,
+  p .1,
+  ap bits (pack-more 0 8 bs h)
+      ∙ ap₂ (λ (k l : List ℕ). k ++ l) (eight (take 8 bs) (length-take-le 8 bs (omega arith)) (bits-take 8 bs a)) (p .2)
+      ∙ sym (append-assoc (take 8 bs) (drop 8 bs) (replicate (p .0) 0)) ∙ ap (λ (l : List ℕ). l ++ replicate (p .0) 0) (take-append-drop 8 bs),
+)
+
+-- d: at least the number of bits
+bits-of : (d : ℕ) (bs : List ℕ) → length bs ≤ d → 0 < length bs → AreBits bs → Padded (pack 0 8 bs) bs
+bits-of zero bs l h a = absurd (omega arith)
+bits-of (suc d) bs l h a = go (ltb 8 (length bs)) refl (λ i j. bits-of d (drop 8 bs) i j (bits-drop 8 bs a))
+  where
+    go : (v : Bool) → ltb 8 (length bs) ≡ v → (length (drop 8 bs) ≤ d → 0 < length (drop 8 bs) → Padded (pack 0 8 (drop 8 bs)) (drop 8 bs))
+        → Padded (pack 0 8 bs) bs
+    go true e k = let i = ltb-true 8 (length bs) e in let j = length-drop 8 bs in more-bits bs i a (k (omega arith) (omega arith))
+    go false e k = last-bits bs h (ltb-false 8 (length bs) e) a
+
+pub pack-bits : (bs : List ℕ) → 0 < length bs → AreBits bs → Padded (pack 0 8 bs) bs
+pack-bits bs h a = bits-of (length bs) bs (omega arith) h a
+
+-- ---- bytes that hold some bits and padding are those bits, packed
+none : (s : List ℕ) → length s ≡ 0 → s ≡ []
+none [] e = refl
+none (x ∷ s) e = absurd (omega arith)
+
+module _ (x : ℕ) (s bs : List ℕ) (z : ℕ) (e : digits 8 x ++ bits s ≡ bs ++ replicate z 0) where
+  all : 8 + 8 * length s ≡ length bs + z
+  all =
+      let a = ap length e in
+      let b = length-append (digits 8 x) (bits s) in
+      let c = length-append bs (replicate z 0) in
+      omega (arith, length-digits 8 x, length-bits s, length-replicate {A = ℕ} z 0)
+
+  first-byte : 8 < length bs → (digits 8 x ≡ take 8 bs) × (bits s ≡ drop 8 bs ++ replicate z 0)
+  first-byte h = (
+    sym (take-at (digits 8 x) (bits s) 8 (length-digits 8 x)) ∙ ap (take 8) e ∙ take-append-le 8 bs (replicate z 0) (omega arith),
+    sym (drop-at (digits 8 x) (bits s) 8 (length-digits 8 x)) ∙ ap (drop 8) e ∙ drop-append-le 8 bs (replicate z 0) (omega arith),
+  )
+
+  last-byte : length bs ≤ 8 → z < 8 → x < 256 → x ∷ s ≡ pack 0 8 bs
+  unfolding bits
+  last-byte h l g =
+      let n = none s (let a = all in omega arith) in
+      let f : z ≡ 8 - length bs = (let a = all in let b = ap length n in omega arith) in
+      let d : digits 8 x ≡ bs ++ replicate (8 - length bs) 0 =
+      sym (append-nil (digits 8 x)) ∙ ap (λ (r : List ℕ). digits 8 x ++ bits r) (sym n) ∙ e ∙ ap (λ (k : ℕ). bs ++ replicate k 0) f in
+      ap (λ (r : List ℕ). x ∷ r) n ∙ ap (λ (k : ℕ). k ∷ []) (sym (number-of 8 x g) ∙ ap (number 0) d) ∙ sym (pack-last 0 8 bs h)
+
+pub strip-of-bits : (s bs : List ℕ) (z : ℕ) → ((i : ℕ) → getD s i 0 < 256) → bits s ≡ bs ++ replicate z 0 → z < 8 → 0 < length bs → s ≡ pack 0 8 bs
+unfolding bits
+strip-of-bits [] bs z g e h l = let k = ap length e ∙ length-append bs (replicate z 0) in absurd (omega arith)
+strip-of-bits (x ∷ s) bs z g e h l = go (ltb 8 (length bs)) refl (λ i j. strip-of-bits s (drop 8 bs) z (λ k. g (suc k)) i h j)
+  where
+    go : (v : Bool) → ltb 8 (length bs) ≡ v → (bits s ≡ drop 8 bs ++ replicate z 0 → 0 < length (drop 8 bs) → s ≡ pack 0 8 (drop 8 bs)) → x ∷ s ≡ pack 0 8 bs
+    go true f k =
+        let i = ltb-true 8 (length bs) f in
+        let p = first-byte x s bs z e i in
+        let j = length-drop 8 bs in
+        ap₂ (λ (b : ℕ) (r : List ℕ). b ∷ r) (sym (number-of 8 x (g 0)) ∙ ap (number 0) (p .0)) (k (p .1) (omega arith)) ∙ sym (pack-more 0 8 bs i)
+    go false f k = last-byte x s bs z e (ltb-false 8 (length bs) f) h (g 0)

@@ -1,0 +1,3 @@
+pub mod TreeStrip
+pub mod TreeAnswers
+pub mod Ranks

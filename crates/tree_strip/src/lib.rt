@@ -1,0 +1,3 @@
+// Tree strips: document 01, "Strips" and "Check a tree strip".
+pub mod check; // read and checked
+pub mod write; // written from a tree's labels and ranks
