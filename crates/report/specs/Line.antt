@@ -3,8 +3,8 @@ use Prim.Native.Nat.{ℕ, _+_}
 use mathlib.Core.List.{List, [], _∷_, _++_}
 use lib.ListN.{take}
 use Rattle.report.specs.Text.{decimal, hex}
-use Rattle.operations.specs.declared.decide.Verdict.{Verdict}
-use Rattle.operations.specs.declared.decide.Verdict.the-variants.{Shown, None, Larger, Refused, TooManyStates}
+use Rattle.decide.specs.declared.Verdict.{Verdict}
+use Rattle.decide.specs.declared.Verdict.the-variants.{Shown, None, Larger, Refused, TooManyStates}
 
 -- `shown `
 abbrev pub shownWord : List ℕ

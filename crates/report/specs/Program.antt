@@ -4,7 +4,7 @@ use mathlib.Core.Path.{_≡_}
 use mathlib.Core.List.{List}
 use lib.ListN.{length, take, replicate}
 use Rattle.tree_strip.specs.TreeStrip.{treeBytes}
-use Rattle.operations.specs.Decide.{verdictOf, outOf}
+use Rattle.decide.specs.Decide.{verdictOf, outOf}
 use Rattle.report.specs.Line.{lineOf}
 use Rattle.report.specs.declared.program.Output.{Output}
 

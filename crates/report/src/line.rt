@@ -7,7 +7,7 @@ ghost use Rattle.report.specs.Line.{counted, shownLine, lineOf, lineEnd}
 use crate::text::put_bytes;
 use crate::text::put_decimal;
 use crate::text::put_hex;
-use operations::decide::Verdict;
+use decide::Verdict;
 
 // A word with a number after it.
 fn put_counted(line: &mut [u8], at: usize, word: &[u8], n: u64) -> usize

@@ -5,7 +5,7 @@ ghost use lib.ListN.{length};
 ghost use Rattle.report.specs.Text.{Put};
 ghost use Rattle.report.specs.Line.{lineOf};
 ghost use Rattle.report.specs.Program.{ruleIn, Printed};
-ghost use Rattle.operations.specs.Decide.{verdictOf, outOf};
+ghost use Rattle.decide.specs.Decide.{verdictOf, outOf};
 
 // What the program prints: the first `count` bytes.
 pub struct Output {
@@ -31,7 +31,7 @@ fn respond(rule: &[u8], ws: &mut [u8], out: &mut [u8], line: &mut [u8]) -> usize
         (lineOf (verdictOf (now (rule .entry)) 16 60 (length (now (ws .entry))) (length (now (out .entry))))
         (outOf (now (rule .entry)) 16 60 (length (now (ws .entry))) (now (out .entry)))) r (now (line .exit)) ⌝ }
 {
-    let v = operations::decide::decide(rule, 16, 60, ws, out);
+    let v = decide::decide(rule, 16, 60, ws, out);
     crate::line::write_line(v, out, line)
 }
 

@@ -15,10 +15,10 @@ use Rattle.logic.specs.Decide.{report, conclude, decideOf}
 use Rattle.bits.specs.Bits.{digits, bits, anySet, pack}
 use Rattle.rule_strip.specs.RuleStrip.{variablesOf, recordAt, recordsFrom, recordsOf, firstUse, secondUse, recordRefusal, recordsRefusal, ruleRefusal}
 use Rattle.tree_strip.specs.TreeStrip.{treeBits, treeStrip}
-use Rattle.operations.specs.Room.{roomRefusal}
-use Rattle.operations.specs.Decide.{earlyRefusal, tell, outAfter, verdictOf, outOf}
-use Rattle.operations.specs.declared.decide.Verdict.{Verdict}
-use Rattle.operations.specs.declared.decide.Verdict.the-variants.{Shown, None, Larger, Refused, TooManyStates}
+use Rattle.rules.specs.Room.{roomRefusal}
+use Rattle.decide.specs.Decide.{earlyRefusal, tell, outAfter, verdictOf, outOf}
+use Rattle.decide.specs.declared.Verdict.{Verdict}
+use Rattle.decide.specs.declared.Verdict.the-variants.{Shown, None, Larger, Refused, TooManyStates}
 
 -- what decide is asked: a rule strip and both ceilings
 pub record Question : Type 0 where

@@ -7,12 +7,12 @@ use Rattle.rule_strip.specs.declared.RuleCheck.{RuleCheck}
 use Rattle.rule_strip.specs.declared.RuleCheck.the-variants as rule
 use Rattle.tree_strip.specs.declared.check.TreeCheck.{TreeCheck}
 use Rattle.tree_strip.specs.declared.check.TreeCheck.the-variants as tree
-use Rattle.operations.specs.declared.judge.Judgement.{Judgement}
-use Rattle.operations.specs.declared.judge.Judgement.the-variants as judgement
-use Rattle.operations.specs.declared.decide.Verdict.{Verdict}
-use Rattle.operations.specs.declared.decide.Verdict.the-variants as verdict
-use Rattle.operations.specs.Judge.{JudgeClaim}
-use Rattle.operations.specs.Decide.{Claim}
+use Rattle.judge.specs.declared.Judgement.{Judgement}
+use Rattle.judge.specs.declared.Judgement.the-variants as judgement
+use Rattle.decide.specs.declared.Verdict.{Verdict}
+use Rattle.decide.specs.declared.Verdict.the-variants as verdict
+use Rattle.judge.specs.Judge.{JudgeClaim}
+use Rattle.decide.specs.Decide.{Claim}
 use Rattle.ws2s.specs.declared.exports.RuleNumbers.{RuleNumbers}
 use Rattle.ws2s.specs.declared.exports.TreeNumbers.{TreeNumbers}
 use Rattle.ws2s.specs.declared.exports.JudgementNumbers.{JudgementNumbers}

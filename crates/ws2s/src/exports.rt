@@ -3,11 +3,11 @@ ghost use mathlib.Core.Path.{_≡_};
 ghost use lib.ListN.{length};
 ghost use Rattle.rule_strip.specs.RuleAnswers.{checkedRule};
 ghost use Rattle.tree_strip.specs.TreeAnswers.{checkedTree};
-ghost use Rattle.operations.specs.Decide.{verdictOf, workspaceOf, outOf};
-ghost use Rattle.operations.specs.Judge.{judgementFor, workspaceFor};
+ghost use Rattle.decide.specs.Decide.{verdictOf, workspaceOf, outOf};
+ghost use Rattle.judge.specs.Judge.{judgementFor, workspaceFor};
 ghost use Rattle.ws2s.specs.Numbers.{ruleNumbers, treeNumbers, judgementNumbers, verdictNumbers, JudgedInNumbers, DecidedInNumbers};
-use operations::decide::Verdict;
-use operations::judge::Judgement;
+use decide::Verdict;
+use judge::Judgement;
 use rule_strip::RuleCheck;
 use tree_strip::check::TreeCheck;
 
@@ -173,7 +173,7 @@ pub extern "C" fn ws2s_judge(
     ensures { λ _. ⌜ now (workspace .exit) ≡ workspaceFor (now (rule .entry)) c (now (workspace .entry)) (now (tree .entry)) ⌝ }
     ensures { λ r. ⌜ JudgedInNumbers (now (rule .entry)) c (length (now (workspace .entry))) (now (tree .entry)) r ⌝ }
 {
-    judgement_numbers(operations::judge::judge(rule, c, workspace, tree))
+    judgement_numbers(judge::judge(rule, c, workspace, tree))
 }
 
 // Decide a rule, with the state ceiling c and the place ceiling p.
@@ -190,5 +190,5 @@ pub extern "C" fn ws2s_decide(
     ensures { λ _. ⌜ now (out .exit) ≡ outOf (now (rule .entry)) c p (length (now (workspace .entry))) (now (out .entry)) ⌝ }
     ensures { λ r. ⌜ DecidedInNumbers (now (rule .entry)) c p (length (now (workspace .entry))) (length (now (out .entry))) r (now (out .exit)) ⌝ }
 {
-    verdict_numbers(operations::decide::decide(rule, c, p, workspace, out))
+    verdict_numbers(decide::decide(rule, c, p, workspace, out))
 }

@@ -1,0 +1,67 @@
+-- Decide, on bytes: document 01, "Decide", and demands 2 and 3. Assumes nothing.
+use Prim.Native.Nat.{ℕ, _+_, _≤_}
+use mathlib.Core.Path.{_≡_}
+use mathlib.Core.List.{List, _++_}
+use mathlib.Core.Bool.{cond}
+use lib.Dec.{eqb}
+use lib.ListN.{length, take, drop}
+use Rattle.logic.specs.Rule.{lastOf}
+use Rattle.logic.specs.Tree.{Tree, positions}
+use Rattle.logic.specs.Claims.{Outcome, refused14, shown, none, larger, statesAt, Answers}
+use Rattle.logic.specs.Decide.{decideOf}
+use Rattle.rule_strip.specs.RuleStrip.{variablesOf, countOf, recordsOf, ruleRefusal}
+use Rattle.tree_strip.specs.TreeStrip.{treeStrip, treeBytes}
+use Rattle.rules.specs.Room.{roomFor, cleared, roomRefusal}
+use Rattle.decide.specs.declared.Verdict.{Verdict}
+use Rattle.decide.specs.declared.Verdict.the-variants.{Shown, None, Larger, Refused, TooManyStates}
+
+-- the refusals tested before any machine is built: 1 to 10, then 11 to 13; else 0
+unfoldable pub earlyRefusal : List ℕ → ℕ → ℕ → ℕ → ℕ → ℕ
+earlyRefusal rule c P room outRoom =
+    cond (eqb (ruleRefusal rule) 0) (roomRefusal (variablesOf rule) (countOf rule) c P room outRoom) (ruleRefusal rule)
+
+-- this paper's answers for the outcome of a rule over n variables
+unfoldable pub tell : ℕ → Outcome 2 → Verdict
+tell n (refused14 r) = TooManyStates r
+tell n (shown places states t) = Shown places states (length (treeStrip n t))
+tell n (none states) = None states
+tell n (larger states) = Larger states
+
+-- "Only shown writes to out": the tree's strip at the front
+unfoldable pub outAfter : ℕ → Outcome 2 → List ℕ → List ℕ
+outAfter n (refused14 r) out = out
+outAfter n (shown places states t) out = treeStrip n t ++ drop (length (treeStrip n t)) out
+outAfter n (none states) out = out
+outAfter n (larger states) out = out
+
+abbrev pub decidedOf : List ℕ → ℕ → ℕ → Outcome 2
+decidedOf rule c P = decideOf 2 (variablesOf rule) (recordsOf rule) c P
+
+-- the tree that is shown has room in a buffer of this length
+abbrev pub Spacious : ℕ → Outcome 2 → ℕ → Type 0
+Spacious n o space = (places states : ℕ) (t : Tree 2) → o ≡ shown places states t → (positions t ≤ 255) × (treeBytes n (positions t) ≤ space)
+
+-- decide's result
+unfoldable pub verdictOf : List ℕ → ℕ → ℕ → ℕ → ℕ → Verdict
+verdictOf rule c P room outRoom =
+    cond (eqb (earlyRefusal rule c P room outRoom) 0) (tell (variablesOf rule) (decidedOf rule c P)) (Refused (earlyRefusal rule c P room outRoom))
+
+-- out at the end
+unfoldable pub outOf : List ℕ → ℕ → ℕ → ℕ → List ℕ → List ℕ
+outOf rule c P room out =
+    cond (eqb (earlyRefusal rule c P room (length out)) 0) (outAfter (variablesOf rule) (decidedOf rule c P) out) out
+
+-- the workspace at the end
+unfoldable pub workspaceOf : List ℕ → ℕ → ℕ → List ℕ → ℕ → List ℕ
+workspaceOf rule c P ws outRoom =
+    cond (eqb (earlyRefusal rule c P (length ws) outRoom) 0) (cleared (roomFor (variablesOf rule) (countOf rule) c) ws) ws
+
+-- DEMANDS 2 AND 3, of decide's result v and the bytes that out holds at the end: where no refusal before the build applies, they tell an
+-- outcome that answers the rule
+pub record Claim (rule : List ℕ) (c P room outRoom : ℕ) (v : Verdict) (out : List ℕ) : Type 0 where
+  pub outcome : earlyRefusal rule c P room outRoom ≡ 0 → Outcome 2
+  pub answers : (e : earlyRefusal rule c P room outRoom ≡ 0)
+      → Answers (variablesOf rule) (recordsOf rule) c P (statesAt 2 (variablesOf rule) (recordsOf rule) (lastOf (recordsOf rule))) (outcome e)
+  pub told : (e : earlyRefusal rule c P room outRoom ≡ 0) → v ≡ tell (variablesOf rule) (outcome e)
+  pub shows : (e : earlyRefusal rule c P room outRoom ≡ 0) → (places states : ℕ) (t : Tree 2) → outcome e ≡ shown places states t
+      → take (length (treeStrip (variablesOf rule) t)) out ≡ treeStrip (variablesOf rule) t

@@ -1,0 +1,81 @@
+-- Judge, on bytes: document 01, "Judge", and demand 2's last sentence. Assumes nothing.
+use Prim.Native.Nat.{ℕ}
+use mathlib.Core.Path.{_≡_}
+use mathlib.Core.List.{List}
+use mathlib.Core.Bool.{cond}
+use lib.Dec.{eqb}
+use lib.ListN.{length}
+use Rattle.logic.specs.Meaning.{Assignment}
+use Rattle.logic.specs.Tree.{Tree, empty, TreeOf}
+use Rattle.logic.specs.Claims.{Judgement as Ruled, unbuilt, yes, no, Judges}
+use Rattle.logic.specs.Decide.{judgeOf}
+use Rattle.bits.specs.Bits.{field}
+use Rattle.rule_strip.specs.RuleStrip.{variablesOf, countOf, recordsOf, ruleRefusal}
+use Rattle.tree_strip.specs.TreeStrip.{Parsed, parsed, refused, readTree}
+use Rattle.rules.specs.Room.{roomFor, cleared, workRefusal}
+use Rattle.judge.specs.declared.Judgement.{Judgement}
+use Rattle.judge.specs.declared.Judgement.the-variants.{No, Yes, Refused, TooManyStates}
+
+-- "15 to 21 in that operation's order"; else 0
+abbrev pub refusalIn : Parsed → ℕ
+refusalIn (parsed t met rest) = 0
+refusalIn (refused r) = r
+
+unfoldable pub treeRefusal : List ℕ → ℕ
+treeRefusal tree = refusalIn (readTree tree)
+
+-- the tree of an accepted strip
+abbrev pub treeIn : Parsed → Tree 2
+treeIn (parsed t met rest) = t
+treeIn (refused r) = empty
+
+-- the strip holds a tree over n variables
+pub record Readable (strip : List ℕ) (n : ℕ) : Type 0 where
+  pub tree : Tree 2
+  pub met : ℕ
+  pub rest : List ℕ
+  pub read : readTree strip ≡ parsed tree met rest
+  pub variables : field strip 4 4 ≡ n
+
+-- "In order: 1 to 10; 11 for c alone; 12; 15 to 21 in that operation's order; 22 the two n differ"; else 0
+unfoldable pub lateRefusal : List ℕ → ℕ → ℕ
+lateRefusal tree n = cond (eqb (treeRefusal tree) 0) (cond (eqb (field tree 4 4) n) 0 22) (treeRefusal tree)
+
+unfoldable pub refusalBefore : List ℕ → ℕ → ℕ → List ℕ → ℕ
+refusalBefore rule c room tree =
+    cond (eqb (ruleRefusal rule) 0)
+    (cond (eqb (workRefusal (variablesOf rule) (countOf rule) c room) 0) (lateRefusal tree (variablesOf rule))
+    (workRefusal (variablesOf rule) (countOf rule) c room))
+    (ruleRefusal rule)
+
+-- this paper's answers: "14. Otherwise yes or no"
+abbrev pub tell : Ruled → Judgement
+tell (unbuilt r) = TooManyStates r
+tell yes = Yes
+tell no = No
+
+unfoldable pub judgedOf : List ℕ → ℕ → List ℕ → Ruled
+judgedOf rule c tree = judgeOf (variablesOf rule) (recordsOf rule) c (treeIn (readTree tree))
+
+-- judge's result
+unfoldable pub judgementFor : List ℕ → ℕ → ℕ → List ℕ → Judgement
+judgementFor rule c room tree = cond (eqb (refusalBefore rule c room tree) 0) (tell (judgedOf rule c tree)) (Refused (refusalBefore rule c room tree))
+
+-- the workspace at the end
+unfoldable pub workspaceFor : List ℕ → ℕ → List ℕ → List ℕ → List ℕ
+workspaceFor rule c ws tree = cond (eqb (refusalBefore rule c (length ws) tree) 0) (cleared (roomFor (variablesOf rule) (countOf rule) c) ws) ws
+
+-- the strip holds the tree of an assignment, and v tells a judgement of the tree
+pub record JudgedTree (rule : List ℕ) (c : ℕ) (strip : List ℕ) (v : Judgement) : Type 0 where
+  pub tree : Tree 2
+  pub met : ℕ
+  pub rest : List ℕ
+  pub read : readTree strip ≡ parsed tree met rest
+  pub assigned : (A : Assignment 2) × TreeOf (variablesOf rule) A tree
+  pub judgement : Ruled
+  pub judges : Judges (variablesOf rule) (recordsOf rule) c tree judgement
+  pub told : v ≡ tell judgement
+
+-- "For a tree I hand in, yes or no agrees with the same meaning", where no refusal before the build applies
+pub record JudgeClaim (rule : List ℕ) (c room : ℕ) (strip : List ℕ) (v : Judgement) : Type 0 where
+  pub judged : refusalBefore rule c room strip ≡ 0 → JudgedTree rule c strip v

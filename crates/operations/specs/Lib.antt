@@ -1,4 +1,0 @@
-pub mod Room
-pub mod Decoding
-pub mod Decide
-pub mod Judge

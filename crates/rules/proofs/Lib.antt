@@ -1,0 +1,3 @@
+pub mod Rooms
+pub mod Decodes
+pub mod Rules
