@@ -6,11 +6,11 @@ ghost use Rattle.solver.specs.Solve.{outcomeOf, Ranked};
 ghost use Rattle.rule_strip.specs.RuleStrip.{AcceptedRule};
 ghost use Rattle.rules.specs.Room.{roomFor, cleared, roomRefusal, Roomy};
 ghost use Rattle.decide.specs.Decide.{decidedOf, tell, outAfter, Spacious, verdictOf, workspaceOf, outOf, Claim};
-use rules::decode::decode;
 use records::Ending;
+use rule_strip::RuleCheck;
+use rules::decode::decode;
 use search::Finding;
 use solver::Solution;
-use rule_strip::RuleCheck;
 
 // Decide's answer: the tree shown in out, with its positions, the states of the last record and the strip's length; none or
 // larger, with the states; a refusal's number; or refusal 14, with the record's number.

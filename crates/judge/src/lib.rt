@@ -5,10 +5,10 @@ ghost use Rattle.solver.specs.Solve.{judgementOf};
 ghost use Rattle.rule_strip.specs.RuleStrip.{AcceptedRule};
 ghost use Rattle.rules.specs.Room.{roomFor, cleared, Roomy};
 ghost use Rattle.judge.specs.Judge.{Readable, judgedOf, tell, judgementFor, workspaceFor, JudgeClaim};
-use rules::decode::decode;
 use records::Ending;
-use solver::Ruling;
 use rule_strip::RuleCheck;
+use rules::decode::decode;
+use solver::Ruling;
 use tree_strip::check::TreeCheck;
 
 // Judge's answer: no or yes; a refusal's number; or refusal 14, with the record's number.

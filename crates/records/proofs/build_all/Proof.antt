@@ -1,7 +1,7 @@
 -- `build_all` meets its contract. The invariant: the machines of the first r records are stored, and nothing after all shares is changed.
 -- Assumes nothing.
-use Rattle.words.proofs.Vocabulary.{ℕ, _≤_, _+_, _-_, _*_, _≡_, _∙_, refl, sym, subst, List, needs, length, getD, drop, arith}
-use Rattle.records.specs.Rule.{Fits, Wide, noDecoded, noMach}
+use Rattle.words.proofs.Vocabulary.{ℕ, _≤_, _<_, _+_, _-_, _≡_, _∙_, refl, sym, subst, List, needs, length, getD, drop, arith}
+use Rattle.records.specs.Rule.{Fits, Wide, Added, entryOf, noDecoded, noMach}
 use Rattle.records.specs.declared.Ending.{Ending}
 use Rattle.records.specs.declared.Ending.the-variants.{Over, Ready}
 use Rattle.records.specs.declared.Machines.{Machines}
@@ -57,84 +57,63 @@ build-next-requires c κs =
           (getD (w .machines) (x .first) noMach, getD (w .machines) (x .second) noMach, parts-ready w (e .fits)),
     )
 
-same-length : tie.Need-same-length Inv-loop μ-loop
-same-length c =
-    let n = c .before .before .before .before .before .before .before .before .before .before .before .before .before .before .before .before .before in
-    c .before .before .before .before .build-next .kept .0 ∙ n .before .loop .inv .long
+-- where the turn in which a record was tried begins
+abbrev turn-of : tie.After-build-next Inv-loop μ-loop → tie.In-loop Inv-loop μ-loop
+turn-of c = c .before .before .before .before .before .before .before .before .before .before .before .before .before
+
+-- the record's number
+number : (n : tie.In-loop Inv-loop μ-loop) → (n .before .loop .r < n .before .before .before .args .m) × (n .before .loop .r < 128)
+number n = (n .loop-test .taken, omega (arith, n .loop-test .taken, n .before .before .before .pre .0))
+
+-- what trying to build it gives: its machine is added or has too many states, and nothing after all shares is changed
+tried : (c : tie.After-build-next Inv-loop μ-loop)
+    → let n = turn-of c in
+    let h = n .before .loop in
+    let a = n .before .before .before .args in
+    let t = machines (h .counts) (h .accepts) (h .looks) Ready in
+    let x = getD (a .t2) (h .r) noDecoded in
+    let ms = h .inv .ready .machines in
+    let v = c .build-next in
+    Added x (a .s) (h .r) (entryOf t (x .first)) (entryOf t (x .second)) (getD ms (x .first) noMach) (getD ms (x .second) noMach) (v .result) (h .ws)
+    (v .last .0)
+    × (drop (shareAt (a .s) (a .m)) (v .last .0) ≡ drop (shareAt (a .s) (a .m)) (a .ws .now))
+tried c =
+    let n = turn-of c in
+    let s = n .before .before .before in
+    let h = n .before .loop in
+    let a = s .args in
+    let w = h .inv .ready in
+    let x = getD (a .t2) (h .r) noDecoded in
+    let v = c .build-next in
+    let later = share-next (a .s) (h .r) (a .m) (n .loop-test .taken) in (
+      (rw (c .before .before .before .before .before .before .before .kept .ensures, c .before .before .kept2 .ensures) at (v .ensures .0))
+          (getD (w .machines) (x .first) noMach) (getD (w .machines) (x .second) noMach) (parts-ready w (s .pre .1 (h .r) (n .loop-test .taken) .fits)),
+      drop-later (shareAt (a .s) (h .r) + shareOf (a .s)) (shareAt (a .s) (a .m)) (v .last .0) (h .ws) later (v .ensures .1 .high) ∙ h .inv .rest,
+    )
 
 returns : tie.Need-returns Inv-loop μ-loop
 returns c =
-    let n = c .before .before .before .before .before .before .before .before .before .before .before .before .before .before .before .before .before in
-    let s = n .before .before .before in
+    let b = c .before .before .before .before in
+    let n = turn-of b in
     let h = n .before .loop in
-    let a = s .args in
-    let v = c .before .before .before .before .build-next in
-    let w = h .inv .ready in
-    let x = getD (a .t2) (h .r) noDecoded in
-    let e = s .pre .1 (h .r) (n .loop-test .taken) in
-    let first = c .before .before .before .before .before .before .before .before .before .before .before .kept in
-    let second = c .before .before .before .before .before .before .kept2 in
-    let added = (rw (first .ensures, second .ensures) at (v .ensures .0)) (getD (w .machines) (x .first) noMach) (getD (w .machines) (x .second) noMach)
-    (parts-ready w (e .fits)) in
-    let after = share-next (a .s) (h .r) (a .m) (n .loop-test .taken) in
-    let later = drop-later (shareAt (a .s) (h .r) + shareOf (a .s)) (shareAt (a .s) (a .m)) (v .last .0) (h .ws) after (v .ensures .1 .high) in
+    let a = n .before .before .before .args in
     let t = machines (h .counts) (h .accepts) (h .looks) (Over (h .r)) in (
-      made-over (a .t2) (a .s) (h .r) (a .m) t (v .last .0) (n .loop-test .taken) refl (over-next w added (c .if1 .taken)),
-      later ∙ h .inv .rest,
+      made-over (a .t2) (a .s) (h .r) (a .m) t (b .build-next .last .0) (number n .0) refl (over-next (h .inv .ready) (tried b .0) (c .if1 .taken)),
+      tried b .1,
     )
-
-array-write-counts : tie.Need-array-write-counts Inv-loop μ-loop
-array-write-counts c =
-    let n = c .before .before .before .before .before .before .before .before .before .before .before .before .before .before .before .before .before in
-    omega (arith, n .loop-test .taken, n .before .before .before .pre .0)
-
-mul-accepts : tie.Need-mul-accepts Inv-loop μ-loop
-mul-accepts c =
-    let n = c .before .before .before .before .before .before .before .before .before .before .before .before .before .before .before .before .before in
-    omega (arith, n .loop-test .taken, n .before .before .before .pre .0)
-
-array-write-accepts : tie.Need-array-write-accepts Inv-loop μ-loop
-array-write-accepts c =
-    let n = c .before .before .before .before .before .before .before .before .before .before .before .before .before .before .before .before .before in
-    omega (arith, n .loop-test .taken, n .before .before .before .pre .0)
-
-array-write-looks : tie.Need-array-write-looks Inv-loop μ-loop
-array-write-looks c =
-    let n = c .before .before .before .before .before .before .before .before .before .before .before .before .before .before .before .before .before in
-    omega (arith, n .loop-test .taken, n .before .before .before .pre .0)
-
-add-r : tie.Need-add-r Inv-loop μ-loop
-add-r c =
-    let n = c .before .before .before .before .before .before .before .before .before .before .before .before .before .before .before .before .before in
-    omega (arith, n .loop-test .taken, n .before .before .before .pre .0)
-
-loop-less : tie.Need-loop-less Inv-loop μ-loop
-loop-less c =
-    let n = c .before .before .before .before .before .before .before .before .before .before .before .before .before .before .before .before .before in
-    omega (arith, n .loop-test .taken)
 
 loop-again : tie.Need-loop-again Inv-loop μ-loop
 loop-again c =
-    let n = c .before .before .before .before .before .before .before .before .before .before .before .before .before .before .before .before .before in
-    let s = n .before .before .before in
+    let b = c .before .before .before .before in
+    let n = turn-of b in
     let h = n .before .loop in
-    let a = s .args in
-    let v = c .before .before .before .before .build-next in
-    let w = h .inv .ready in
-    let x = getD (a .t2) (h .r) noDecoded in
-    let e = s .pre .1 (h .r) (n .loop-test .taken) in
-    let first = c .before .before .before .before .before .before .before .before .before .before .before .kept in
-    let second = c .before .before .before .before .before .before .kept2 in
-    let added = (rw (first .ensures, second .ensures) at (v .ensures .0)) (getD (w .machines) (x .first) noMach) (getD (w .machines) (x .second) noMach)
-    (parts-ready w (e .fits)) in
-    let after = share-next (a .s) (h .r) (a .m) (n .loop-test .taken) in
-    let later = drop-later (shareAt (a .s) (h .r) + shareOf (a .s)) (shareAt (a .s) (a .m)) (v .last .0) (h .ws) after (v .ensures .1 .high) in
+    let v = b .build-next in
     record {
-      within = omega (arith, n .loop-test .taken);
+      within = omega (arith, number n);
       long = v .kept .0 ∙ h .inv .long;
       wide = wide-next (machines (h .counts) (h .accepts) (h .looks) Ready) (h .r) (v .result) (h .inv .wide);
-      ready = ready-next w added (h .inv .wide) (omega (arith, n .loop-test .taken, s .pre .0)) (omega arith) (v .ensures .1);
-      rest = later ∙ h .inv .rest;
+      ready = ready-next (h .inv .ready) (tried b .0) (h .inv .wide) (number n .1) (omega arith) (v .ensures .1);
+      rest = tried b .1;
     }
 
 kept-requires : tie.Need-kept-requires Inv-loop μ-loop
@@ -158,5 +137,12 @@ pub build-all-spec : {M : Type 1} → statement M
 build-all-spec =
     tie.close
     (tie.spec Inv-loop μ-loop loop-holds (λ c. search needs) (λ c. search needs) (λ c. search needs) kept-requires (λ c. search needs)
-    kept-requires-2 build-next-requires (λ c. search needs) same-length returns array-write-counts mul-accepts array-write-accepts array-write-looks
-    add-r loop-less loop-again (λ c. c .before .loop .inv .long) returns-2)
+    kept-requires-2 build-next-requires (λ c. search needs)
+    (λ c. c .before .before .before .before .build-next .kept .0 ∙ turn-of (c .before .before .before .before) .before .loop .inv .long)
+    returns (λ c. number (turn-of (c .before .before .before .before)) .1)
+    (λ c. omega (arith, number (turn-of (c .before .before .before .before))))
+    (λ c. number (turn-of (c .before .before .before .before)) .1)
+    (λ c. number (turn-of (c .before .before .before .before)) .1)
+    (λ c. omega (arith, number (turn-of (c .before .before .before .before))))
+    (λ c. omega (arith, number (turn-of (c .before .before .before .before))))
+    loop-again (λ c. c .before .loop .inv .long) returns-2)
