@@ -1,43 +1,21 @@
 -- What exploration finds: distinct codes, the start first, closed under the successor; and more than c of them where it gives up.
 -- Assumes nothing.
-use Rattle.words.proofs.Vocabulary.{ℕ, _≤_, _<_, suc, zero, Bool, true, false, cond, _≡_, _∙_, refl, sym, ap, subst, ⊎-elim, List, [], _∷_, _++_}
-use Rattle.words.proofs.Vocabulary.{some, Option, none, ltb-false, ltb-true, ltb, length, getD, List·getD-append, length-append, getD-append-seam}
-use Rattle.words.proofs.Vocabulary.{length-map, le-of-suc-le-suc, not-suc-le-zero, eq-or-lt-of-le, arith}
+use Rattle.words.proofs.Vocabulary.{ℕ, _≤_, _<_, suc, zero-le, Bool, true, false, cond, _≡_, _∙_, refl, sym, ap, subst, ⊎-elim, List, [], _∷_, _++_, some}
+use Rattle.words.proofs.Vocabulary.{Option, none, length, getD, List·getD-append, length-append, getD-append-seam, length-map, not-suc-le-zero, eq-or-lt-of-le}
+use Rattle.words.proofs.Vocabulary.{arith}
 use Rattle.layout.specs.Shape.{Each, nil, cons, Tuple}
-use Rattle.layout.proofs.Places.{each-head, each-tail, each-map, two-of, pair-of}
+use Rattle.layout.proofs.Places.{each-head, each-tail, each-map, pair-of}
 use Rattle.exploring.specs.Explore.{Visit, codesAt, areBelow, Distinct, insert, visit, visits, over, rings, explore}
-use Rattle.exploring.proofs.Place.{place-in}
-use Rattle.exploring.proofs.Grow.{Grows, Has, Long, each-below, visits-grows, rings-all, rings-has}
+use Rattle.exploring.proofs.Place.{extends-last, place-last, place-extends, place-own}
+use Rattle.exploring.proofs.Grow.{Grows, grows-some, Inserted, is-old, is-new, no-room, inserted, each-below, visits-grows, rings-all, rings-has}
 use Rattle.table.specs.Entry.{Step}
 use Rattle.logic.specs.Reach.{position}
 
-distinct-last : (x : ℕ) (cs : List ℕ) → Distinct cs → length cs ≤ position x cs → Distinct (cs ++ (x ∷ []))
-distinct-last x cs d h i j hi hj e =
-    let n = length-append cs (x ∷ []) in
-    ⊎-elim
-    (λ (ei : i ≡ length cs). ⊎-elim
-    (λ (ej : j ≡ length cs). ei ∙ sym ej)
-    (λ (lj : j < length cs). let q : getD cs j 0 ≡ x = sym (List·getD-append cs (x ∷ []) 0 j lj) ∙ sym e
-    ∙ last i ei in let p = place-in x cs j lj q in omega arith)
-    (eq-or-lt-of-le (below j hj)))
-    (λ (li : i < length cs). ⊎-elim
-    (λ (ej : j ≡ length cs). let q : getD cs i 0 ≡ x = sym (List·getD-append cs (x ∷ []) 0 i li) ∙ e ∙ last j ej in let p = place-in x cs i li q in omega arith)
-    (λ (lj : j < length cs). d i j li lj (sym (List·getD-append cs (x ∷ []) 0 i li) ∙ e ∙ List·getD-append cs (x ∷ []) 0 j lj))
-    (eq-or-lt-of-le (below j hj)))
-    (eq-or-lt-of-le (below i hi))
-  where
-    below : (k : ℕ) → k < length (cs ++ (x ∷ [])) → k ≤ length cs
-    below k h = omega (arith, length-append cs (x ∷ []))
-
-    last : (k : ℕ) → k ≡ length cs → getD (cs ++ (x ∷ [])) k 0 ≡ x
-    last k e = ap (λ (n : ℕ). getD (cs ++ (x ∷ [])) n 0) e ∙ getD-append-seam cs x [] 0
-
-all-last : (P : ℕ → Type 0) (x : ℕ) (cs : List ℕ) → ((i : ℕ) → i < length cs → P (getD cs i 0)) → P x → (i : ℕ) → i < length (cs ++ (x ∷ []))
-    → P (getD (cs ++ (x ∷ [])) i 0)
-all-last P x cs all here i h =
-    ⊎-elim
-    (λ (e : i ≡ length cs). subst P (sym (ap (λ (n : ℕ). getD (cs ++ (x ∷ [])) n 0) e ∙ getD-append-seam cs x [] 0)) here)
-    (λ (l : i < length cs). subst P (sym (List·getD-append cs (x ∷ []) 0 i l)) (all i l))
+-- what holds of the codes and their places, and of a new one put last
+last-all : (Q : ℕ → ℕ → Type 0) (x : ℕ) (cs : List ℕ) → ((i : ℕ) → i < length cs → Q i (getD cs i 0)) → Q (length cs) x
+    → (i : ℕ) → i < length (cs ++ (x ∷ [])) → Q i (getD (cs ++ (x ∷ [])) i 0)
+last-all Q x cs before here i h =
+    ⊎-elim (λ (e : i ≡ length cs). rw (e, getD-append-seam cs x [] 0) here) (λ (l : i < length cs). rw (List·getD-append cs (x ∷ []) 0 i l) (before i l))
     (eq-or-lt-of-le (omega (arith, length-append cs (x ∷ []))))
 
 -- distinct codes, of each of which P holds
@@ -45,13 +23,21 @@ pub record Codes (P : ℕ → Type 0) (cs : List ℕ) : Type 0 where
   pub distinct : Distinct cs
   pub all : (i : ℕ) → i < length cs → P (getD cs i 0)
 
+-- a new code put last
+codes-last : (P : ℕ → Type 0) (x : ℕ) (cs : List ℕ) → Codes P cs → P x → length cs ≤ position x cs → Codes P (cs ++ (x ∷ []))
+codes-last P x cs ok p h = record {
+  distinct = λ i j hi hj e. sym (own i hi) ∙ ap (λ (y : ℕ). position y (cs ++ (x ∷ []))) e ∙ own j hj;
+  all = last-all (λ i y. P y) x cs (ok .all) p;
+}
+  where
+    own : (i : ℕ) → i < length (cs ++ (x ∷ [])) → position (getD (cs ++ (x ∷ [])) i 0) (cs ++ (x ∷ [])) ≡ i
+    own = last-all (λ i y. position y (cs ++ (x ∷ [])) ≡ i) x cs (λ i l.
+        let e = place-own (getD cs i 0) cs i (ok .distinct) l refl in
+        place-extends (getD cs i 0) (extends-last x cs) (omega arith) ∙ e) (place-last x cs h)
+
 -- a list of one code
 pub one-code : (P : ℕ → Type 0) (x : ℕ) → P x → Codes P (x ∷ [])
-one-code P x p = record { distinct = λ i j hi hj e. omega arith; all = one }
-  where
-    one : (i : ℕ) → i < 1 → P (getD (x ∷ []) i 0)
-    one zero h = p
-    one (suc i) h = absurd (not-suc-le-zero (le-of-suc-le-suc h))
+one-code P x p = codes-last P x [] (record { distinct = λ i j h. absurd (not-suc-le-zero h); all = λ i h. absurd (not-suc-le-zero h) }) p zero-le
 
 -- the list so far is good, or there is a list of c + 1 such codes
 abbrev pub Good : (ℕ → Type 0) → ℕ → Option (List ℕ) → Type 0
@@ -63,46 +49,45 @@ pub record Proper (labels : ℕ) (v : Visit) : Type 0 where
   pub label : v .label < labels
   pub two : length (v .states) ≡ 2
 
+pub proper : {labels l i j : ℕ} → l < labels → Proper labels (over l i j)
+proper h = record { label = h; two = refl }
+
 pub rings-proper : (labels k : ℕ) → Each (Proper labels) (rings labels k)
-rings-proper labels k = rings-all labels k (λ l i j hl hi hj. record { label = hl; two = refl })
+rings-proper labels k = rings-all labels k (λ l i j hl. proper hl)
 
-module _ (succ : Step) (c labels : ℕ) (P : ℕ → Type 0) (closed : (l : ℕ) (xs : List ℕ) → l < labels → length xs ≡ 2 → Each P xs → P (succ l xs)) where
-  insert-good : (x : ℕ) (cs : List ℕ) → Good P c (some cs) → P x → Good P c (insert c x cs)
-  unfolding insert
-  insert-good x cs ok r = go (ltb (position x cs) (length cs)) (ltb (length cs) c) refl refl
-    where
-      more : length cs ≤ position x cs → Codes P (cs ++ (x ∷ []))
-      more h = record { distinct = distinct-last x cs (ok .0 .distinct) h; all = all-last P x cs (ok .0 .all) r }
+-- two successor functions that agree on the codes of which P holds, and whose successors P holds of too, find the same good list
+module _ (s t : Step) (c labels : ℕ) (P : ℕ → Type 0)
+    (agree : (l : ℕ) (xs : List ℕ) → l < labels → length xs ≡ 2 → Each P xs → (s l xs ≡ t l xs) × P (s l xs)) where
+  insert-good : {x : ℕ} {cs : List ℕ} {o : Option (List ℕ)} → Inserted c x cs o → Good P c (some cs) → P x → Good P c o
+  insert-good (is-old h) ok r = ok
+  insert-good {x = x} {cs = cs} (is-new h m) ok r = (codes-last P x cs (ok .0) r h, omega (arith, length-append cs (x ∷ [])))
+  insert-good {x = x} {cs = cs} (no-room h m) ok r =
+      (cs ++ (x ∷ []), codes-last P x cs (ok .0) r h, omega (arith, length-append cs (x ∷ []), ok .1))
 
-      go : (a b : Bool) → ltb (position x cs) (length cs) ≡ a → ltb (length cs) c ≡ b → Good P c (cond a (some cs) (cond b (some (cs ++ (x ∷ []))) none))
-      go true b e f = ok
-      go false true e f =
-          let n = length-append cs (x ∷ []) in
-          let h = ltb-true (length cs) c f in
-          (more (ltb-false _ _ e), omega arith)
-      go false false e f =
-          let h = ltb-false (length cs) c f in
-          (cs ++ (x ∷ []), more (ltb-false _ _ e), omega (arith, length-append cs (x ∷ [])))
-
-  -- of the codes of states P holds
-  pub codes-good : (cs : List ℕ) → Codes P cs → {is : List ℕ} → Each (λ (i : ℕ). i < length cs) is → Each P (codesAt cs is)
-  codes-good cs ok e = each-map P (λ (i : ℕ). getD cs i 0) (ok .all) e
-
-  visit-good : (v : Visit) (o : Option (List ℕ)) → Proper labels v → Good P c o → Good P c (visit succ c v o)
+  visit-good : (v : Visit) (o : Option (List ℕ)) → Proper labels v → Good P c o → Good P c (visit s c v o) × (visit s c v o ≡ visit t c v o)
   unfolding visit
-  visit-good v none h ok = ok
+  visit-good v none h ok = (ok, refl)
   visit-good v (some cs) h ok = go (areBelow (length cs) (v .states)) refl
     where
-      go : (t : Bool) → areBelow (length cs) (v .states) ≡ t → Good P c (cond t (insert c (succ (v .label) (codesAt cs (v .states))) cs) (some cs))
-      go false e = ok
-      go true e =
-          insert-good _ cs ok (closed (v .label) (codesAt cs (v .states)) (h .label) (length-map (v .states) (λ (i : ℕ). getD cs i 0) ∙ h .two)
-          (codes-good cs (ok .0) (each-below (length cs) (v .states) e)))
+      xs : List ℕ
+      xs = codesAt cs (v .states)
 
-  pub visits-good : (vs : List Visit) (o : Option (List ℕ)) → Each (Proper labels) vs → Good P c o → Good P c (visits succ c vs o)
+      go : (b : Bool) → areBelow (length cs) (v .states) ≡ b → Good P c (cond b (insert c (s (v .label) xs) cs) (some cs))
+          × (cond b (insert c (s (v .label) xs) cs) (some cs) ≡ cond b (insert c (t (v .label) xs) cs) (some cs))
+      go false e = (ok, refl)
+      go true e =
+          let all = each-map P (λ (i : ℕ). getD cs i 0) (ok .0 .all) (each-below (length cs) (v .states) e) in
+          let z = agree (v .label) xs (h .label) (length-map (v .states) (λ (i : ℕ). getD cs i 0) ∙ h .two) all in
+          (insert-good (inserted c (s (v .label) xs) cs) ok (z .1), ap (λ (x : ℕ). insert c x cs) (z .0))
+
+  pub visits-good : (vs : List Visit) (o : Option (List ℕ)) → Each (Proper labels) vs → Good P c o
+      → Good P c (visits s c vs o) × (visits s c vs o ≡ visits t c vs o)
   unfolding visits
-  visits-good [] o e ok = ok
-  visits-good (v ∷ vs) o e ok = visits-good vs (visit succ c v o) (each-tail e) (visit-good v o (each-head e) ok)
+  visits-good [] o e ok = (ok, refl)
+  visits-good (v ∷ vs) o e ok =
+      let z = visit-good v o (each-head e) ok in
+      let r = visits-good vs (visit s c v o) (each-tail e) (z .0) in
+      (r .0, r .1 ∙ ap (visits t c vs) (z .1))
 
 -- ---- what exploration gives, where P holds of the start and of what follows codes of which it holds
 module _ (succ : Step) (c labels start : ℕ) (pos : 0 < c) where
@@ -116,14 +101,15 @@ module _ (succ : Step) (c labels start : ℕ) (pos : 0 < c) where
   module _ (P : ℕ → Type 0) (at-start : P start) (closed : (l : ℕ) (xs : List ℕ) → l < labels → length xs ≡ 2 → Each P xs → P (succ l xs)) where
     all-good : Good P c (explore succ c labels start)
     unfolding explore
-    all-good = visits-good succ c labels P closed (rings labels c) (some (start ∷ [])) (rings-proper labels c) (one-code P start at-start, pos)
+    all-good = visits-good succ succ c labels P (λ l xs hl n e. (refl, closed l xs hl n e)) (rings labels c) (some (start ∷ [])) (rings-proper labels c)
+        (one-code P start at-start, pos) .0
 
     pub explore-found : (cs : List ℕ) → explore succ c labels start ≡ some cs → Found P cs
     unfolding explore
     explore-found cs e =
         let ok : Good P c (some cs) = subst (Good P c) e all-good in
-        let g : Grows (some (start ∷ [])) (some cs) = subst (Grows (some (start ∷ []))) e (visits-grows succ c (rings labels c) (some (start ∷ []))) in
-        record { codes = ok .0; few = ok .1; some-code = omega (arith, ap length (g .1)); first = ap (λ (l : List ℕ). getD l 0 0) (g .1) }
+        let g = grows-some (subst (Grows (some (start ∷ []))) e (visits-grows succ c (rings labels c) (some (start ∷ [])))) in
+        record { codes = ok .0; few = ok .1; some-code = omega (arith, g .long); first = g .same 0 (omega arith) }
 
     -- or c + 1 of them
     pub explore-many : explore succ c labels start ≡ none → (cs : List ℕ) × Codes P cs × (length cs ≡ suc c)
@@ -137,10 +123,6 @@ module _ (succ : Step) (c labels start : ℕ) (pos : 0 < c) where
   pub explore-closed : (cs : List ℕ) → explore succ c labels start ≡ some cs → (l : ℕ) → l < labels → (is : List ℕ) → Tuple 2 (length cs) is
       → position (succ l (codesAt cs is)) cs < length cs
   unfolding explore
-  explore-closed cs e l hl =
-      pair-of (λ (is : List ℕ). position (succ l (codesAt cs is)) cs < length cs) λ i j hi hj.
+  explore-closed cs e l hl = pair-of (λ (is : List ℕ). position (succ l (codesAt cs is)) cs < length cs) λ i j hi hj.
       let few = explore-some cs e .few in
-      let found : Has succ (over l i j) (some cs) =
-      subst (Has succ (over l i j)) e
-      (rings-has succ c labels c (some (start ∷ [])) l i j hl (omega arith) (omega arith) (subst (Long (i ∷ j ∷ [])) (sym e) (two-of hi hj .below))) in
-      found .1
+      rw e at (rings-has succ c labels c (some (start ∷ [])) l i j hl (omega arith) (omega arith) (rw e (cons hi nil)) (rw e (cons hj nil))) .1

@@ -1,30 +1,30 @@
 -- Laws of exploration: what is found only grows, and what is visited stays visited. Assumes nothing.
-use Rattle.words.proofs.Vocabulary.{ℕ, _≤_, _<_, suc, zero, Bool, true, false, _&&_, cond, _≡_, _∙_, refl, sym, ap, ap₂, subst, ⊎-elim, List, [], _∷_}
-use Rattle.words.proofs.Vocabulary.{_++_, append-assoc, append-nil, some, Option, none, le-ltb, lt-ltb, ltb-false, ltb-true, ltb, length, getD, decLt}
-use Rattle.words.proofs.Vocabulary.{List·getD-append, length-append, le-of-suc-le-suc, not-suc-le-zero, eq-or-lt-of-le, and-false, arith}
+use Rattle.words.proofs.Vocabulary.{ℕ, _≤_, _<_, _+_, _-_, suc, zero, true, false, _&&_, cond, _≡_, _∙_, refl, sym, ap, ap₂, ⊎-elim, List, [], _∷_, _++_}
+use Rattle.words.proofs.Vocabulary.{append-assoc, append-nil, some, Option, none, le-ltb, lt-ltb, ltb-true, ltb, length, getD, decLt, add-zero, add-suc}
+use Rattle.words.proofs.Vocabulary.{length-append, le-of-suc-le-suc, not-suc-le-zero, eq-or-lt-of-le, and-false, arith}
 use Rattle.words.proofs.Any.{and-both}
 use Rattle.layout.specs.Shape.{Each, nil, cons}
 use Rattle.layout.proofs.Places.{each-head, each-tail, each-append, each-left, each-right, each-imp}
 use Rattle.exploring.specs.Explore.{Visit, codesAt, areBelow, insert, visit, visits, over, row, ring, rings}
-use Rattle.exploring.proofs.Place.{place-append, place-last}
+use Rattle.exploring.proofs.Place.{Extends, extends-refl, extends-trans, extends-last, place-le, place-extends, place-last}
 use Rattle.table.specs.Entry.{Step}
 use Rattle.logic.specs.Reach.{position}
 
 -- the second has the first's codes in front, or there were too many
-abbrev pub Grows : Option (List ℕ) → Option (List ℕ) → Type 0
-Grows o none = Unit {0}
-Grows none (some ds) = ⊥
-Grows (some cs) (some ds) = (ys : List ℕ) × (ds ≡ cs ++ ys)
+pub data Grows : Option (List ℕ) → Option (List ℕ) → Type 0 where
+  many : {o : Option (List ℕ)} → Grows o none
+  longer : {cs ds : List ℕ} → Extends cs ds → Grows (some cs) (some ds)
+
+pub grows-some : {cs ds : List ℕ} → Grows (some cs) (some ds) → Extends cs ds
+grows-some (longer g) = g
 
 pub grows-refl : (o : Option (List ℕ)) → Grows o o
-grows-refl none = tt
-grows-refl (some cs) = ([], sym (append-nil cs))
+grows-refl none = many
+grows-refl (some cs) = longer (extends-refl cs)
 
-pub grows-trans : (o p q : Option (List ℕ)) → Grows o p → Grows p q → Grows o q
-grows-trans o p none g h = tt
-grows-trans o none (some es) g h = absurd h
-grows-trans none (some ds) (some es) g h = absurd g
-grows-trans (some cs) (some ds) (some es) g h = (g .0 ++ h .0, h .1 ∙ ap (λ (t : List ℕ). t ++ h .0) (g .1) ∙ append-assoc cs (g .0) (h .0))
+pub grows-trans : {o p q : Option (List ℕ)} → Grows o p → Grows p q → Grows o q
+grows-trans g many = many
+grows-trans (longer g) (longer h) = longer (extends-trans g h)
 
 -- ---- the codes of states
 -- in two lists that have the same codes at them they are the same
@@ -32,9 +32,6 @@ pub codes-same : (n : ℕ) (cs ds : List ℕ) → ((i : ℕ) → i < n → getD 
     → codesAt cs is ≡ codesAt ds is
 codes-same n cs ds h nil = refl
 codes-same n cs ds h (cons p e) = ap₂ (λ (x : ℕ) (xs : List ℕ). x ∷ xs) (h _ p) (codes-same n cs ds h e)
-
-pub codes-append : (cs ys : List ℕ) {is : List ℕ} → Each (λ (i : ℕ). i < length cs) is → codesAt (cs ++ ys) is ≡ codesAt cs is
-codes-append cs ys e = codes-same (length cs) (cs ++ ys) cs (λ i h. List·getD-append cs ys 0 i h) e
 
 pub are-below : (n : ℕ) {is : List ℕ} → Each (λ (i : ℕ). i < n) is → areBelow n is ≡ true
 are-below n nil = refl
@@ -49,33 +46,37 @@ abbrev pub Long : List ℕ → Option (List ℕ) → Type 0
 Long is none = Unit {0}
 Long is (some cs) = Each (λ (i : ℕ). i < length cs) is
 
-pub long-grows : (is : List ℕ) (o p : Option (List ℕ)) → Grows o p → Long is o → Long is p
-long-grows is o none g h = tt
-long-grows is none (some ds) g h = absurd g
-long-grows is (some cs) (some ds) g h = each-imp (λ i l. omega (arith, ap length (g .1), length-append cs (g .0))) h
+pub long-grows : (is : List ℕ) {o p : Option (List ℕ)} → Grows o p → Long is o → Long is p
+long-grows is many h = tt
+long-grows is (longer g) h = each-imp (λ i l. omega (arith, g .long)) h
 
--- ---- a code is put in
-pub insert-grows : (c x : ℕ) (cs : List ℕ) → Grows (some cs) (insert c x cs)
-unfolding insert
-insert-grows c x cs = go (ltb (position x cs) (length cs)) (ltb (length cs) c)
-  where
-    go : (a b : Bool) → Grows (some cs) (cond a (some cs) (cond b (some (cs ++ (x ∷ []))) none))
-    go true b = grows-refl (some cs)
-    go false true = (x ∷ [], refl)
-    go false false = tt
+-- ---- a code is put in: it is there, it is put last, or there is no room
+pub data Inserted (c x : ℕ) (cs : List ℕ) : Option (List ℕ) → Type 0 where
+  is-old : position x cs < length cs → Inserted c x cs (some cs)
+  is-new : length cs ≤ position x cs → length cs < c → Inserted c x cs (some (cs ++ (x ∷ [])))
+  no-room : length cs ≤ position x cs → c ≤ length cs → Inserted c x cs none
 
--- what is put in is there, or there were too many
-pub insert-has : (c x : ℕ) (cs : List ℕ) → (ds : List ℕ) → insert c x cs ≡ some ds → position x ds < length ds
+pub inserted : (c x : ℕ) (cs : List ℕ) → Inserted c x cs (insert c x cs)
 unfolding insert
-insert-has c x cs ds e = go (ltb (position x cs) (length cs)) (ltb (length cs) c) refl e
-  where
-    go : (a b : Bool) → ltb (position x cs) (length cs) ≡ a → cond a (some cs) (cond b (some (cs ++ (x ∷ []))) none) ≡ some ds → position x ds < length ds
-    go true b t e = let q : cs ≡ ds = cc in subst (λ (l : List ℕ). position x l < length l) q (ltb-true _ _ t)
-    go false true t e =
-        let q : cs ++ (x ∷ []) ≡ ds = cc in
-        let f = place-last x cs (ltb-false _ _ t) in
-        subst (λ (l : List ℕ). position x l < length l) q (omega (arith, length-append cs (x ∷ [])))
-    go false false t e = let z : _≡_ {A = ℕ} 0 1 = cc in omega arith
+inserted c x cs = elim (decLt (position x cs) (length cs)) [
+  | yes h ↦ rw (lt-ltb _ _ h) (is-old h)
+  | no h ↦ let far : length cs ≤ position x cs = omega arith in rw (le-ltb _ _ far) (elim (decLt (length cs) c) [
+    | yes r ↦ rw (lt-ltb _ _ r) (is-new far r)
+    | no r ↦ let top : c ≤ length cs = omega arith in rw (le-ltb _ _ top) (no-room far top)
+  ])
+]
+
+pub insert-grows : {c x : ℕ} {cs : List ℕ} {o : Option (List ℕ)} → Inserted c x cs o → Grows (some cs) o
+insert-grows {cs = cs} (is-old h) = grows-refl (some cs)
+insert-grows {x = x} {cs = cs} (is-new h r) = longer (extends-last x cs)
+insert-grows (no-room h r) = many
+
+-- it stands where it was looked for
+pub insert-place : {c x : ℕ} {cs ds : List ℕ} → Inserted c x cs (some ds) → (position x ds ≡ position x cs) × (position x ds < length ds)
+insert-place (is-old h) = (refl, h)
+insert-place {x = x} {cs = cs} (is-new h r) =
+    let e = place-last x cs h in
+    (omega (arith, place-le x cs), omega (arith, length-append cs (x ∷ [])))
 
 -- ---- visits
 module _ (succ : Step) where
@@ -84,31 +85,30 @@ module _ (succ : Step) where
   Has v none = Unit {0}
   Has v (some cs) = Each (λ (i : ℕ). i < length cs) (v .states) × (position (succ (v .label) (codesAt cs (v .states))) cs < length cs)
 
-  pub has-grows : (v : Visit) (o p : Option (List ℕ)) → Grows o p → Has v o → Has v p
-  has-grows v o none g h = tt
-  has-grows v none (some ds) g h = absurd g
-  has-grows v (some cs) (some ds) g h =
-      let n = length-append cs (g .0) in
-      let x = succ (v .label) (codesAt cs (v .states)) in
-      let p : position x (cs ++ g .0) < length (cs ++ g .0) = omega (arith, place-append x cs (g .0) (h .1)) in
-      subst (λ (t : List ℕ). Has v (some t)) (sym (g .1)) (each-imp (λ i l. omega arith) (h .0), rw (codes-append cs (g .0) (h .0)) p)
+  -- the code keeps its place
+  pub has-place : (v : Visit) {cs ds : List ℕ} → Extends cs ds → Has v (some cs)
+      → position (succ (v .label) (codesAt ds (v .states))) ds ≡ position (succ (v .label) (codesAt cs (v .states))) cs
+  has-place v {cs} {ds} g h = rw (codes-same (length cs) ds cs (g .same) (h .0)) (place-extends _ g (h .1))
+
+  pub has-grows : (v : Visit) {o p : Option (List ℕ)} → Grows o p → Has v o → Has v p
+  has-grows v many h = tt
+  has-grows v (longer g) h = (each-imp (λ i l. omega (arith, g .long)) (h .0), omega (arith, has-place v g h, h .1, g .long))
 
   module _ (c : ℕ) where
     pub visit-grows : (v : Visit) (o : Option (List ℕ)) → Grows o (visit succ c v o)
     unfolding visit
-    visit-grows v none = tt
-    visit-grows v (some cs) = go (areBelow (length cs) (v .states))
-      where
-        go : (t : Bool) → Grows (some cs) (cond t (insert c (succ (v .label) (codesAt cs (v .states))) cs) (some cs))
-        go true = insert-grows c (succ (v .label) (codesAt cs (v .states))) cs
-        go false = grows-refl (some cs)
+    visit-grows v none = many
+    visit-grows v (some cs) =
+        let x = succ (v .label) (codesAt cs (v .states)) in
+        elim (areBelow (length cs) (v .states)) as (λ b. Grows (some cs) (cond b (insert c x cs) (some cs))) [
+          | true ↦ insert-grows (inserted c x cs)
+          | false ↦ grows-refl (some cs)
+        ]
 
     pub visits-grows : (vs : List Visit) (o : Option (List ℕ)) → Grows o (visits succ c vs o)
     unfolding visits
     visits-grows [] o = grows-refl o
-    visits-grows (v ∷ vs) o =
-        let p = visit succ c v o in
-        grows-trans o p (visits succ c vs p) (visit-grows v o) (visits-grows vs p)
+    visits-grows (v ∷ vs) o = grows-trans (visit-grows v o) (visits-grows vs (visit succ c v o))
 
     pub visits-none : (vs : List Visit) → visits succ c vs none ≡ none
     unfolding visits visit
@@ -124,25 +124,18 @@ module _ (succ : Step) where
     pub visit-has : (v : Visit) (o : Option (List ℕ)) → Long (v .states) o → Has v (visit succ c v o)
     unfolding visit
     visit-has v none h = tt
-    visit-has v (some cs) h = rw (are-below (length cs) h) (go (insert c x cs) refl (insert-grows c x cs))
+    visit-has v (some cs) h = rw (are-below (length cs) h) (from (inserted c _ cs) (insert-grows (inserted c _ cs)))
       where
-        x : ℕ
-        x = succ (v .label) (codesAt cs (v .states))
-
-        go : (o : Option (List ℕ)) → insert c x cs ≡ o → Grows (some cs) o → Has v o
-        go none e g = tt
-        go (some ds) e g =
-            let k : codesAt ds (v .states) ≡ codesAt cs (v .states) = ap (λ (t : List ℕ). codesAt t (v .states)) (g .1) ∙ codes-append cs (g .0) h in
-            let n = ap length (g .1) ∙ length-append cs (g .0) in
-            (each-imp (λ i l. omega arith) h, rw k (insert-has c x cs ds e))
+        from : {o : Option (List ℕ)} → Inserted c (succ (v .label) (codesAt cs (v .states))) cs o → Grows (some cs) o → Has v o
+        from i many = tt
+        from {o = some ds} i (longer g) = (long-grows (v .states) (longer g) h, rw (codes-same (length cs) ds cs (g .same) h) (insert-place i .1))
 
     pub visits-has : (vs : List Visit) (o : Option (List ℕ)) → Each (λ (v : Visit). Long (v .states) o) vs → Each (λ (v : Visit). Has v (visits succ c vs o)) vs
     unfolding visits
     visits-has [] o e = nil
     visits-has (v ∷ vs) o e =
-        let p = visit succ c v o in
-        cons (has-grows v p (visits succ c vs p) (visits-grows vs p) (visit-has v o (each-head e)))
-        (visits-has vs p (each-imp (λ u h. long-grows (u .states) o p (visit-grows v o) h) (each-tail e)))
+        cons (has-grows v (visits-grows vs (visit succ c v o)) (visit-has v o (each-head e)))
+        (visits-has vs (visit succ c v o) (each-imp (λ u h. long-grows (u .states) (visit-grows v o) h) (each-tail e)))
 
     -- ---- visits that find nothing new
     pub visits-idle : (cs : List ℕ) (vs : List Visit) → Each (λ (v : Visit). visit succ c v (some cs) ≡ some cs) vs → visits succ c vs (some cs) ≡ some cs
@@ -153,7 +146,7 @@ module _ (succ : Step) where
     -- what follows is there
     pub visit-old : (cs : List ℕ) (v : Visit) → Has v (some cs) → visit succ c v (some cs) ≡ some cs
     unfolding visit insert
-    visit-old cs v h = rw (are-below (length cs) (h .0), lt-ltb (position (succ (v .label) (codesAt cs (v .states))) cs) (length cs) (h .1))
+    visit-old cs v h = rw (are-below (length cs) (h .0), lt-ltb _ _ (h .1))
 
     -- a state is not there
     pub visit-missing : (cs : List ℕ) (v : Visit) → areBelow (length cs) (v .states) ≡ false → visit succ c v (some cs) ≡ some cs
@@ -161,101 +154,105 @@ module _ (succ : Step) where
     visit-missing cs v e = rw e
 
 -- ---- rows and rings
+-- two states, both ways
+abbrev pub both : ℕ → ℕ → ℕ → List Visit
+both l i k = over l i k ∷ over l k i ∷ []
+
+-- a list that is put together index by index
+module _ (xs f : ℕ → List Visit) (empty : xs 0 ≡ []) (next : (n : ℕ) → xs (suc n) ≡ xs n ++ f n) where
+  pile-all : {P : Visit → Type 0} (n : ℕ) → ((i : ℕ) → i < n → Each P (f i)) → Each P (xs n)
+  pile-all zero h = rw empty nil
+  pile-all (suc n) h = rw next (each-append (pile-all n (λ i l. h i (omega arith))) (h n (omega arith)))
+
+  pile-each : {P : Visit → Type 0} (n : ℕ) → Each P (xs n) → (i : ℕ) → i < n → Each P (f i)
+  pile-each zero e i h = absurd (not-suc-le-zero h)
+  pile-each (suc n) e i h =
+      let d = rw next at e in
+      ⊎-elim (λ (q : i ≡ n). rw q (each-right (xs n) d)) (λ (q : i < n). pile-each n (each-left (xs n) (f n) d) i q) (eq-or-lt-of-le (le-of-suc-le-suc h))
+
+  pub pile-rest : (n d : ℕ) → (us : List Visit) × (xs (n + d) ≡ xs n ++ us)
+  pile-rest n zero = ([], rw add-zero (sym (append-nil (xs n))))
+  pile-rest n (suc d) = let z = pile-rest n d in (z .0 ++ f (n + d), rw (add-suc, next, z .1) (append-assoc (xs n) (z .0) (f (n + d))))
+
 module _ {P : Visit → Type 0} where
-  pub row-all : (l k m : ℕ) → ((i : ℕ) → i < m → P (over l i k) × P (over l k i)) → Each P (row l k m)
+  pub row-all : (l k m : ℕ) → ((i : ℕ) → i < m → Each P (both l i k)) → Each P (row l k m)
   unfolding row
-  row-all l k zero h = nil
-  row-all l k (suc m) h =
-      let z = h m (omega arith) in
-      each-append (row-all l k m (λ i q. h i (omega arith))) (cons (z .0) (cons (z .1) nil))
+  row-all l k m h = pile-all (row l k) (λ i. both l i k) refl (λ n. refl) m h
 
-  pub ring-all : (k m : ℕ) → ((l i : ℕ) → l < m → i ≤ k → P (over l i k) × P (over l k i)) → Each P (ring k m)
+  pub ring-all : (k m : ℕ) → ((l i : ℕ) → l < m → i ≤ k → Each P (both l i k)) → Each P (ring k m)
   unfolding ring
-  ring-all k zero h = nil
-  ring-all k (suc m) h =
-      each-append (ring-all k m (λ l i hl hi. h l i (omega arith) hi)) (row-all m k (suc k) (λ i hi. h m i (omega arith) (le-of-suc-le-suc hi)))
+  ring-all k m h = pile-all (ring k) (λ l. row l k (suc k)) refl (λ n. refl) m (λ l hl. row-all l k (suc k) (λ i hi. h l i hl (omega arith)))
 
-  pub rings-all : (labels k : ℕ) → ((l i j : ℕ) → l < labels → i < k → j < k → P (over l i j)) → Each P (rings labels k)
+  pub ring-each : (k m : ℕ) → Each P (ring k m) → (l i : ℕ) → l < m → i ≤ k → Each P (both l i k)
+  unfolding row ring
+  ring-each k m e l i hl hi =
+      pile-each (row l k) (λ i. both l i k) refl (λ n. refl) (suc k) (pile-each (ring k) (λ l. row l k (suc k)) refl (λ n. refl) m e l hl) i (omega arith)
+
+  pub rings-all : (labels k : ℕ) → ((l i j : ℕ) → l < labels → P (over l i j)) → Each P (rings labels k)
   unfolding rings
-  rings-all labels zero h = nil
-  rings-all labels (suc k) h =
-      each-append (rings-all labels k (λ l i j hl hi hj. h l i j hl (omega arith) (omega arith)))
-      (ring-all k labels (λ l i hl hi. (h l i k hl (omega arith) (omega arith), h l k i hl (omega arith) (omega arith))))
-
-  pub row-each : (l k m : ℕ) → Each P (row l k m) → (i : ℕ) → i < m → P (over l i k) × P (over l k i)
-  unfolding row
-  row-each l k zero e i h = absurd (not-suc-le-zero h)
-  row-each l k (suc m) e i h =
-      let z = each-right (row l k m) e in
-      ⊎-elim
-      (λ (q : i ≡ m). subst (λ (n : ℕ). P (over l n k) × P (over l k n)) (sym q) (each-head z, each-head (each-tail z)))
-      (λ (q : i < m). row-each l k m (each-left (row l k m) (over l m k ∷ over l k m ∷ []) e) i q)
-      (eq-or-lt-of-le (le-of-suc-le-suc h))
-
-  pub ring-each : (k m : ℕ) → Each P (ring k m) → (l i : ℕ) → l < m → i ≤ k → P (over l i k) × P (over l k i)
-  unfolding ring
-  ring-each k zero e l i hl hi = absurd (not-suc-le-zero hl)
-  ring-each k (suc m) e l i hl hi =
-      ⊎-elim
-      (λ (q : l ≡ m). subst (λ (n : ℕ). P (over n i k) × P (over n k i)) (sym q) (row-each m k (suc k) (each-right (ring k m) e) i (omega arith)))
-      (λ (q : l < m). ring-each k m (each-left (ring k m) (row m k (suc k)) e) l i q hi)
-      (eq-or-lt-of-le (le-of-suc-le-suc hl))
+  rings-all labels k h =
+      pile-all (rings labels) (λ j. ring j labels) refl (λ n. refl) k (λ j hj. ring-all j labels (λ l i hl hi. cons (h l i j hl) (cons (h l j i hl) nil)))
 
   pub rings-each : (labels k : ℕ) → Each P (rings labels k) → (l i j : ℕ) → l < labels → i < k → j < k → P (over l i j)
   unfolding rings
-  rings-each labels zero e l i j hl hi hj = absurd (not-suc-le-zero hi)
-  rings-each labels (suc k) e l i j hl hi hj =
-      let new = ring-each k labels (each-right (rings labels k) e) l in
-      ⊎-elim
-      (λ (a : i ≡ k). subst (λ (n : ℕ). P (over l n j)) (sym a) (new j hl (le-of-suc-le-suc hj) .1))
-      (λ (a : i < k). ⊎-elim
-      (λ (b : j ≡ k). subst (λ (n : ℕ). P (over l i n)) (sym b) (new i hl (le-of-suc-le-suc hi) .0))
-      (λ (b : j < k). rings-each labels k (each-left (rings labels k) (ring k labels) e) l i j hl a b)
-      (eq-or-lt-of-le (le-of-suc-le-suc hj)))
-      (eq-or-lt-of-le (le-of-suc-le-suc hi))
+  rings-each labels k e l i j hl hi hj =
+      let r = pile-each (rings labels) (λ j. ring j labels) refl (λ n. refl) k e in
+      elim (decLt i j) [
+        | yes h ↦ each-head (ring-each j labels (r j hj) l i hl (omega arith))
+        | no h ↦ each-head (each-tail (ring-each i labels (r i hi) l j hl (omega arith)))
+      ]
 
--- a state that is not there has no turn
-module _ (succ : Step) (c : ℕ) where
-  missing-ring : (cs : List ℕ) (k labels : ℕ) → length cs ≤ k → Each (λ (v : Visit). visit succ c v (some cs) ≡ some cs) (ring k labels)
-  missing-ring cs k labels h =
-      let e = le-ltb k (length cs) h in
-      ring-all k labels (λ l i hl hi. (
-        visit-missing succ c cs (over l i k) ((rw e) ∙ and-false (ltb i (length cs))),
-        visit-missing succ c cs (over l k i) (rw e),
-      ))
+-- there are no more than k states, or too many
+abbrev pub Done : ℕ → Option (List ℕ) → Type 0
+Done k none = Unit {0}
+Done k (some cs) = length cs ≤ k
 
-  pub ring-missing : (cs : List ℕ) (k labels : ℕ) → length cs ≤ k → visits succ c (ring k labels) (some cs) ≡ some cs
-  ring-missing cs k labels h = visits-idle succ c cs (ring k labels) (missing-ring cs k labels h)
+module _ (succ : Step) (c labels : ℕ) where
+  -- a state that is not there has no turn
+  ring-missing : {k : ℕ} (j : ℕ) (o : Option (List ℕ)) → k ≤ j → Done k o → visits succ c (ring j labels) o ≡ o
+  ring-missing j none l h = visits-none succ c (ring j labels)
+  ring-missing j (some cs) l h =
+      let e = le-ltb j (length cs) (omega arith) in
+      visits-idle succ c cs (ring j labels) (ring-all j labels (λ l i hl hi.
+      cons (visit-missing succ c cs (over l i j) (rw (e, and-false))) (cons (visit-missing succ c cs (over l j i) (rw e)) nil)))
 
-  -- the states below k are paired with each other
-  pub rings-has : (labels k : ℕ) (o : Option (List ℕ)) (l i j : ℕ) → l < labels → i < k → j < k → Long (i ∷ j ∷ []) (visits succ c (rings labels k) o)
-      → Has succ (over l i j) (visits succ c (rings labels k) o)
+  -- the turns that are left find no code where all states had theirs, or there are too many
+  pub rings-rest : (k d : ℕ) (o : Option (List ℕ)) → Done k (visits succ c (rings labels k) o)
+      → visits succ c (rings labels (k + d)) o ≡ visits succ c (rings labels k) o
   unfolding rings
-  rings-has labels zero o l i j hl hi hj a = absurd (not-suc-le-zero hi)
-  rings-has labels (suc k) o l i j hl hi hj a =
-      rw (visits-append succ c (rings labels k) (ring k labels) o)
-      (from (visits succ c (rings labels k) o) (rings-has labels k o l i j hl) (rw (visits-append succ c (rings labels k) (ring k labels) o) at a))
+  rings-rest k zero o h = rw add-zero
+  rings-rest k (suc d) o h =
+      rw (add-suc, visits-append succ c (rings labels (k + d)) (ring (k + d) labels) o, rings-rest k d o h) (ring-missing (k + d) _ (omega arith) h)
+
+  -- state m, if it is there, was paired with those up to it in its turn
+  turn-has : (m k : ℕ) (o : Option (List ℕ)) (l n : ℕ) → m < k → l < labels → n ≤ m → Long (m ∷ []) (visits succ c (rings labels k) o)
+      → Each (λ (v : Visit). Has succ v (visits succ c (rings labels k) o)) (both l n m)
+  unfolding rings
+  turn-has m k o l n hk hl hn a = each-imp (λ v h. has-grows succ v grown h) (from (visits succ c (rings labels m) o) refl)
     where
-      from : (p : Option (List ℕ)) → (i < k → j < k → Long (i ∷ j ∷ []) p → Has succ (over l i j) p) → Long (i ∷ j ∷ []) (visits succ c (ring k labels) p)
-          → Has succ (over l i j) (visits succ c (ring k labels) p)
-      from none old a = rw (visits-none succ c (ring k labels)) tt
-      from (some cs) old a = go (decLt k (length cs))
-        where
-          go : Dec (k < length cs) → Has succ (over l i j) (visits succ c (ring k labels) (some cs))
-          go (no h) =
-              let e = ring-missing cs k labels (omega arith) in
-              let b : Long (i ∷ j ∷ []) (some cs) = rw e at a in
-              rw e (old (let z = each-head b in omega arith) (let z = each-head (each-tail b) in omega arith) b)
-          go (yes h) =
-              let new = ring-each k labels (visits-has succ c (ring k labels) (some cs) (ring-all k labels (λ l i hl hi. (
-                cons (omega arith) (cons (omega arith) nil),
-                cons (omega arith) (cons (omega arith) nil),
-              )))) l in
-              ⊎-elim
-              (λ (e : i ≡ k). subst (λ (n : ℕ). Has succ (over l n j) (visits succ c (ring k labels) (some cs))) (sym e) (new j hl (le-of-suc-le-suc hj) .1))
-              (λ (li : i < k). ⊎-elim
-              (λ (e : j ≡ k). subst (λ (n : ℕ). Has succ (over l i n) (visits succ c (ring k labels) (some cs))) (sym e) (new i hl (le-of-suc-le-suc hi) .0))
-              (λ (lj : j < k). has-grows succ (over l i j) (some cs) (visits succ c (ring k labels) (some cs)) (visits-grows succ c (ring k labels) (some cs))
-              (old li lj (cons (omega arith) (cons (omega arith) nil))))
-              (eq-or-lt-of-le (le-of-suc-le-suc hj)))
-              (eq-or-lt-of-le (le-of-suc-le-suc hi))
+      grown : Grows (visits succ c (ring m labels) (visits succ c (rings labels m) o)) (visits succ c (rings labels k) o)
+      grown =
+          let s : suc m + (k - suc m) ≡ k = omega arith in
+          let z = rw s at (pile-rest (rings labels) (λ j. ring j labels) refl (λ n. refl) (suc m) (k - suc m)) in
+          rw (z .1, visits-append succ c (rings labels (suc m)) (z .0) o, visits-append succ c (rings labels m) (ring m labels) o)
+          (visits-grows succ c (z .0) _)
+
+      from : (q : Option (List ℕ)) → visits succ c (rings labels m) o ≡ q → Each (λ (v : Visit). Has succ v (visits succ c (ring m labels) q)) (both l n m)
+      from none e = rw (visits-none succ c (ring m labels)) (cons tt (cons tt nil))
+      from (some cs) e = elim (decLt m (length cs)) [
+        | yes h ↦
+            ring-each m labels (visits-has succ c (ring m labels) (some cs) (ring-all m labels (λ l i hl hi.
+            let low : i < length cs = omega arith in cons (cons low (cons h nil)) (cons (cons h (cons low nil)) nil)))) l n hl hn
+        | no h ↦
+            let s : m + (k - m) ≡ k = omega arith in
+            let z = each-head (rw ((rw s at (rings-rest m (k - m) o (rw e (omega arith)))) ∙ e) at a) in
+            absurd (omega arith)
+      ]
+
+  -- the states below k that are there are paired with each other
+  pub rings-has : (k : ℕ) (o : Option (List ℕ)) (l i j : ℕ) → l < labels → i < k → j < k → Long (i ∷ []) (visits succ c (rings labels k) o)
+      → Long (j ∷ []) (visits succ c (rings labels k) o) → Has succ (over l i j) (visits succ c (rings labels k) o)
+  rings-has k o l i j hl hi hj a b = elim (decLt i j) [
+    | yes h ↦ each-head (turn-has j k o l i hj hl (omega arith) b)
+    | no h ↦ each-head (each-tail (turn-has i k o l j hi hl (omega arith) a))
+  ]

@@ -1,10 +1,8 @@
 -- What a builder's codes keep while it grows: none stands twice, and those of an "exists" are sets of states of its part. Assumes nothing.
-use Rattle.words.proofs.Vocabulary.{ℕ, _≤_, _<_, true, _≡_, _∙_, refl, sym, subst, List, [], _∷_, some, le-leb, take, replicate, getD, getD-take, length}
-use Rattle.words.proofs.Vocabulary.{arith}
+use Rattle.words.proofs.Vocabulary.{ℕ, _≤_, _<_, true, _≡_, _∙_, refl, sym, subst, List, [], _∷_, some, take, getD, getD-take, length, arith}
 use Rattle.words.specs.Word.{Below, mem}
 use Rattle.layout.specs.Shape.{Shaped, labelsIn, Each, nil, cons}
-use Rattle.layout.proofs.Places.{each-map}
-use Rattle.table.specs.Entry.{Step, Within, through, on}
+use Rattle.table.specs.Entry.{Step, through}
 use Rattle.table.specs.Rows.{Ready, Inside, Led}
 use Rattle.table.specs.Succ.{Ranged, firstStep, secondStep, kindCode, successorOf, existsStart, startCode, startOf}
 use Rattle.table.specs.declared.plan.Kind.{Kind}
@@ -12,35 +10,26 @@ use Rattle.table.specs.declared.plan.Kind.the-variants.{Exists}
 use Rattle.table.specs.declared.plan.Plan.{Plan}
 use Rattle.table.proofs.Sets.{exists-below}
 use Rattle.table.proofs.Start.{closing-below}
-use Rattle.exploring.specs.Explore.{Visit, Distinct, over, row, ring}
+use Rattle.exploring.specs.Explore.{Visit, Distinct, ring}
 use Rattle.exploring.specs.Filling.{Guided, listed, Visited}
 use Rattle.exploring.specs.declared.Builder.{Builder}
-use Rattle.exploring.proofs.Found.{Codes, Good, Proper, visits-good, one-code}
-use Rattle.exploring.proofs.Grow.{row-all, ring-all}
+use Rattle.exploring.proofs.Found.{Codes, Good, Proper, proper, visits-good, one-code}
+use Rattle.exploring.proofs.Grow.{ring-all}
 use Rattle.exploring.proofs.Steps.{Sized, is-list, list-long}
 
--- a builder that has the start alone
-pub start-listed : (c start : ℕ) → 0 < c → listed c (record { codes = replicate 64 start; count = 1 }) ≡ some (start ∷ [])
-start-listed c start h = rw (le-leb 1 c h)
-
-pub row-proper : (labels l k m : ℕ) → l < labels → Each (Proper labels) (row l k m)
-row-proper labels l k m h = row-all l k m (λ i hi. (record { label = h; two = refl }, record { label = h; two = refl }))
-
-pub one-proper : (labels l i j : ℕ) → l < labels → Each (Proper labels) (over l i j ∷ [])
-one-proper labels l i j h = cons (record { label = h; two = refl }) nil
-
 pub ring-proper : (labels k m : ℕ) → m ≤ labels → Each (Proper labels) (ring k m)
-ring-proper labels k m h = ring-all k m (λ l i hl hi. (record { label = omega arith; two = refl }, record { label = omega arith; two = refl }))
+ring-proper labels k m h = ring-all k m (λ l i hl hi. let q : l < labels = omega arith in cons (proper q) (cons (proper q) nil))
 
 -- what holds of the codes, and of what follows codes of which it holds, holds of the codes that are found
 module _ {succ : Step} {p : Plan} {vs : List Visit} {b r : Builder} {ws ws′ : List ℕ} (sb : Sized (p .shape .ceiling) b) (sr : Sized (p .shape .ceiling) r)
-    (proper : Each (Proper (labelsIn (p .shape))) vs) (f : Visited succ p vs b r ws ws′) where
+    (all : Each (Proper (labelsIn (p .shape))) vs) (f : Visited succ p vs b r ws ws′) where
   visited-codes : (P : ℕ → Type 0) → ((l : ℕ) (xs : List ℕ) → l < labelsIn (p .shape) → length xs ≡ 2 → Each P xs → P (succ l xs))
       → Codes P (take (b .count) (b .codes)) → Codes P (take (r .count) (r .codes))
   visited-codes P closed ok =
       let c = p .shape .ceiling in
       let before : Good P c (listed c b) = subst (Good P c) (sym (is-list sb)) (ok, omega (arith, list-long sb, sb .few)) in
-      subst (Good P c) (is-list sr) (subst (Good P c) (sym (f .list)) (visits-good succ c (labelsIn (p .shape)) P closed vs (listed c b) proper before)) .0
+      let after = visits-good succ succ c (labelsIn (p .shape)) P (λ l xs hl n e. (refl, closed l xs hl n e)) vs (listed c b) all before .0 in
+      subst (Good P c) (sym (f .list) ∙ is-list sr) after .0
 
   -- none stands twice: of any code this asks nothing
   pub visited-apart : Distinct (take (b .count) (b .codes)) → Distinct (take (r .count) (r .codes))
@@ -60,13 +49,13 @@ module _ (low : List ℕ) (p : Plan) (shape : Shaped (p .shape)) where
   pub ring-guided : (k m : ℕ) {b r : Builder} {ws ws′ : List ℕ} → Sized (p .shape .ceiling) b → Sized (p .shape .ceiling) r → m ≤ labelsIn (p .shape)
       → Visited (successorOf low p) p (ring k m) b r ws ws′ → Guided low p (listed (p .shape .ceiling) b) → Guided low p (listed (p .shape .ceiling) r)
   ring-guided k m sb sr hm f g =
-      let proper = ring-proper (labelsIn (p .shape)) k m hm in
+      let all = ring-proper (labelsIn (p .shape)) k m hm in
       let h = subst (Guided low p) (is-list sb) g in
       subst (Guided low p) (sym (is-list sr)) (
-        visited-apart sb sr proper f (h .0),
+        visited-apart sb sr all f (h .0),
         λ e.
             let w = h .1 e in
-            (w .0, w .1, visited-codes sb sr proper f (Below (w .0)) (inside-closed low p (w .0) shape e (w .1)) (record { distinct = h .0; all = w .2 }) .all),
+            (w .0, w .1, visited-codes sb sr all f (Below (w .0)) (inside-closed low p (w .0) shape e (w .1)) (record { distinct = h .0; all = w .2 }) .all),
       )
 
   module _ {r : Builder} (sr : Sized (p .shape .ceiling) r) (g : Guided low p (listed (p .shape .ceiling) r)) where

@@ -1,8 +1,8 @@
 -- The places of entries: within the share, one entry at each, and an entry for each place; shares are small and apart. Assumes nothing.
-use Rattle.words.proofs.Vocabulary.{ℕ, _≤_, _<_, _+_, _*_, suc, _%_, zero, _^_, _/_, _≡_, _∙_, refl, sym, ap, ap₂, subst, List, [], _∷_, _++_, map}
-use Rattle.words.proofs.Vocabulary.{digits-lt, digits-div, digits-mod, length, length-map, length-append, replicate, pow-mono, pow-suc, mul-le-mul-right}
+use Rattle.words.proofs.Vocabulary.{ℕ, _≤_, _<_, _+_, _*_, suc, _%_, zero, _^_, _/_, _≡_, _∙_, refl, sym, ap, subst, List, [], _∷_, _++_, map, digits-lt}
+use Rattle.words.proofs.Vocabulary.{digits-div, digits-mod, length, length-map, length-append, replicate, pow-mono, mul-le-mul-right, mul-le-mul-left}
+use Rattle.words.proofs.Vocabulary.{mul-assoc, suc-mul, mod-lt, div-add-mod', decLt, arith}
 use native.Mathlib.Nat.{pow-zero, pow-succ'}
-use Rattle.words.proofs.Vocabulary.{mul-le-mul-left, mul-assoc, suc-mul, mod-lt, div-add-mod', decLt, not-suc-le-zero, arith}
 use Rattle.layout.specs.Shape.{Shaped, labelsIn, shareOf, shareAt, Each, nil, cons, Tuple, digitsOf, placeIn, aboveDigits, lowDigits, labelAt, statesAt}
 use Rattle.layout.specs.declared.Shape.{Shape}
 
@@ -68,16 +68,13 @@ pub pairs-of : (s : Shape) → Shaped s → {n : ℕ} (P : List ℕ → Type 0) 
 pairs-of s h P f is t = pair-of P f is (record { long = t .long ∙ h .branches; below = t .below })
 
 -- ---- digits
-times-one : (c n : ℕ) → n * c ^ 0 ≡ n
-times-one c n = ap (λ (z : ℕ). n * z) (pow-zero c) ∙ omega arith
+pow-step : (c n k : ℕ) → n * c ^ suc k ≡ n * c * c ^ k
+pow-step c n k = rw (pow-succ', mul-assoc)
 
 digits-in : (c n l : ℕ) (is : List ℕ) → l < n → Each (λ (i : ℕ). i < c) is → digitsOf c l is < n * c ^ length is
 unfolding digitsOf
-digits-in c n l [] h e = omega (arith, times-one c n)
-digits-in c n l (i ∷ is) h e =
-    let a = digits-in c (n * c) (l * c + i) is (digits-lt h (each-head e)) (each-tail e) in
-    let b : n * c * c ^ length is ≡ n * c ^ suc (length is) = mul-assoc n c (c ^ length is) ∙ ap (λ (z : ℕ). n * z) (sym (pow-succ' c (length is))) in
-    omega arith
+digits-in c n l [] h e = rw pow-zero (omega arith)
+digits-in c n l (i ∷ is) h (cons p e) = rw pow-step (digits-in c (n * c) (l * c + i) is (digits-lt h p) e)
 
 digits-one : (c l m : ℕ) (is js : List ℕ) → length is ≡ length js → Each (λ (i : ℕ). i < c) is → Each (λ (i : ℕ). i < c) js
     → digitsOf c l is ≡ digitsOf c m js → (l ≡ m) × (is ≡ js)
@@ -85,11 +82,11 @@ unfolding digitsOf
 digits-one c l m [] [] h a b e = (e, refl)
 digits-one c l m [] (j ∷ js) h a b e = absurd (omega arith)
 digits-one c l m (i ∷ is) [] h a b e = absurd (omega arith)
-digits-one c l m (i ∷ is) (j ∷ js) h a b e =
-    let r = digits-one c (l * c + i) (m * c + j) is js (omega arith) (each-tail a) (each-tail b) e in
-    let p : l ≡ m = sym (digits-div l (each-head a)) ∙ ap (λ (n : ℕ). n / c) (r .0) ∙ digits-div m (each-head b) in
-    let q : i ≡ j = sym (digits-mod l (each-head a)) ∙ ap (λ (n : ℕ). n % c) (r .0) ∙ digits-mod m (each-head b) in
-    (p, ap₂ (λ (x : ℕ) (xs : List ℕ). x ∷ xs) q (r .1))
+digits-one c l m (i ∷ is) (j ∷ js) h (cons x a) (cons y b) e =
+    let r = digits-one c (l * c + i) (m * c + j) is js (omega arith) a b e in
+    let p : l ≡ m = sym (digits-div l x) ∙ ap (λ (n : ℕ). n / c) (r .0) ∙ digits-div m y in
+    let q : i ≡ j = sym (digits-mod l x) ∙ ap (λ (n : ℕ). n % c) (r .0) ∙ digits-mod m y in
+    (p, cc)
 
 digits-last : (c l j : ℕ) (is : List ℕ) → digitsOf c l (is ++ (j ∷ [])) ≡ digitsOf c l is * c + j
 unfolding digitsOf
@@ -99,9 +96,7 @@ digits-last c l j (i ∷ is) = digits-last c (l * c + i) j is
 digits-whole : (c k q : ℕ) → digitsOf c (aboveDigits c k q) (lowDigits c k q) ≡ q
 unfolding digitsOf aboveDigits lowDigits
 digits-whole c zero q = refl
-digits-whole c (suc k) q =
-    digits-last c (aboveDigits c k (q / c)) (q % c) (lowDigits c k (q / c))
-    ∙ ap (λ (z : ℕ). z * c + q % c) (digits-whole c k (q / c)) ∙ div-add-mod' q c
+digits-whole c (suc k) q = rw (digits-last, digits-whole c k (q / c)) (div-add-mod' q c)
 
 digits-tuple : (c k q : ℕ) → 0 < c → Tuple k c (lowDigits c k q)
 unfolding lowDigits
@@ -115,12 +110,11 @@ digits-tuple c (suc k) q h =
 
 digits-least : (c l : ℕ) (is : List ℕ) → l * c ^ length is ≤ digitsOf c l is
 unfolding digitsOf
-digits-least c l [] = omega (arith, times-one c l)
+digits-least c l [] = rw pow-zero (omega arith)
 digits-least c l (i ∷ is) =
     let a = digits-least c (l * c + i) is in
-    let b : l * c * c ^ length is ≡ l * c ^ suc (length is) = mul-assoc l c (c ^ length is) ∙ ap (λ (z : ℕ). l * z) (sym (pow-succ' c (length is))) in
     let d : l * c * c ^ length is ≤ (l * c + i) * c ^ length is = mul-le-mul-right (c ^ length is) (omega arith) in
-    omega arith
+    rw pow-step (omega arith)
 
 -- ---- shares
 pub few-labels : (s : Shape) → Shaped s → (2 ≤ labelsIn s) × (labelsIn s ≤ 256)
@@ -131,9 +125,7 @@ few-labels s h =
 
 pub share-two : (s : Shape) → Shaped s → shareOf s ≡ labelsIn s * s .ceiling * s .ceiling
 unfolding shareOf
-share-two s h =
-    let a : s .ceiling ^ 2 ≡ s .ceiling * s .ceiling = pow-suc (s .ceiling) 1 ∙ ap (λ (z : ℕ). z * s .ceiling) (pow-suc (s .ceiling) 0 ∙ ap (λ (z : ℕ). z * s .ceiling) (pow-zero (s .ceiling)) ∙ omega arith) in
-    ap (λ (k : ℕ). labelsIn s * s .ceiling ^ k) (h .branches) ∙ ap (λ (z : ℕ). labelsIn s * z) a ∙ sym (mul-assoc (labelsIn s) (s .ceiling) (s .ceiling))
+share-two s h = rw (h .branches, pow-step (s .ceiling) (labelsIn s) 1, pow-step (s .ceiling) _ 0, pow-zero) (omega arith)
 
 pub share-small : (s : Shape) → Shaped s → (labelsIn s * s .ceiling ≤ 16384) × (shareOf s ≤ 1048576)
 share-small s h =
@@ -156,7 +148,7 @@ share-next s r m h = subst (λ (n : ℕ). n ≤ m * shareOf s) (suc-mul r (share
 module _ (s : Shape) where
   pub place-in : (l : ℕ) (is : List ℕ) → l < labelsIn s → Tuple (s .branches) (s .ceiling) is → placeIn s l is < shareOf s
   unfolding placeIn shareOf
-  place-in l is h t = subst (λ (k : ℕ). digitsOf (s .ceiling) l is < labelsIn s * s .ceiling ^ k) (t .long) (digits-in (s .ceiling) (labelsIn s) l is h (t .below))
+  place-in l is h t = rw (t .long) at (digits-in (s .ceiling) (labelsIn s) l is h (t .below))
 
   -- two entries at one place are one
   pub place-one : (l m : ℕ) (is js : List ℕ) → Tuple (s .branches) (s .ceiling) is → Tuple (s .branches) (s .ceiling) js
@@ -183,13 +175,8 @@ module _ (s : Shape) where
     label-at q h = elim (decLt (labelAt s q) (labelsIn s)) [
       | yes y ↦ y
       | no y ↦
-          let over : labelsIn s ≤ labelAt s q = omega arith in
-          let t = states-at q in
-          let a = digits-least (s .ceiling) (labelAt s q) (statesAt s q) in
-          let b : labelsIn s * s .ceiling ^ length (statesAt s q) ≤ labelAt s q * s .ceiling ^ length (statesAt s q) =
-          mul-le-mul-right (s .ceiling ^ length (statesAt s q)) over in
-          let d : labelsIn s * s .ceiling ^ length (statesAt s q) ≡ labelsIn s * s .ceiling ^ s .branches =
-          ap (λ (k : ℕ). labelsIn s * s .ceiling ^ k) (t .long) in
+          let a = rw (states-at q .long) at (digits-least (s .ceiling) (labelAt s q) (statesAt s q)) in
+          let b : labelsIn s * s .ceiling ^ s .branches ≤ labelAt s q * s .ceiling ^ s .branches = mul-le-mul-right _ (omega arith) in
           absurd (omega (arith, place-at q))
     ]
 

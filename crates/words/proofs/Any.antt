@@ -1,6 +1,6 @@
 -- Laws of `any` and of the Bools that it joins. Assumes nothing.
-use Rattle.words.proofs.Vocabulary.{ℕ, _≤_, _<_, suc, zero, Bool, true, false, _||_, _&&_, or-true, or-false, _≡_, _∙_, refl, sym, ap, ap₂}
-use Rattle.words.proofs.Vocabulary.{⊎-elim, inl, inr, _⊎_, eq-eqb, eqb-true, eqb, le-of-suc-le-suc, not-suc-le-zero, eq-or-lt-of-le, arith}
+use Rattle.words.proofs.Vocabulary.{ℕ, _<_, suc, zero, Bool, _||_, true, false, _&&_, or-true, _≡_, _∙_, refl, sym, ap₂, ⊎-elim, inl, inr, _⊎_, eq-eqb}
+use Rattle.words.proofs.Vocabulary.{eqb-true, eqb, le-of-suc-le-suc, not-suc-le-zero, eq-or-lt-of-le, arith}
 use Rattle.words.specs.Word.{any}
 
 pub or-cases : (a b : Bool) → (a || b) ≡ true → (a ≡ true) ⊎ (b ≡ true)
@@ -39,17 +39,13 @@ pub any-in : (f : ℕ → Bool) (n i : ℕ) → i < n → f i ≡ true → any f
 unfolding any
 any-in f zero i h t = absurd (not-suc-le-zero h)
 any-in f (suc n) i h t =
-    ⊎-elim (λ (e : i ≡ n). ap (λ (b : Bool). any f n || b) (ap f (sym e) ∙ t) ∙ or-true (any f n))
-    (λ (l : i < n). ap (λ (b : Bool). b || f n) (any-in f n i l t)) (eq-or-lt-of-le (le-of-suc-le-suc h))
+    ⊎-elim (λ (e : i ≡ n). rw (← e, t, or-true)) (λ (l : i < n). rw (any-in f n i l t)) (eq-or-lt-of-le (le-of-suc-le-suc h))
 
--- numbers that fail the test may be left out
-pub any-skip : (f : ℕ → Bool) (m n : ℕ) → m ≤ n → ((q : ℕ) → m ≤ q → q < n → f q ≡ false) → any f n ≡ any f m
+-- none that passes
+pub any-none : (f : ℕ → Bool) (n : ℕ) → ((q : ℕ) → q < n → f q ≡ false) → any f n ≡ false
 unfolding any
-any-skip f m zero h no′ = let e : zero ≡ m = omega arith in ap (any f) e
-any-skip f m (suc n) h no′ = ⊎-elim (λ (e : m ≡ suc n). ap (any f) (sym e))
-    (λ (l : m < suc n). ap (λ (b : Bool). any f n || b) (no′ n (le-of-suc-le-suc l) (omega arith)) ∙ or-false (any f n) ∙ any-skip f m n (le-of-suc-le-suc l)
-    (λ q a b. no′ q a (omega arith)))
-    (eq-or-lt-of-le h)
+any-none f zero h = refl
+any-none f (suc n) h = rw (any-none f n (λ q l. h q (omega arith)), h n (omega arith))
 
 -- the test is passed by i alone, or one of two tests is passed
 pub any-first : (i n : ℕ) (f g h : ℕ → Bool) → i < n → ((t : ℕ) → f t ≡ (eqb i t || g t))
@@ -67,49 +63,31 @@ any-first i n f g h l e = bool-ext (any both n) (h i || any rest n) there back
         let r = any-true both n a in
         let b = and-both (f (r .0)) (h (r .0)) (r .2) in
         ⊎-elim
-        (λ (p : eqb i (r .0) ≡ true). ap (λ (x : Bool). x || any rest n) (ap h (eqb-true i (r .0) p) ∙ b .1))
-        (λ (p : g (r .0) ≡ true). ap (λ (x : Bool). h i || x) (any-in rest n (r .0) (r .1) (ap₂ _&&_ p (b .1))) ∙ or-true (h i))
+        (λ (p : eqb i (r .0) ≡ true). rw (eqb-true i (r .0) p, b .1))
+        (λ (p : g (r .0) ≡ true). rw (any-in rest n (r .0) (r .1) (ap₂ _&&_ p (b .1)), or-true))
         (or-cases (eqb i (r .0)) (g (r .0)) (sym (e (r .0)) ∙ b .0))
 
     back : (h i || any rest n) ≡ true → any both n ≡ true
     back a =
         ⊎-elim
-        (λ (p : h i ≡ true). any-in both n i l (ap₂ _&&_ (e i ∙ ap (λ (x : Bool). x || g i) (eq-eqb i i refl)) p))
+        (λ (p : h i ≡ true). any-in both n i l (rw (e i, eq-eqb i i refl) p))
         (λ (p : any rest n ≡ true).
         let r = any-true rest n p in
         let b = and-both (g (r .0)) (h (r .0)) (r .2) in
-        any-in both n (r .0) (r .1) (ap₂ _&&_ (e (r .0) ∙ ap (λ (x : Bool). eqb i (r .0) || x) (b .0) ∙ or-true (eqb i (r .0))) (b .1)))
+        any-in both n (r .0) (r .1) (rw (e (r .0), b .0, or-true) (b .1)))
         (or-cases (h i) (any rest n) a)
 
 -- two walks may change places
+swapped : (n m : ℕ) (f g : ℕ → Bool) (h : ℕ → ℕ → Bool)
+    → any (λ (i : ℕ). f i && any (λ (j : ℕ). g j && h i j) m) n ≡ true → any (λ (j : ℕ). g j && any (λ (i : ℕ). f i && h i j) n) m ≡ true
+swapped n m f g h a =
+    let i = any-true (λ (i : ℕ). f i && any (λ (j : ℕ). g j && h i j) m) n a in
+    let p = and-both (f (i .0)) (any (λ (j : ℕ). g j && h (i .0) j) m) (i .2) in
+    let j = any-true (λ (j : ℕ). g j && h (i .0) j) m (p .1) in
+    let q = and-both (g (j .0)) (h (i .0) (j .0)) (j .2) in
+    any-in (λ (j : ℕ). g j && any (λ (i : ℕ). f i && h i j) n) m (j .0) (j .1)
+    (ap₂ _&&_ (q .0) (any-in (λ (i : ℕ). f i && h i (j .0)) n (i .0) (i .1) (ap₂ _&&_ (p .0) (q .1))))
+
 pub any-swap : (n m : ℕ) (f g : ℕ → Bool) (h : ℕ → ℕ → Bool)
     → any (λ (i : ℕ). f i && any (λ (j : ℕ). g j && h i j) m) n ≡ any (λ (j : ℕ). g j && any (λ (i : ℕ). f i && h i j) n) m
-any-swap n m f g h = bool-ext (any rows n) (any columns m) there back
-  where
-    row : ℕ → ℕ → Bool
-    row i j = g j && h i j
-
-    column : ℕ → ℕ → Bool
-    column j i = f i && h i j
-
-    rows : ℕ → Bool
-    rows i = f i && any (row i) m
-
-    columns : ℕ → Bool
-    columns j = g j && any (column j) n
-
-    there : any rows n ≡ true → any columns m ≡ true
-    there a =
-        let i = any-true rows n a in
-        let p = and-both (f (i .0)) (any (row (i .0)) m) (i .2) in
-        let j = any-true (row (i .0)) m (p .1) in
-        let q = and-both (g (j .0)) (h (i .0) (j .0)) (j .2) in
-        any-in columns m (j .0) (j .1) (ap₂ _&&_ (q .0) (any-in (column (j .0)) n (i .0) (i .1) (ap₂ _&&_ (p .0) (q .1))))
-
-    back : any columns m ≡ true → any rows n ≡ true
-    back a =
-        let j = any-true columns m a in
-        let p = and-both (g (j .0)) (any (column (j .0)) n) (j .2) in
-        let i = any-true (column (j .0)) n (p .1) in
-        let q = and-both (f (i .0)) (h (i .0) (j .0)) (i .2) in
-        any-in rows n (i .0) (i .1) (ap₂ _&&_ (q .0) (any-in (row (i .0)) m (j .0) (j .1) (ap₂ _&&_ (p .0) (q .1))))
+any-swap n m f g h = bool-ext _ _ (swapped n m f g h) (swapped m n g f (λ j i. h i j))

@@ -1,15 +1,15 @@
 -- `build` meets its contract. The invariant: the states below k are paired with each other. Assumes nothing.
-use Rattle.words.proofs.Vocabulary.{ℕ, _≤_, _<_, _-_, _≡_, _∙_, refl, sym, subst, inl, inr, List, length, take, replicate, arith}
-use Rattle.layout.specs.Shape.{labelsIn}
+use Rattle.words.proofs.Vocabulary.{ℕ, _≤_, _-_, _≡_, _∙_, refl, sym, subst, inl, inr, List, [], length, take, replicate, le-leb, arith}
+use Rattle.layout.specs.Shape.{labelsIn, nil}
 use Rattle.layout.proofs.Places.{id-length}
 use Rattle.table.specs.Succ.{Room, succIn}
 use Rattle.table.specs.declared.plan.Plan.{Plan}
-use Rattle.exploring.specs.Explore.{ring, rings}
+use Rattle.exploring.specs.Explore.{rings}
 use Rattle.exploring.specs.Filling.{Guided, listed, Visited}
 use Rattle.exploring.specs.declared.Builder.{Builder}
-use Rattle.exploring.proofs.Fill.{visited-first}
-use Rattle.exploring.proofs.Guide.{ring-guided, start-listed}
-use Rattle.exploring.proofs.Loops.{same-succ, rings-next, explored}
+use Rattle.exploring.proofs.Fill.{visited-idle}
+use Rattle.exploring.proofs.Guide.{ring-guided}
+use Rattle.exploring.proofs.Loops.{rings-next, explored}
 use Rattle.exploring.proofs.build.Statement.{statement}
 use Rattle.exploring.proofs.build.Tie as tie
 
@@ -37,7 +37,6 @@ loop-holds : tie.Need-loop-holds Inv-loop μ-loop
 unfolding rings
 loop-holds c =
     let s = c .before .before in
-    let a = s .args in
     let shape = s .pre .0 .ranged .shape in
     record {
       within = omega arith;
@@ -45,61 +44,43 @@ loop-holds c =
       room = s .pre .0;
       full = refl;
       found = omega arith;
-      guided = λ few. subst (Guided _ (a .p)) (sym (start-listed (a .p .shape .ceiling) (a .start) (shape .some-state))) (s .pre .1);
-      visited = visited-first (omega (arith, shape .some-state));
+      guided = λ few. rw (le-leb 1 (s .args .p .shape .ceiling) (shape .some-state)) (s .pre .1);
+      visited = visited-idle [] (omega (arith, shape .some-state)) nil;
     }
-
-returns : tie.Need-returns Inv-loop μ-loop
-returns c =
-    let i = c .before .before .before .before .loop .inv in
-    explored _ (i .room .ranged .shape) (i .full) (i .within) (inr (c .if2 .taken)) (i .visited)
 
 visit-ring-requires : tie.Need-visit-ring-requires Inv-loop μ-loop
 visit-ring-requires c κs =
-    let s = c .before .before .before .before .before .before .before .before .before in
-    let a = s .args in
-    let h = c .before .before .before .before .before .before .loop in
-    let few : h .b .count ≤ a .p .shape .ceiling = omega arith in (
-      h .inv .room,
-      (
-        (c .before .before .before .before .if1 .taken, few),
-        subst (λ (v : List ℕ). Guided v (a .p) (listed (a .p .shape .ceiling) (h .b))) (sym (h .inv .visited .kept .low)) (h .inv .guided few),
-      ),
-    )
+    let i = c .before .before .before .before .before .before .loop .inv in
+    let few = c .before .before .if2 .left in
+    (i .room, ((c .before .before .before .before .if1 .taken, few), rw (i .visited .kept .low) (i .guided few)))
 
 loop-again : tie.Need-loop-again Inv-loop μ-loop
 loop-again c =
-    let s = c .before .before .before .before .before .before .before .before .before .before .before .before in
-    let a = s .args in
+    let p = c .before .before .before .before .before .before .before .before .before .before .before .before .args .p in
     let h = c .before .before .before .before .before .before .before .before .before .loop in
     let i = h .inv in
     let t = c .before .before .before .before .before .before .before .if1 .taken in
-    let few : h .b .count ≤ a .p .shape .ceiling = omega arith in
+    let few : h .b .count ≤ p .shape .ceiling = omega arith in
     let v = c .before .before .visit-ring in
-    let shape = s .pre .0 .ranged .shape in
+    let shape = i .room .ranged .shape in
     let full = id-length (v .result .codes) (v .ok .1 .1 .0 .1 .0 .1) in
-    let turn =
-    same-succ (λ g. Visited g (a .p) (ring (h .k) (labelsIn (a .p .shape))) (h .b) (v .result) (h .ws) (v .last .0)) (a .p) (a .ws .now) (h .ws)
-    (i .visited .kept .low) (v .ensures) in
+    let turn = rw (i .visited .kept .low) at (v .ensures) in
     record {
       within = omega arith;
       long = v .kept .0 ∙ i .long;
-      room = subst (Room (a .p)) (sym (v .kept .0)) (i .room);
+      room = subst (Room p) (sym (v .kept .0)) (i .room);
       full = full;
       found = omega (arith, turn .more);
       guided = λ few₁.
-          ring-guided (take (a .p .base) (a .ws .now)) (a .p) shape (h .k) _ (record { full = i .full; top = shape .ceiling; few = few })
+          ring-guided _ p shape (h .k) _ (record { full = i .full; top = shape .ceiling; few = few })
           (record { full = full; top = shape .ceiling; few = few₁ }) (omega arith) turn (i .guided few);
       visited = rings-next _ (h .k) (i .visited) turn;
     }
 
-returns-2 : tie.Need-returns-2 Inv-loop μ-loop
-returns-2 c =
-    let i = c .before .before .loop .inv in
-    explored _ (i .room .ranged .shape) (i .full) (i .within) (inl (omega arith)) (i .visited)
-
 pub build-spec : {M : Type 1} → statement M
 build-spec =
     tie.close
-    (tie.spec Inv-loop μ-loop loop-holds (λ c. c .before .before .before .before .loop .inv .long) returns visit-ring-requires (λ c. omega arith)
-    (λ c. omega arith) loop-again (λ c. c .before .before .loop .inv .long) returns-2)
+    (tie.spec Inv-loop μ-loop loop-holds (λ c. c .before .before .before .before .loop .inv .long)
+    (λ c. let i = c .before .before .before .before .loop .inv in explored _ (i .room .ranged .shape) (i .within) (inr (c .if2 .taken)) (i .visited))
+    visit-ring-requires (λ c. omega arith) (λ c. omega arith) loop-again (λ c. c .before .before .loop .inv .long)
+    (λ c. let i = c .before .before .loop .inv in explored _ (i .room .ranged .shape) (i .within) (inl (omega arith)) (i .visited)))

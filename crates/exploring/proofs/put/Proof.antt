@@ -1,7 +1,5 @@
 -- `put` meets its contract. Assumes nothing.
-use Rattle.words.proofs.Vocabulary.{ℕ, _+_, _∙_, ap, ⊎-elim, List, Option, needs, arith}
-use Rattle.exploring.specs.Filling.{listed}
-use Rattle.exploring.specs.declared.Builder.{Builder}
+use Rattle.words.proofs.Vocabulary.{⊎-elim, needs, arith}
 use Rattle.layout.proofs.Places.{id-length}
 use Rattle.exploring.proofs.Steps.{put-old, put-new, put-full}
 use Rattle.exploring.proofs.put.Statement.{statement}
@@ -16,13 +14,12 @@ returns c =
 returns-2 : tie.Need-returns-2
 returns-2 c =
     let a = c .before .before .args in
-    let n = id-length (a .b .codes) (c .before .before .good .0 .1 .1 .0 .1 .0 .1) in
-    let then : (r : Builder) → Option (List ℕ) = λ r. listed (a .c) (record { codes = r .codes; count = a .b .count + 1 }) in (
+    let n = id-length (a .b .codes) (c .before .before .good .0 .1 .1 .0 .1 .0 .1) in (
       omega arith,
       omega arith,
       ⊎-elim
-          (λ w. ap then (w .1) ∙ put-new (a .c) (a .x) (a .b .count) (a .b .codes) n (omega arith) (omega arith) (omega arith) (w .0 .taken))
-          (λ w. ap then (w .1) ∙ put-full (a .c) (a .x) (a .b .count) (a .b .codes) n (omega arith) (omega arith) (a .b .codes) (omega arith) (w .0 .left))
+          (λ w. rw (w .1) (put-new (a .c) (a .x) (a .b .count) (a .b .codes) n (omega arith) (omega arith) (omega arith) (w .0 .taken)))
+          (λ w. rw (w .1) (put-full (a .c) (a .x) (a .b .count) (a .b .codes) n (omega arith) (omega arith) (a .b .codes) (omega arith) (w .0 .left)))
           (c .if2 .came),
     )
 

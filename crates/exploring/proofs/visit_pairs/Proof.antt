@@ -1,15 +1,17 @@
 -- `visit_pairs` meets its contract. The invariant: the pairs of k with the states below i have their entries, both ways. Assumes nothing.
-use Rattle.words.proofs.Vocabulary.{ℕ, _≤_, _<_, _+_, _-_, _≡_, _∙_, refl, sym, ap, subst, ⊎-elim, List, [], _∷_, length, take, arith}
-use Rattle.layout.specs.Shape.{Tuple, nil, cons}
-use Rattle.layout.proofs.Places.{id-length, each-append, pair-in}
+use Rattle.words.proofs.Vocabulary.{ℕ, _≤_, _<_, _+_, _-_, _≡_, _∙_, refl, sym, subst, ⊎-elim, inl, inr, List, [], _∷_, _++_, length, take, arith}
+use Rattle.layout.specs.Shape.{labelsIn, Each, nil, cons}
+use Rattle.layout.proofs.Places.{id-length, each-append, tuple-up, pair-in}
+use Rattle.table.specs.Rows.{Serves}
 use Rattle.table.specs.Succ.{Room, succIn}
 use Rattle.table.specs.declared.plan.Plan.{Plan}
-use Rattle.exploring.specs.Explore.{over, row}
-use Rattle.exploring.specs.Filling.{Visited, Visitable}
+use Rattle.exploring.specs.Explore.{Visit, Distinct, codesAt, over, row}
+use Rattle.exploring.specs.Filling.{Noted, Visited, Visitable}
 use Rattle.exploring.specs.declared.Builder.{Builder}
-use Rattle.exploring.proofs.Fill.{no-more, entered-old, entered-new, visited-first, visited-next}
-use Rattle.exploring.proofs.Guide.{row-proper, one-proper, visited-apart}
-use Rattle.exploring.proofs.Loops.{row-next, code-later}
+use Rattle.exploring.proofs.Fill.{can-put, PutIn, entered, visited-idle, visited-next}
+use Rattle.exploring.proofs.Found.{Proper, proper}
+use Rattle.exploring.proofs.Guide.{visited-apart}
+use Rattle.exploring.proofs.Loops.{row-more, code-later}
 use Rattle.exploring.proofs.Steps.{Sized}
 use Rattle.exploring.proofs.visit_pairs.Statement.{statement}
 use Rattle.exploring.proofs.visit_pairs.Tie as tie
@@ -18,17 +20,50 @@ use Rattle.exploring.proofs.visit_pairs.Lts as lts
 use Rattle.exploring.proofs.note.Reads as note-reads
 use Rattle.exploring.proofs.put.Reads as put-reads
 
--- what holds before the pairs of k and i
-record Turn (ws₀ ws : List ℕ) (p : Plan) (b r : Builder) (l k i : ℕ) : Type 0 where
-  pub within : i ≤ k + 1
+-- what holds once the visits vs are made
+record Turn (ws₀ ws left right : List ℕ) (p : Plan) (b r : Builder) (l k : ℕ) (vs : List Visit) : Type 0 where
+  pub start : Visitable p b l k
+  pub serves : Serves (succIn ws₀ p) l (b .codes) k left right
+  pub sized : Sized (p .shape .ceiling) b
   pub long : length ws ≡ length ws₀
   pub room : Room p (length ws)
-  pub sized : Sized (p .shape .ceiling) b
   pub full : length (r .codes) ≡ 64
-  pub visited : Visited (succIn ws₀ p) p (row l k i) b r ws₀ ws
+  pub all : Each (Proper (labelsIn (p .shape))) vs
+  pub visited : Visited (succIn ws₀ p) p vs b r ws₀ ws
+
+-- the next visit, of states i and j up to k
+module _ {ws₀ ws left right : List ℕ} {p : Plan} {b r : Builder} {l k : ℕ} {vs : List Visit} (t : Turn ws₀ ws left right p b r l k vs) (i j : ℕ)
+    (hi : i ≤ k) (hj : j ≤ k) where
+  can-note : Room p (length ws) × (((l < labelsIn (p .shape)) × (i < r .count) × (j < r .count) × (length (r .codes) ≡ 64))
+      × (r .count ≤ p .shape .ceiling → Distinct (take (r .count) (r .codes))))
+  can-note =
+      let there : k < r .count = omega (arith, t .visited .more, t .start .state) in
+      let apart : r .count ≤ p .shape .ceiling → Distinct (take (r .count) (r .codes)) = λ few.
+      visited-apart (t .sized) (record { full = t .full; top = t .sized .top; few = few }) (t .all) (t .visited) (t .start .distinct) in
+      (t .room, ((t .start .label, omega arith, omega arith, t .full), apart))
+
+  made : {ws′ : List ℕ} {x at : ℕ} {s : Builder} → x ≡ succIn ws₀ p l (codesAt (b .codes) (i ∷ j ∷ []))
+      → Noted p (r .codes) (r .count) (over l i j) x at ws ws′ → length ws′ ≡ length ws → PutIn (p .shape .ceiling) x at r s
+      → Turn ws₀ ws′ left right p b s l k (vs ++ (over l i j ∷ []))
+  made ex noted same put =
+      let low : i < b .count = omega (arith, t .start .state) in
+      let high : j < b .count = omega (arith, t .start .state) in
+      let later = code-later l (t .sized) (t .visited) (cons low (cons high nil)) ex in
+      let there = tuple-up (t .visited .more) (pair-in (p .shape) (t .room .ranged .shape) low high) in
+      record {
+        start = t .start;
+        serves = t .serves;
+        sized = t .sized;
+        long = same ∙ t .long;
+        room = subst (Room p) (sym same) (t .room);
+        full = ⊎-elim (λ w. w .1) (λ w. rw (w .1) (t .full)) put;
+        all = each-append (t .all) (cons (proper (t .start .label)) nil);
+        visited = visited-next (t .visited) (entered (t .room) (t .room .blind (take (p .base) ws₀)) (t .start .label) (t .start .own) there
+            (t .visited .most) (t .full) later noted put);
+      }
 
 abbrev Inv-loop : tie.InvT-loop
-Inv-loop ws₀ p l k left right hints₀ c r₀ i₀ ws hints r i = Turn ws₀ ws p r₀ r l k i
+Inv-loop ws₀ p l k left right hints₀ c r₀ i₀ ws hints r i = (i ≤ k + 1) × Turn ws₀ ws left right p r₀ r l k (row l k i)
 
 abbrev μ-loop : tie.MeasureT-loop
 μ-loop ws₀ p l k left right hints₀ c r₀ i₀ ws hints r i = k + 1 - i
@@ -38,156 +73,72 @@ unfolding row
 loop-holds c =
     let s = c .before .before in
     let v = s .pre .1 .0 in
-    let full = id-length (s .args .b .codes) (s .good .1 .1 .0 .1 .1 .0 .1 .0 .1) in
-    record {
-      within = omega arith;
-      long = refl;
-      room = s .pre .0;
-      sized = record { full = full; top = s .pre .0 .ranged .shape .ceiling; few = v .few };
-      full = full;
-      visited = visited-first (omega (arith, v .few));
-    }
+    let full = id-length (s .args .b .codes) (s .good .1 .1 .0 .1 .1 .0 .1 .0 .1) in (
+      omega arith,
+      record {
+        start = v;
+        serves = s .pre .1 .1;
+        sized = record { full = full; top = s .pre .0 .ranged .shape .ceiling; few = v .few };
+        long = refl;
+        room = s .pre .0;
+        full = full;
+        all = nil;
+        visited = visited-idle [] (omega (arith, v .few)) nil;
+      },
+    )
 
-note-requires : tie.Need-note-requires Inv-loop μ-loop
-note-requires c κs =
-    let s = c .before .before .before .before .before .before .before .before .before in
-    let a = s .args in
-    let h = c .before .before .before .before .before .before .loop in
-    let i = h .inv in
-    let v = s .pre .1 .0 in (
-      i .room,
-      (
-        (v .label, omega (arith, i .visited .more, v .state), omega (arith, i .visited .more, v .state), i .full),
-        λ few. visited-apart (i .sized) (record { full = i .full; top = i .sized .top; few = few }) (row-proper _ (a .l) (a .k) (h .i) (v .label)) (i .visited)
-            (v .distinct),
-      ),
+-- the first of the two visits
+first : (c : lts.Joined1 (note-reads.Asked, note-reads.Learnt, put-reads.Asked, put-reads.Learnt) reads.Pre reads.Post Inv-loop μ-loop)
+    → let t = c .before .before .before .before .before .before .before .before .before in
+    let a = t .before .before .before .before .args in
+    let i = t .before .loop .i in
+    (i ≤ a .k) × Turn (a .ws .now) (c .before .before .before .note .last .0) (a .left .now) (a .right .now) (a .p) (a .b) (c .if1 .r) (a .l) (a .k)
+    (row (a .l) (a .k) i ++ (over (a .l) i (a .k) ∷ []))
+first c =
+    let t = c .before .before .before .before .before .before .before .before .before in
+    let i = t .before .loop .inv .1 in
+    let h = t .loop-test .taken in
+    let n = c .before .before .before .note in (
+      h,
+      made i _ _ h (omega arith) (i .serves _ h .0) (n .ensures) (n .kept .0) (⊎-elim
+          (λ w. rw (w .2) (inl (w .0 .taken, id-length (w .1 .result .codes) (w .1 .ok .1 .1 .0 .1 .0 .1), w .1 .ensures)))
+          (λ w. inr (w .0 .left, w .1)) (c .if1 .came)),
     )
 
 put-requires : tie.Need-put-requires Inv-loop μ-loop
 put-requires c κs =
-    let s = c .before .before .before .before .before .before .before .before .before .before .before .before .before in
-    let h = c .before .before .before .before .before .before .before .before .before .before .loop in
-    let n = c .before .before .before .note in
-    let few = no-more (s .args .p) (h .r .count) (n .result) (c .if1 .taken) (λ h. n .ensures .passed h .0) in
-    ((few, h .inv .sized .top), n .ensures .found few)
-
--- what a visit of i and j leaves: from builder b to r, from table ws to ws′
-record Left (ws₀ ws ws′ : List ℕ) (p : Plan) (b r : Builder) (l i j : ℕ) : Type 0 where
-  pub long : length ws′ ≡ length ws₀
-  pub full : length (r .codes) ≡ 64
-  pub visited : Visited (succIn ws₀ p) p (over l i j ∷ []) b r ws ws′
-
--- the first of the two visits
-first : (c : lts.Joined1 (note-reads.Asked, note-reads.Learnt, put-reads.Asked, put-reads.Learnt) reads.Pre reads.Post Inv-loop μ-loop)
-    → let a = c .before .before .before .before .before .before .before .before .before .before .before .before .before .args in
-    let h = c .before .before .before .before .before .before .before .before .before .before .loop in
-    Left (a .ws .now) (h .ws) (c .before .before .before .note .last .0) (a .p) (h .r) (c .if1 .r) (a .l) (h .i) (a .k)
-first c =
-    let s = c .before .before .before .before .before .before .before .before .before .before .before .before .before in
-    let a = s .args in
-    let h = c .before .before .before .before .before .before .before .before .before .before .loop in
-    let t = c .before .before .before .before .before .before .before .before .before .loop-test .taken in
-    let n = c .before .before .before .note in
-    let v = s .pre .1 .0 in
-    let i = h .inv in
-    let f = i .visited in
-    let blind = s .pre .0 .blind (take (a .p .base) (a .ws .now)) in
-    let at : Tuple (a .p .shape .branches) (h .r .count) (h .i ∷ a .k ∷ []) =
-    pair-in (a .p .shape) (i .room .ranged .shape) (omega (arith, f .more, v .state)) (omega (arith, f .more, v .state)) in
-    let ex = code-later (a .l) (i .sized) f (cons (omega (arith, v .state)) (cons (v .state) nil)) (s .pre .1 .1 (h .i) t .0) in
-    ⊎-elim
-    (λ w. rw (w .2) (record {
-      long = n .kept .0 ∙ i .long;
-      full = id-length (w .1 .result .codes) (w .1 .ok .1 .1 .0 .1 .0 .1);
-      visited = entered-new (i .room) blind (v .label) (v .own) at (f .most) (i .full) ex (n .ensures) (w .0 .taken) (w .1 .ensures);
-    }))
-    (λ w. rw (w .1) (record {
-      long = n .kept .0 ∙ i .long;
-      full = i .full;
-      visited = entered-old (i .room) blind (v .label) (v .own) at (f .most) (i .full) ex (n .ensures) (w .0 .left);
-    }))
-    (c .if1 .came)
-
-note-requires-2 : tie.Need-note-requires-2 Inv-loop μ-loop
-note-requires-2 c κs =
-    let j = c .before .before .before .before .before in
-    let s = j .before .before .before .before .before .before .before .before .before .before .before .before .before in
-    let a = s .args in
-    let h = j .before .before .before .before .before .before .before .before .before .before .loop in
-    let v = s .pre .1 .0 in
-    let i = h .inv in
-    let t = j .before .before .before .before .before .before .before .before .before .loop-test .taken in
-    let d = first j in
-    let f = visited-next (i .visited) (d .visited) in
-    let more : a .b .count ≤ j .if1 .r .count = f .more in (
-      subst (Room (a .p)) (sym (d .long)) (s .pre .0),
-      (
-        (v .label, omega (arith, v .state), omega (arith, v .state), d .full),
-        λ few. visited-apart (i .sized) (record { full = d .full; top = i .sized .top; few = few })
-            (each-append (row-proper _ (a .l) (a .k) (h .i) (v .label)) (one-proper _ (a .l) (h .i) (a .k) (v .label))) f (v .distinct),
-      ),
-    )
+    let n = c .before .before .before in
+    can-put (n .note .ensures) (n .before .before .before .before .before .before .before .loop .inv .1 .sized .top) (c .if1 .taken)
 
 put-requires-2 : tie.Need-put-requires-2 Inv-loop μ-loop
 put-requires-2 c κs =
-    let j = c .before .before .before .before .before .before .before .before .before in
-    let s = j .before .before .before .before .before .before .before .before .before .before .before .before .before in
-    let n = c .before .before .before .note2 in
-    let few = no-more (s .args .p) (j .if1 .r .count) (n .result) (c .if2 .taken) (λ h. n .ensures .passed h .0) in
-    ((few, s .pre .0 .ranged .shape .ceiling), n .ensures .found few)
+    let n = c .before .before .before in
+    can-put (n .note2 .ensures) (first (n .before .before .before .before .before .before) .1 .sized .top) (c .if2 .taken)
 
 loop-again : tie.Need-loop-again Inv-loop μ-loop
 loop-again c =
-    let j = c .before .before .before .before .before .before .before .before .before in
-    let s = j .before .before .before .before .before .before .before .before .before .before .before .before .before in
-    let a = s .args in
-    let h = j .before .before .before .before .before .before .before .before .before .before .loop in
-    let t = j .before .before .before .before .before .before .before .before .before .loop-test .taken in
+    let d = first (c .before .before .before .before .before .before .before .before .before) in
     let n = c .before .before .before .note2 in
-    let v = s .pre .1 .0 in
-    let i = h .inv in
-    let d = first j in
-    let f = visited-next (i .visited) (d .visited) in
-    let r = j .if1 .r in
-    let mid = j .before .before .before .note .last .0 in
-    let room = subst (Room (a .p)) (sym (d .long)) (s .pre .0) in
-    let blind = s .pre .0 .blind (take (a .p .base) (a .ws .now)) in
-    let at : Tuple (a .p .shape .branches) (r .count) (a .k ∷ h .i ∷ []) =
-    pair-in (a .p .shape) (i .room .ranged .shape) (omega (arith, f .more, v .state)) (omega (arith, f .more, v .state)) in
-    let ex = code-later (a .l) (i .sized) f (cons (v .state) (cons (omega (arith, v .state)) nil)) (s .pre .1 .1 (h .i) t .1) in
-    let done : (length (c .if2 .r .codes) ≡ 64) × Visited (succIn (a .ws .now) (a .p)) (a .p) (over (a .l) (a .k) (h .i) ∷ []) r (c .if2 .r) mid (n .last .0) =
-    ⊎-elim
-    (λ w. rw (w .2) (
-      id-length (w .1 .result .codes) (w .1 .ok .1 .1 .0 .1 .0 .1),
-      entered-new room blind (v .label) (v .own) at (f .most) (d .full) ex (n .ensures) (w .0 .taken) (w .1 .ensures),
-    ))
-    (λ w. rw (w .1) (d .full, entered-old room blind (v .label) (v .own) at (f .most) (d .full) ex (n .ensures) (w .0 .left)))
-    (c .if2 .came) in
-    record {
-      within = omega arith;
-      long = n .kept .0 ∙ d .long;
-      room = subst (Room (a .p)) (sym (n .kept .0 ∙ d .long)) (s .pre .0);
-      sized = i .sized;
-      full = done .0;
-      visited = row-next (a .l) (a .k) (h .i) (i .visited) (d .visited) (done .1);
-    }
+    let turn = made (d .1) _ _ (omega arith) (d .0) (d .1 .serves _ (d .0) .1) (n .ensures) (n .kept .0) (⊎-elim
+    (λ w. rw (w .2) (inl (w .0 .taken, id-length (w .1 .result .codes) (w .1 .ok .1 .1 .0 .1 .0 .1), w .1 .ensures)))
+    (λ w. inr (w .0 .left, w .1)) (c .if2 .came)) in
+    (omega arith, rw row-more turn)
 
 add-i : tie.Need-add-i Inv-loop μ-loop
 add-i c =
-    let j = c .before .before .before .before .before .before .before .before .before in
-    let s = j .before .before .before .before .before .before .before .before .before .before .before .before .before in
-    let t = j .before .before .before .before .before .before .before .before .before .loop-test .taken in
-    let v = s .pre .1 .0 in
-    omega (arith, v .state, v .few, s .pre .0 .ranged .shape .ceiling)
+    let d = first (c .before .before .before .before .before .before .before .before .before) .1 in
+    omega (arith, d .start .state, d .start .few, d .sized .top)
 
 returns : tie.Need-returns Inv-loop μ-loop
 returns c =
     let h = c .before .loop in
-    let e : h .i ≡ c .before .before .before .before .args .k + 1 = omega (arith, h .inv .within) in
-    rw e at (h .inv .visited)
+    let e : h .i ≡ c .before .before .before .before .args .k + 1 = omega (arith, h .inv .0) in
+    rw e at (h .inv .1 .visited)
 
 pub visit-pairs-spec : {M : Type 1} → statement M
 visit-pairs-spec =
     tie.close
-    (tie.spec Inv-loop μ-loop loop-holds (λ c. omega arith) (λ c. omega arith) note-requires put-requires (λ c. omega arith) (λ c. omega arith)
-    note-requires-2 put-requires-2 add-i (λ c. omega arith) loop-again (λ c. c .before .loop .inv .long) returns)
+    (tie.spec Inv-loop μ-loop loop-holds (λ c. omega arith) (λ c. omega arith)
+    (λ c κs. let t = c .before .before .before .before .before in can-note (t .before .loop .inv .1) _ _ (t .loop-test .taken) (omega arith)) put-requires
+    (λ c. omega arith) (λ c. omega arith) (λ c κs. let d = first (c .before .before .before .before .before) in can-note (d .1) _ _ (omega arith) (d .0))
+    put-requires-2 add-i (λ c. omega arith) loop-again (λ c. c .before .loop .inv .1 .long) returns)

@@ -1,5 +1,5 @@
 -- `place` meets its contract. Assumes nothing.
-use Rattle.words.proofs.Vocabulary.{_∙_, sym, arith}
+use Rattle.words.proofs.Vocabulary.{sym, arith}
 use Rattle.layout.proofs.Places.{place-small, place-two}
 use Rattle.layout.proofs.place.Statement.{statement}
 use Rattle.layout.proofs.place.Tie as tie
