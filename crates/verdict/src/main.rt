@@ -8,7 +8,7 @@
 fn main() {
     let mut input = [0u8; 300];
     let n = io::read_full(0, &mut input);
-    let line = report::program::verdict_line(&input[..n]);
+    let line = program::verdict_line(&input[..n]);
     let bytes = line.bytes;
     let count = line.count;
     io::write_all(1, &bytes[..count]);

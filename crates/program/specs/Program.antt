@@ -5,8 +5,8 @@ use mathlib.Core.List.{List}
 use lib.ListN.{length, take, replicate}
 use Rattle.tree_strip.specs.TreeStrip.{treeBytes}
 use Rattle.decide.specs.Decide.{verdictOf, outOf}
 use Rattle.report.specs.Line.{lineOf}
-use Rattle.report.specs.declared.program.Output.{Output}
+use Rattle.program.specs.declared.Output.{Output}
 
 -- "of a longer input the first 300 bytes"
 abbrev pub ruleIn : List ℕ → List ℕ

@@ -1,11 +1,11 @@
--- `report::program::rule_in` meets its contract. Assumes nothing.
+-- `program::rule_in` meets its contract. Assumes nothing.
 use mathlib.Core.Path.{sym}
 use native.Mathlib.Nat.{le-of-lt}
 use native.Mathlib.Omega.{arith}
 use lib.Seq.{take-all, length-take-le}
 use borrow.Author.Needs.{needs}
-use Rattle.report.proofs.program.rule_in.Statement.{statement}
-use Rattle.report.proofs.program.rule_in.Tie as tie
+use Rattle.program.proofs.rule_in.Statement.{statement}
+use Rattle.program.proofs.rule_in.Tie as tie
 
 pub rule-in-spec : {M : Type 1} → statement M
 rule-in-spec =

@@ -1,9 +1,9 @@
--- `report::program::verdict_line` meets its contract, from those of `rule_in` and `respond`. Assumes nothing.
+-- `program::verdict_line` meets its contract, from those of `rule_in` and `respond`. Assumes nothing.
 use borrow.Author.Needs.{needs}
-use Rattle.report.specs.Program.{verdictLine}
+use Rattle.program.specs.Program.{verdictLine}
 use Rattle.report.proofs.Writing.{size, whole}
-use Rattle.report.proofs.program.verdict_line.Statement.{statement}
-use Rattle.report.proofs.program.verdict_line.Tie as tie
+use Rattle.program.proofs.verdict_line.Statement.{statement}
+use Rattle.program.proofs.verdict_line.Tie as tie
 
 returns : tie.Need-returns
 unfolding verdictLine

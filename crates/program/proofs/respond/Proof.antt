@@ -1,7 +1,7 @@
--- `report::program::respond` meets its contract. Assumes nothing.
+-- `program::respond` meets its contract. Assumes nothing.
 use borrow.Author.Needs.{needs}
-use Rattle.report.proofs.program.respond.Statement.{statement}
-use Rattle.report.proofs.program.respond.Tie as tie
+use Rattle.program.proofs.respond.Statement.{statement}
+use Rattle.program.proofs.respond.Tie as tie
 
 returns : tie.Need-returns
 returns c =

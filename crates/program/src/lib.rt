@@ -2,9 +2,9 @@
 ghost use mathlib.Core.Path.{_≡_};
 ghost use Prim.Native.Nat.{_+_, _*_, _≤_};
 ghost use lib.ListN.{length};
 ghost use Rattle.report.specs.Text.{Put};
 ghost use Rattle.report.specs.Line.{lineOf};
-ghost use Rattle.report.specs.Program.{ruleIn, Printed};
+ghost use Rattle.program.specs.Program.{ruleIn, Printed};
 ghost use Rattle.decide.specs.Decide.{verdictOf, outOf};
 
 // What the program prints: the first `count` bytes.
@@ -32,7 +32,7 @@ fn respond(rule: &[u8], ws: &mut [u8], out: &mut [u8], line: &mut [u8]) -> usize
         (outOf (now (rule .entry)) 16 60 (length (now (ws .entry))) (now (out .entry)))) r (now (line .exit)) ⌝ }
 {
     let v = decide::decide(rule, 16, 60, ws, out);
-    crate::line::write_line(v, out, line)
+    report::line::write_line(v, out, line)
 }
 
 // The line that the program prints for the bytes that it read: with 32,768 bytes of workspace, and an out buffer that holds a

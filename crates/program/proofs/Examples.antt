@@ -1,0 +1,46 @@
+-- Inputs of the verdict program and its whole output, byte for byte, by computation on the definitions. Assumes nothing.
+use Prim.Native.Nat.{ℕ}
+use mathlib.Core.Path.{_≡_, refl}
+use mathlib.Core.List.{List, [], _∷_, map}
+use native.Mathlib.Decide.{decLt}
+use Rattle.logic.specs.Tree.{downFrom, sumOf, positions, low, bit}
+use Rattle.logic.specs.Rule.{successorAt}
+use Rattle.logic.specs.Machine.{setLow, withBit, run, allOf, anyOf}
+use Rattle.logic.specs.Reach.{elem, below, flat, select, outcomes, successors, add, closure, reach, position, numbered, wordOf, members, projection}
+use Rattle.logic.specs.Table.{table, codedProduct, build, productTable, projectionTable, complementTable, tableOf, admit, buildAll, kindOf}
+use Rattle.logic.specs.Search.{settled, view, lighter, choose, consider, loop, tuples, pick, verdict, next, rounds, anyBelow, begin, search}
+use Rattle.logic.specs.Decide.{report, conclude, decideOf}
+use Rattle.bits.specs.Bits.{digits, bits, anySet, pack}
+use Rattle.rule_strip.specs.RuleStrip.{recordAt, recordsFrom, recordsOf, firstUse, secondUse, recordRefusal, recordsRefusal, ruleRefusal}
+use Rattle.tree_strip.specs.TreeStrip.{treeBits, treeStrip}
+use Rattle.rules.specs.Room.{roomRefusal}
+use Rattle.decide.specs.Decide.{earlyRefusal, tell, outAfter, verdictOf, outOf}
+use Rattle.report.specs.Text.{decimal, hex}
+use Rattle.report.specs.Line.{lineOf}
+use Rattle.program.specs.Program.{verdictLine}
+
+-- document 01's strip of X0 = X1 1 with n = 2; example c; that strip cut short; no bytes
+pub inputs : List (List ℕ)
+inputs =
+    (0x12 ∷ 0x01 ∷ 0x20 ∷ 0x00 ∷ 0x40 ∷ [])
+    ∷ (0x11 ∷ 0x03 ∷ 0x10 ∷ 0x00 ∷ 0x20 ∷ 0x00 ∷ 0x05 ∷ 0x02 ∷ 0x00 ∷ [])
+    ∷ (0x12 ∷ 0x01 ∷ 0x20 ∷ 0x00 ∷ [])
+    ∷ []
+    ∷ []
+
+-- `shown 2 4 12B800`, `none 1`, `refused 5`, `refused 1`
+pub outputs : List (List ℕ)
+outputs =
+    (115 ∷ 104 ∷ 111 ∷ 119 ∷ 110 ∷ 32 ∷ 50 ∷ 32 ∷ 52 ∷ 32 ∷ 49 ∷ 50 ∷ 66 ∷ 56 ∷ 48 ∷ 48 ∷ 10 ∷ [])
+    ∷ (110 ∷ 111 ∷ 110 ∷ 101 ∷ 32 ∷ 49 ∷ 10 ∷ [])
+    ∷ (114 ∷ 101 ∷ 102 ∷ 117 ∷ 115 ∷ 101 ∷ 100 ∷ 32 ∷ 53 ∷ 10 ∷ [])
+    ∷ (114 ∷ 101 ∷ 102 ∷ 117 ∷ 115 ∷ 101 ∷ 100 ∷ 32 ∷ 49 ∷ 10 ∷ [])
+    ∷ []
+
+pub outputs-right : map verdictLine inputs ≡ outputs
+unfolding verdictLine inputs outputs lineOf decimal hex bits anySet recordAt recordsFrom recordsOf firstUse secondUse recordRefusal recordsRefusal ruleRefusal
+    roomRefusal earlyRefusal tell outAfter verdictOf outOf low bit downFrom allOf anyOf sumOf positions successorAt kindOf setLow withBit run elem below
+    flat select outcomes successors add closure reach position numbered wordOf members projection table codedProduct build productTable projectionTable
+    complementTable tableOf admit buildAll settled view lighter choose consider loop tuples pick verdict next rounds anyBelow begin search report
+    conclude decideOf digits pack treeBits treeStrip decLt
+outputs-right = refl
