@@ -107,7 +107,7 @@ done
 spoil "$source"
 touch -t "$old" "$copy/$source"
 refused run "$source broken, and looking old" "$source:"
-alter crates.txt 's/^\(verdict:.*\) report/\1/'
+alter crates.txt 's/^\(verdict:.*\) program/\1/'
 refused run 'a crate missing in crates.txt' 'verdict NOT PROVED'
 
 # the archive
