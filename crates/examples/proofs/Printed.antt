@@ -1,4 +1,4 @@
--- Inputs of the verdict program and its whole output, byte for byte, by computation on the definitions. Assumes nothing.
+-- Lines of the verdict program, byte for byte, by computation on the definitions. Assumes nothing.
 use Prim.Native.Nat.{ℕ}
 use mathlib.Core.Path.{_≡_, refl}
 use mathlib.Core.List.{List, [], _∷_, map}
@@ -15,9 +15,11 @@ use Rattle.rule_strip.specs.RuleStrip.{recordAt, recordsFrom, recordsOf, firstU
 use Rattle.tree_strip.specs.TreeStrip.{treeBits, treeStrip}
 use Rattle.rules.specs.Room.{roomRefusal}
 use Rattle.decide.specs.Decide.{earlyRefusal, tell, outAfter, verdictOf, outOf}
+use Rattle.decide.specs.declared.Verdict.{Verdict}
+use Rattle.decide.specs.declared.Verdict.the-variants.{Shown, None, Larger, Refused, TooManyStates}
 use Rattle.report.specs.Text.{decimal, hex}
 use Rattle.report.specs.Line.{lineOf}
 use Rattle.program.specs.Program.{verdictLine}
 
 -- document 01's strip of X0 = X1 1 with n = 2; example c; that strip cut short; no bytes
 pub inputs : List (List ℕ)
@@ -44,3 +46,21 @@ unfolding verdictLine inputs outputs lineOf decimal hex bits anySet recordAt rec
     complementTable tableOf admit buildAll settled view lighter choose consider loop tuples pick verdict next rounds anyBelow begin search report
     conclude decideOf digits pack treeBits treeStrip decLt
 outputs-right = refl
+
+-- one verdict of each kind, over a buffer with a byte after the strip
+pub kinds : List Verdict
+kinds = Shown 2 4 3 ∷ None 6 ∷ Larger 3 ∷ Refused 12 ∷ TooManyStates 107 ∷ []
+
+-- `shown 2 4 12B800`, `none 6`, `larger 3`, `refused 12`, `refused 14 107`
+pub texts : List (List ℕ)
+texts =
+    (115 ∷ 104 ∷ 111 ∷ 119 ∷ 110 ∷ 32 ∷ 50 ∷ 32 ∷ 52 ∷ 32 ∷ 49 ∷ 50 ∷ 66 ∷ 56 ∷ 48 ∷ 48 ∷ 10 ∷ [])
+    ∷ (110 ∷ 111 ∷ 110 ∷ 101 ∷ 32 ∷ 54 ∷ 10 ∷ [])
+    ∷ (108 ∷ 97 ∷ 114 ∷ 103 ∷ 101 ∷ 114 ∷ 32 ∷ 51 ∷ 10 ∷ [])
+    ∷ (114 ∷ 101 ∷ 102 ∷ 117 ∷ 115 ∷ 101 ∷ 100 ∷ 32 ∷ 49 ∷ 50 ∷ 10 ∷ [])
+    ∷ (114 ∷ 101 ∷ 102 ∷ 117 ∷ 115 ∷ 101 ∷ 100 ∷ 32 ∷ 49 ∷ 52 ∷ 32 ∷ 49 ∷ 48 ∷ 55 ∷ 10 ∷ [])
+    ∷ []
+
+pub texts-right : map (λ v. lineOf v (0x12 ∷ 0xB8 ∷ 0x00 ∷ 0xFF ∷ [])) kinds ≡ texts
+unfolding kinds texts lineOf decimal hex
+texts-right = refl

@@ -1,0 +1,1 @@
+// Proofs only: the examples of document 01, computed from the definitions.
