@@ -46,9 +46,9 @@ above-zero zero = refl
 above-zero (suc v) = rw (eqb·suc-zero, leb·suc-suc, leb·zero) refl
 
 -- a ladder whose first test p gives the number suc k, and which is x where p fails
-test-first : (k : ℕ) (p : Bool) (f : Bool → ℕ) (x : ℕ) → f true ≡ suc k → f false ≡ x → f p ≡ firstOf (cond p (suc k) 0) x
-test-first k true f x h m = rw eqb·suc-zero h
-test-first k false f x h m = m
+test-first : (k : ℕ) (p : Bool) (f : Bool → ℕ) {x : ℕ} → f true ≡ suc k → f false ≡ x → f p ≡ firstOf (cond p (suc k) 0) x
+test-first k true f h m = rw eqb·suc-zero h
+test-first k false f h m = m
 
 module _ (n i a b : ℕ) where
   abbrev both : Use → Use → ℕ
@@ -57,18 +57,18 @@ module _ (n i a b : ℕ) where
 
   -- where the first field's use has no later number, its refusal comes first
   two-fields : (u w : Use) → useRefusal u ≤ useRefusal w → both u w ≡ firstOf (fieldRefusal n i u a) (fieldRefusal n i w b)
-  two-fields Variable Variable h = test-first 7 (leb n a) (λ p. ladder (p || leb n b) false false) _ refl refl
-  two-fields Variable Earlier h = test-first 7 (leb n a) (λ p. ladder (p || false) (leb i b) false) _ refl refl
+  two-fields Variable Variable h = test-first 7 (leb n a) (λ p. ladder (p || leb n b) false false) refl refl
+  two-fields Variable Earlier h = test-first 7 (leb n a) (λ p. ladder (p || false) (leb i b) false) refl refl
   two-fields Variable Unused h =
-      rw (above-zero b) (test-first 7 (leb n a) (λ p. ladder (p || false) false (leb 1 b)) _ refl refl)
+      rw (above-zero b) (test-first 7 (leb n a) (λ p. ladder (p || false) false (leb 1 b)) refl refl)
   two-fields Earlier Variable h = absurd (omega arith)
-  two-fields Earlier Earlier h = test-first 8 (leb i a) (λ p. ladder false (p || leb i b) false) _ refl refl
+  two-fields Earlier Earlier h = test-first 8 (leb i a) (λ p. ladder false (p || leb i b) false) refl refl
   two-fields Earlier Unused h =
-      rw (above-zero b) (test-first 8 (leb i a) (λ p. ladder false (p || false) (leb 1 b)) _ refl refl)
+      rw (above-zero b) (test-first 8 (leb i a) (λ p. ladder false (p || false) (leb 1 b)) refl refl)
   two-fields Unused Variable h = absurd (omega arith)
   two-fields Unused Earlier h = absurd (omega arith)
   two-fields Unused Unused h =
-      rw (above-zero a, above-zero b) (test-first 9 (leb 1 a) (λ p. ladder false false (p || leb 1 b)) _ refl refl)
+      rw (above-zero a, above-zero b) (test-first 9 (leb 1 a) (λ p. ladder false false (p || leb 1 b)) refl refl)
 
 -- so it is of each op
 ordered : (op : ℕ) → useRefusal (firstUse op) ≤ useRefusal (secondUse op)

@@ -45,6 +45,6 @@ module _ {s : List ℕ} {n m c : ℕ} (accepted : AcceptedRule s n m) (xs : List
       }
 
 -- the workspace: the build changes nothing past the shares, and they are cleared
-pub workspace-cleared : (need need′ : ℕ) (ws built ended : List ℕ) → need′ ≡ need → drop need built ≡ drop need ws
+pub workspace-cleared : {need need′ : ℕ} (ws built : List ℕ) {ended : List ℕ} → need′ ≡ need → drop need built ≡ drop need ws
     → ended ≡ replicate need′ 0 ++ drop need′ built → ended ≡ cleared need ws
-workspace-cleared need need′ ws built ended e k f = f ∙ rw (e, k)
+workspace-cleared ws built e k f = f ∙ rw (e, k)

@@ -115,5 +115,5 @@ accept-same i q A R t e = elim (ℕ-discrete i q) [
 ]
 
 -- a set without one of its members has no new one
-pub below-without : (n : ℕ) {x q r : ℕ} → Below n x → Without x q r → Below n r
-below-without n {x} {q} {r} b o t h m = b t h (o .same t ∙ ap (λ (u : Bool). eqb q t || u) m ∙ or-true (eqb q t))
+pub below-without : {n x q r : ℕ} → Below n x → Without x q r → Below n r
+below-without {n} {x} {q} {r} b o t h m = b t h (o .same t ∙ ap (λ (u : Bool). eqb q t || u) m ∙ or-true (eqb q t))

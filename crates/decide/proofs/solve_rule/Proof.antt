@@ -30,7 +30,7 @@ returns c =
     let v = b .solve in
     let w = rule-solvable (s .pre .0) (d .result) (d .ensures) (s .pre .1 .0) in (
       (rule-solved (s .pre .0) (d .result) (d .ensures) (rw e at (v .ensures .0)), v .ensures .0 .ranks),
-      workspace-cleared _ _ (a .ws .now) (v .last .0) _ (c .before .before .before .needed .ensures)
+      workspace-cleared (a .ws .now) (v .last .0) (c .before .before .before .needed .ensures)
           (rw (e, room-shares (a .n) (a .m) (a .c) (w .shape)) at (v .ensures .1)) (c .before .before .clear .ensures),
     )
 

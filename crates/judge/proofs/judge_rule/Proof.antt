@@ -30,7 +30,7 @@ returns c =
     let v = b .judge in
     let w = rule-solvable (s .pre .0) (d .result) (d .ensures) (s .pre .1 .0) in (
       rule-judged (s .pre .0) (a .c) (d .result) (d .ensures) (s .pre .1 .1) (v .result) (rw e at (v .ensures .0)),
-      workspace-cleared _ _ (a .ws .now) (v .last .0) _ (c .before .before .before .needed .ensures)
+      workspace-cleared (a .ws .now) (v .last .0) (c .before .before .before .needed .ensures)
           (rw (e, room-shares (a .n) (a .m) (a .c) (w .shape)) at (v .ensures .1)) (c .before .before .clear .ensures),
     )
 

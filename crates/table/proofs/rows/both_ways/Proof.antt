@@ -20,7 +20,7 @@ loop-again c =
     let h = c .before .before .before .before .before .loop in
     let i = c .before .before .before .smallest .ensures .top in
     let o = c .without .ensures in (
-      below-without _ (h .inv .0) o,
+      below-without (h .inv .0) o,
       walk-next i (h .inv .1) o (c .before .before .with-steps .ensures),
       walk-next i (h .inv .2) o (c .before .with-steps2 .ensures),
     )

@@ -19,7 +19,7 @@ loop-again c =
     let h = c .before .before .before .before .loop in
     let b = c .before .both-ways in
     let o = c .without .ensures in (
-      below-without _ (h .inv .0) o,
+      below-without (h .inv .0) o,
       filling-next (b .result .left) (b .result .right)
           (c .before .before .smallest .ensures .top) (h .inv .1) o (b .ensures .0) (b .ensures .1),
     )

@@ -17,7 +17,7 @@ loop-again : tie.Need-loop-again Inv-loop μ-loop
 loop-again c =
     let h = c .before .before .before .before .before .loop in
     let o = c .without .ensures in (
-      below-without _ (h .inv .0) o,
+      below-without (h .inv .0) o,
       walk-next (c .before .before .before .smallest .ensures .top) (h .inv .1) o
           (λ q. c .before .union .ensures q ∙ ap (λ (v : Bool). mem q (h .r) || v) (c .before .before .both-ways .ensures .1 q)),
     )
