@@ -29,7 +29,7 @@ use Rattle.tree_strip.proofs.TreeLaws.{TreeFacts, tree-accepted, facts-length, 
 use Rattle.tree_strip.proofs.TreeWalk.{facts-stand}
 use Rattle.rules.specs.Decoding.{DecodesTo}
 use Rattle.rules.specs.Room.{roomFor, cleared, workRefusal, Roomy}
-use Rattle.judge.specs.Judge.{Readable, treeRefusal, lateRefusal, refusalBefore, tell, judgedOf, judgementFor, workspaceFor, JudgedTree, JudgeClaim}
+use Rattle.judge.specs.Judge.{AcceptedTree, treeRefusal, lateRefusal, refusalBefore, tell, judgedOf, judgementFor, workspaceFor, JudgedTree, JudgeClaim}
 use Rattle.judge.specs.declared.Judgement.{Judgement}
 use Rattle.judge.specs.declared.Judgement.the-variants.{No, Yes, Refused, TooManyStates}
 use Rattle.rules.proofs.Rules.{rule-decoded}
@@ -83,10 +83,10 @@ read-numbered s =
     (either-way (not (between 1 8 (field s 4 4))) (refused 17) p (omega arith) n))
 
 -- ---- what the check of the tree says
-pub check-readable : (s : List ℕ) {n N : ℕ} → checkedTree s ≡ treeAccepted n N → Readable s n
+pub check-readable : (s : List ℕ) {n N : ℕ} → checkedTree s ≡ treeAccepted n N → AcceptedTree s n
 check-readable s {n} {N} e = go (readTree s) refl e
   where
-    go : (p : Parsed) → readTree s ≡ p → answered s p ≡ treeAccepted n N → Readable s n
+    go : (p : Parsed) → readTree s ≡ p → answered s p ≡ treeAccepted n N → AcceptedTree s n
     go (refused r) q f = absurd (let z : _≡_ {A = ℕ} 0 1 = cc in omega arith)
     go (parsed t met rest) q f = record { tree = t; met = met; rest = rest; read = q; variables = cc }
 
@@ -98,12 +98,12 @@ check-refused s k e = go (readTree s) refl (read-numbered s) e
     go (parsed t met rest) q h f = absurd (let z : _≡_ {A = ℕ} 0 1 = cc in omega arith)
     go (refused r) q h f = let z : r ≡ k = cc in (rw q z, λ y. omega arith)
 
-readable-free : {s : List ℕ} {n : ℕ} → Readable s n → treeRefusal s ≡ 0
+readable-free : {s : List ℕ} {n : ℕ} → AcceptedTree s n → treeRefusal s ≡ 0
 unfolding treeRefusal
 readable-free w = rw (w .read) refl
 
 -- its tree, in its place
-module _ {s : List ℕ} {n : ℕ} (w : Readable s n) where
+module _ {s : List ℕ} {n : ℕ} (w : AcceptedTree s n) where
   readable-facts : TreeFacts s n (w .tree)
   readable-facts = subst (λ (k : ℕ). TreeFacts s k (w .tree)) (w .variables) (tree-accepted s (w .tree) (w .met) (w .rest) (w .read) .1)
 
@@ -128,7 +128,7 @@ module _ (v : Ruling) where
   unfolding judgementAfter say
   ruled-no h e = rw (h, e)
 
-pub rule-judged : {rule tree : List ℕ} {n m : ℕ} → AcceptedRule rule n m → (c : ℕ) (xs : List Decoded) → DecodesTo rule m xs → Readable tree n
+pub rule-judged : {rule tree : List ℕ} {n m : ℕ} → AcceptedRule rule n m → (c : ℕ) (xs : List Decoded) → DecodesTo rule m xs → AcceptedTree tree n
     → (v : Ruling) → Judged xs m (shapeOf n c) tree v → judgementOf v ≡ judgedOf rule c tree
 unfolding judgedOf
 rule-judged {rule} {tree} {n} accepted c xs dec w v g =
@@ -173,11 +173,11 @@ module _ (rule : List ℕ) (c : ℕ) (ws tree : List ℕ) where
       ends-tree {r} e y = ends-before r (late ∙ rw (e, ne-eqb r 0 y)) y
 
       -- another number of variables
-      pub ends-other : {i : ℕ} → Readable tree i → (i ≡ n → ⊥) → Ends (Refused 22) ws
+      pub ends-other : {i : ℕ} → AcceptedTree tree i → (i ≡ n → ⊥) → Ends (Refused 22) ws
       unfolding lateRefusal
       ends-other w y = ends-before 22 (late ∙ rw (readable-free w, ne-eqb (field tree 4 4) n (λ q. y (sym (w .variables) ∙ q)))) (λ q. omega arith)
 
-      pub ends-told : Readable tree n → (v : Ruling) → judgementOf v ≡ judgedOf rule c tree → {x : Judgement} → x ≡ tell (judgementOf v)
+      pub ends-told : AcceptedTree tree n → (v : Ruling) → judgementOf v ≡ judgedOf rule c tree → {x : Judgement} → x ≡ tell (judgementOf v)
           → {ws′ : List ℕ} → ws′ ≡ cleared (roomFor n m c) ws → Ends x ws′
       unfolding judgementFor workspaceFor lateRefusal
       ends-told w v e ex ew =

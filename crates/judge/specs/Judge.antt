@@ -30,7 +30,7 @@ treeIn (parsed t met rest) = t
 treeIn (refused r) = empty
 
 -- the strip holds a tree over n variables
-pub record Readable (strip : List ℕ) (n : ℕ) : Type 0 where
+pub record AcceptedTree (strip : List ℕ) (n : ℕ) : Type 0 where
   pub tree : Tree 2
   pub met : ℕ
   pub rest : List ℕ

@@ -4,7 +4,7 @@ ghost use lib.ListN.{length};
 ghost use Rattle.solver.specs.Solve.{judgementOf};
 ghost use Rattle.rule_strip.specs.RuleStrip.{AcceptedRule};
 ghost use Rattle.rules.specs.Room.{roomFor, cleared, Roomy};
-ghost use Rattle.judge.specs.Judge.{Readable, judgedOf, tell, judgementFor, workspaceFor, JudgeClaim};
+ghost use Rattle.judge.specs.Judge.{AcceptedTree, judgedOf, tell, judgementFor, workspaceFor, JudgeClaim};
 use records::Ending;
 use rule_strip::RuleCheck;
 use rules::decode::decode;
@@ -40,7 +40,7 @@ fn ruled(v: Ruling) -> Judgement
 fn judge_rule(rule: &[u8], n: usize, m: usize, c: usize, ws: &mut [u8], tree: &[u8]) -> Ruling
     requires { ⌜ AcceptedRule (now rule) n m ⌝ }
     requires { ⌜ Roomy n m c (length (now ws)) ⌝ }
-    requires { ⌜ Readable (now tree) n ⌝ }
+    requires { ⌜ AcceptedTree (now tree) n ⌝ }
     ensures { λ r. ⌜ judgementOf r ≡ judgedOf (now (rule .entry)) c (now (tree .entry)) ⌝ }
     ensures { λ _. ⌜ now (ws .exit) ≡ cleared (roomFor n m c) (now (ws .entry)) ⌝ }
 {

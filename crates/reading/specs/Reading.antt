@@ -21,7 +21,7 @@ abbrev pub tableOf : Mach → Table 2
 tableOf m = record { count = length (m .codes); machine = machOf m }
 
 -- some machine is stored in record r's share, and k is kept of it
-pub record Readable (ws : List ℕ) (s : Shape) (r : ℕ) (k : Summary) : Type 0 where
+pub record HasMachine (ws : List ℕ) (s : Shape) (r : ℕ) (k : Summary) : Type 0 where
   pub shape : Shaped s
   pub number : r < 256
   pub share : shareAt s r + shareOf s ≤ length ws
@@ -39,9 +39,9 @@ pub record HasTree (strip : List ℕ) (s : Shape) : Type 0 where
 abbrev pub Satisfiable : Summary → Bool → Type 0
 Satisfiable k b = (s : Shape) (base : ℕ) (m : Mach) (ws : List ℕ) → Stored s base m k ws → b ≡ anyBelow (machOf m .accepting) (length (m .codes))
 
--- f: the earliest tree that record r's machine accepts
-abbrev pub Earliest : List ℕ → Shape → ℕ → Summary → ℕ → Found → Type 0
-Earliest ws s r k P f = (m : Mach) → Stored s (shareAt s r) m k ws → Ended (search (labelsIn s) (tableOf m) P) f
+-- f: what the search for the earliest tree that record r's machine accepts comes to
+abbrev pub Finds : List ℕ → Shape → ℕ → Summary → ℕ → Found → Type 0
+Finds ws s r k P f = (m : Mach) → Stored s (shareAt s r) m k ws → Ended (search (labelsIn s) (tableOf m) P) f
 
 -- b: does record r's machine accept the tree in the strip
 abbrev pub Accepts : List ℕ → Shape → ℕ → Summary → List ℕ → Bool → Type 0

@@ -2,7 +2,7 @@
 // the tree in a strip.
 ghost use mathlib.Core.Path.{_≡_};
 ghost use Prim.Native.Nat.{_≤_};
-ghost use Rattle.reading.specs.Reading.{Readable, HasTree, Satisfiable, Earliest, Accepts};
+ghost use Rattle.reading.specs.Reading.{HasMachine, HasTree, Satisfiable, Finds, Accepts};
 use layout::Shape;
 use records::Summary;
 use search::Found;
@@ -17,9 +17,9 @@ pub fn satisfiable(k: Summary) -> bool
 
 // The earliest tree that record r's machine accepts, if it has at most p positions.
 pub fn earliest(ws: &[u8], s: Shape, r: usize, k: Summary, p: u64) -> Found
-    requires { ⌜ Readable (now ws) s r k ⌝ }
+    requires { ⌜ HasMachine (now ws) s r k ⌝ }
     requires { ⌜ p ≤ 255 ⌝ }
-    ensures { λ f. ⌜ Earliest (now (ws .entry)) s r k p f ⌝ }
+    ensures { λ f. ⌜ Finds (now (ws .entry)) s r k p f ⌝ }
 {
     let base = layout::share_at(s, r);
     search::find(
@@ -34,7 +34,7 @@ pub fn earliest(ws: &[u8], s: Shape, r: usize, k: Summary, p: u64) -> Found
 
 // Does record r's machine accept the tree in a strip?
 pub fn accepted(ws: &[u8], s: Shape, r: usize, k: Summary, tree: &[u8]) -> bool
-    requires { ⌜ Readable (now ws) s r k ⌝ }
+    requires { ⌜ HasMachine (now ws) s r k ⌝ }
     requires { ⌜ HasTree (now tree) s ⌝ }
     ensures { λ b. ⌜ Accepts (now (ws .entry)) s r k (now (tree .entry)) b ⌝ }
 {

@@ -17,7 +17,7 @@ use Rattle.records.specs.declared.Ending.the-variants.{Over, Ready}
 use Rattle.records.specs.declared.Machines.{Machines}
 use Rattle.search.specs.Rounds.{answerOf}
 use Rattle.search.specs.declared.Found.{Found}
-use Rattle.reading.specs.Reading.{Readable, Earliest, Accepts}
+use Rattle.reading.specs.Reading.{HasMachine, Finds, Accepts}
 use Rattle.refinement.specs.Decode.{shapeOf}
 use Rattle.refinement.proofs.Upto.{decide-over, judge-over, decide-built, judge-built}
 use Rattle.tree_strip.specs.TreeStrip.{Stands}
@@ -47,8 +47,8 @@ reported q absent places states t e = absurd (let z : _≡_ {A = ℕ} 0 1 = cc i
 module _ (records : List Decoded) (m : ℕ) (s : Shape) (shape : Shaped s) (some : 0 < m) (t : Machines) (ws : List ℕ)
     (made : Made (upto records s m) s m t ws) where
   -- the last record's machine can be read
-  pub last-readable : m ≤ 128 → shareAt s m ≤ length ws → t .ending ≡ Ready → Readable ws s (m - 1) (entryOf t (m - 1))
-  last-readable few room e =
+  pub last-machine : m ≤ 128 → shareAt s m ≤ length ws → t .ending ≡ Ready → HasMachine ws s (m - 1) (entryOf t (m - 1))
+  last-machine few room e =
       let w = no-over (upto records s m) s m t ws made e in
       record {
         shape = shape;
@@ -85,7 +85,7 @@ module _ (records : List Decoded) (m : ℕ) (s : Shape) (shape : Shaped s) (some
     }
 
     -- an answer
-    pub solve-decided : t .ending ≡ Ready → (f : Found) → Earliest ws s (m - 1) (entryOf t (m - 1)) P f
+    pub solve-decided : t .ending ≡ Ready → (f : Found) → Finds ws s (m - 1) (entryOf t (m - 1)) P f
         → Solved records m s P (record { ending = Ready; states = getD (t .counts) (m - 1) 0; found = f })
     unfolding outcomeAfter
     solve-decided l f earliest =

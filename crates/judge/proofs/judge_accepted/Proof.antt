@@ -3,7 +3,7 @@ use mathlib.Core.Path.{sym, _∙_, subst}
 use Prim.Native.Nat.{ℕ}
 use native.Mathlib.Omega.{arith}
 use Rattle.rule_strip.proofs.RuleLaws.{rule-accepted}
-use Rattle.judge.specs.Judge.{Readable}
+use Rattle.judge.specs.Judge.{AcceptedTree}
 use Rattle.judge.proofs.Judging.{check-readable, check-refused, ends-room, ends-tree, ends-other, room-known, ends-told}
 use borrow.Author.Needs.{needs}
 use Rattle.judge.proofs.judge_accepted.Statement.{statement}
@@ -40,7 +40,7 @@ judge-rule-requires c κs =
       st .pre,
       (
         room-known (a .rule .now) (a .c) (a .ws .now) (a .tree .now) (st .pre) (b .before .before .work-refusal .ensures) (omega arith),
-        subst (λ (i : ℕ). Readable (a .tree .now) i) (c .before .if2 .left) w,
+        subst (λ (i : ℕ). AcceptedTree (a .tree .now) i) (c .before .if2 .left) w,
       ),
     )
 
@@ -62,7 +62,7 @@ returns-4 c =
     let w = check-readable (a .tree .now) (sym (b .check-tree .ensures) ∙ d .before .before .variables .given .1) in
     let v = c .before .before .before .judge-rule in
     ends-told (a .rule .now) (a .c) (a .ws .now) (a .tree .now) (st .pre) (b .before .before .work-refusal .ensures)
-    (omega arith) (subst (λ (i : ℕ). Readable (a .tree .now) i) (d .if2 .left) w)
+    (omega arith) (subst (λ (i : ℕ). AcceptedTree (a .tree .now) i) (d .if2 .left) w)
     (v .result) (v .ensures .0) (c .ruled .ensures) (v .ensures .1)
 
 pub judge-accepted-spec : {M : Type 1} → statement M

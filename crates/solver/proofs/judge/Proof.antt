@@ -1,6 +1,6 @@
 -- `judge` meets its contract. Assumes nothing.
 use Rattle.words.proofs.Vocabulary.{needs, arith}
-use Rattle.solver.proofs.Solving.{last-readable, judge-refused, judge-ruled}
+use Rattle.solver.proofs.Solving.{last-machine, judge-refused, judge-ruled}
 use Rattle.solver.proofs.judge.Statement.{statement}
 use Rattle.solver.proofs.judge.Tie as tie
 
@@ -10,7 +10,7 @@ accepted-requires c κs =
     let a = s .args in
     let w = s .pre .0 in
     let b = c .before .before .before .before .before .before .before .before .build-all in (
-      last-readable (a .records) (a .m) (a .s) (w .shape) (w .some) (b .result) (b .last .0) (b .ensures .0) (w .few) (omega (arith, w .room, b .kept .0))
+      last-machine (a .records) (a .m) (a .s) (w .shape) (w .some) (b .result) (b .last .0) (b .ensures .0) (w .few) (omega (arith, w .room, b .kept .0))
           (c .before .before .before .before .enum-told .given .1),
       s .pre .1,
     )
