@@ -6,11 +6,10 @@
  *
  *   rule strip  version (4 bits, 1), n (4 bits, 1 to 8), m (8 bits, 1 to 128),
  *               then m records of op (4), first field (7), second field (7).
- *               The last record is the rule. At most 290 bytes.
+ *               The last record is the rule.
  *   tree strip  version (4 bits, 1), n (4 bits, 1 to 8), then the tree: bit 0
  *               for an empty tree; for a node bit 1, its n-bit label (variable
- *               0 first), its first branch, its second branch. At most 255
- *               nodes and 320 bytes.
+ *               0 first), its first branch, its second branch.
  *
  *   op  record       first field  second field
  *   0   X subset Y   X            Y
@@ -23,42 +22,28 @@
  *   7   a and b      a            b
  *   8   exists X: a  X            a
  *
- * Refusals:
- *    1  rule strip of fewer than two bytes
- *    2  rule strip of a version other than 1
- *    3  rule strip with n not 1 to 8
- *    4  rule strip with m not 1 to 128
- *    5  rule strip not of (16 + 18 m) bits rounded up to bytes
- *    6  rule strip with a padding bit set
- *    7  record with op 9 to 15
- *    8  record naming a variable not below n
- *    9  record naming a record not below its own number
- *   10  record with an unused field that is not 0
- *   11  c not 1 to 64, or P above 255
- *   12  workspace too short
- *   13  out buffer too short
- *   14  a record's machine has more than c states ("record" is its number,
- *       the lowest if there are several)
- *   15  tree strip of no bytes
- *   16  tree strip of a version other than 1
- *   17  tree strip with n not 1 to 8
- *   18  tree strip that ends before its tree
- *   19  tree strip with a node of label 0 above two empty branches
- *   20  tree strip with more than 255 nodes
- *   21  tree strip with a padding bit set or a byte left over
- *   22  rule and tree differ in n
- * Of several that apply, a call gives the first in the order stated with it.
- *
  * Buffers. Bytes of any kind and lengths of any size may be handed in; a
  * pointer may be NULL where its length is 0. While a call runs, nobody else
  * may alter the bytes lent to it, and the workspace and out buffer may overlap
  * neither each other nor anything else that is lent. Strips handed in are only
  * read. Nothing is kept between calls.
  *
+ * Threads. There is no global state, so any number of threads may call at once,
+ * each with a workspace and an out buffer of its own; they may share strips.
+ *
  * Stack. 64 KiB are enough for any call, the deepest trees included; a thread
  * needs what its own frames take beside that. Nothing is put on the heap.
  *
- * In every result the fields that do not apply are 0.
+ * Time. Every call ends. The checks take microseconds. Judge and decide take
+ * longer the more workspace is asked for: the longest calls known, with 8
+ * variables, 128 records and c = 64, take two seconds, about 15 ns for each byte
+ * asked for; that makes half a millisecond for 3 variables, 16 records and
+ * c = 16. Most rules take a small part of it. A lower c bounds the time.
+ *
+ * Stack and time are measured, on a machine of 2026, not proved.
+ *
+ * What the four functions return, and what they leave in the buffers, is proved
+ * for all inputs. What is static inline here is plain C, and tested.
  */
 #ifndef WS2S_H
 #define WS2S_H
@@ -69,6 +54,59 @@
 #ifdef __cplusplus
 extern "C" {
 #endif
+
+#define WS2S_VERSION "1.1.0"
+
+/* Limits. Buffers of these sizes serve every rule and every tree. */
+#define WS2S_MAX_VARIABLES 8
+#define WS2S_MAX_RECORDS 128
+#define WS2S_MAX_STATES 64             /* the highest c */
+#define WS2S_MAX_POSITIONS 255         /* the highest P; nodes of a tree */
+#define WS2S_MAX_RULE_BYTES 290
+#define WS2S_MAX_TREE_BYTES 320        /* also the longest out buffer asked for */
+#define WS2S_MAX_WORKSPACE 134217728   /* 128 MiB */
+
+/* The kind of an answer: of ws2s_decide, of ws2s_judge, of both. */
+enum {
+    WS2S_SHOWN = 0,
+    WS2S_NONE = 1,
+    WS2S_LARGER = 2,
+
+    WS2S_NO = 0,
+    WS2S_YES = 1,
+
+    WS2S_REFUSED = 3
+};
+
+/* Refusals. Of several that apply, a call gives the first in the order stated
+ * with it. ws2s_refusal_text has each as a phrase. */
+enum {
+    WS2S_REFUSED_RULE_SHORT = 1,       /* rule strip of fewer than two bytes */
+    WS2S_REFUSED_RULE_VERSION = 2,     /* rule strip of a version other than 1 */
+    WS2S_REFUSED_RULE_VARIABLES = 3,   /* rule strip with n not 1 to 8 */
+    WS2S_REFUSED_RULE_RECORDS = 4,     /* rule strip with m not 1 to 128 */
+    WS2S_REFUSED_RULE_LENGTH = 5,      /* rule strip not of (16 + 18 m) bits rounded up to bytes */
+    WS2S_REFUSED_RULE_PADDING = 6,     /* rule strip with a padding bit set */
+    WS2S_REFUSED_OP = 7,               /* record with op 9 to 15 */
+    WS2S_REFUSED_VARIABLE = 8,         /* record naming a variable not below n */
+    WS2S_REFUSED_RECORD = 9,           /* record naming a record not below its own number */
+    WS2S_REFUSED_UNUSED = 10,          /* record with an unused field that is not 0 */
+    WS2S_REFUSED_CEILING = 11,         /* c not 1 to 64, or P above 255 */
+    WS2S_REFUSED_WORKSPACE = 12,       /* workspace shorter than ws2s_workspace_size */
+    WS2S_REFUSED_OUT = 13,             /* out buffer shorter than ws2s_out_size */
+    WS2S_REFUSED_STATES = 14,          /* a record's machine has more than c states; "record" is
+                                          its number, the lowest if there are several */
+    WS2S_REFUSED_TREE_SHORT = 15,      /* tree strip of no bytes */
+    WS2S_REFUSED_TREE_VERSION = 16,    /* tree strip of a version other than 1 */
+    WS2S_REFUSED_TREE_VARIABLES = 17,  /* tree strip with n not 1 to 8 */
+    WS2S_REFUSED_TREE_CUT = 18,        /* tree strip that ends before its tree */
+    WS2S_REFUSED_TREE_BARE = 19,       /* tree strip with a node of label 0 above two empty branches */
+    WS2S_REFUSED_TREE_POSITIONS = 20,  /* tree strip with more than 255 nodes */
+    WS2S_REFUSED_TREE_LEFT_OVER = 21,  /* tree strip with a padding bit set or a byte left over */
+    WS2S_REFUSED_TREE_OTHER = 22       /* rule and tree differ in n */
+};
+
+/* In every result the fields that do not apply are 0. */
 
 /* What the check of a rule strip returns: refusal 0 if it is accepted, then n
  * and m. */
@@ -82,14 +120,15 @@ typedef struct {
     uint64_t refusal, variables, positions;
 } ws2s_tree;
 
-/* What a tree is judged to be: kind 0 no, 1 yes, 3 refused (with refusal, and
- * with 14 the record). */
+/* What a tree is judged to be: WS2S_NO, WS2S_YES or WS2S_REFUSED (with refusal,
+ * and with 14 the record). */
 typedef struct {
     uint64_t kind, refusal, record;
 } ws2s_judgement;
 
-/* What is decided of a rule: kind 0 shown (with positions, states, length),
- * 1 none (states), 2 larger (states), 3 refused (refusal, with 14 record). */
+/* What is decided of a rule: WS2S_SHOWN (with positions, states, length),
+ * WS2S_NONE (states), WS2S_LARGER (states) or WS2S_REFUSED (refusal, with 14
+ * record). */
 typedef struct {
     uint64_t kind, refusal, record, positions, states, length;
 } ws2s_verdict;
@@ -106,10 +145,10 @@ ws2s_tree ws2s_check_tree(const uint8_t *tree, size_t tree_len);
 /* Judges whether the assignment that a tree stands for satisfies a rule, with
  * machines of at most c states.
  *
- * The workspace needs m * 2^n * c * c bytes. Refusals in order: 1 to 10; 11 for
- * c; 12; 15 to 21; 22; 14. After yes, no and 14 those bytes of the workspace
- * are zero and any later ones unchanged; after another refusal all are
- * unchanged. */
+ * The workspace needs m * 2^n * c * c bytes: ws2s_workspace_size. Refusals in
+ * order: 1 to 10; 11 for c; 12; 15 to 21; 22; 14. After yes, no and 14 those
+ * bytes of the workspace are zero and any later ones unchanged; after another
+ * refusal all are unchanged. */
 ws2s_judgement ws2s_judge(const uint8_t *rule, size_t rule_len, uint64_t c,
                           uint8_t *workspace, size_t workspace_len,
                           const uint8_t *tree, size_t tree_len);
@@ -126,14 +165,173 @@ ws2s_judgement ws2s_judge(const uint8_t *rule, size_t rule_len, uint64_t c,
  *
  * "states" counts the states of the last record's machine.
  *
- * The workspace needs m * 2^n * c * c bytes (at most 134217728), the out buffer
- * 8 + P (n + 1) + P + 1 bits rounded up to bytes (at most 320). Refusals in
+ * The workspace needs m * 2^n * c * c bytes: ws2s_workspace_size; the out buffer
+ * 8 + P (n + 1) + P + 1 bits rounded up to bytes: ws2s_out_size. Refusals in
  * order: 1 to 14. After shown, none, larger and 14 those bytes of the workspace
  * are zero and any later ones unchanged; after another refusal all are
  * unchanged. Only shown alters out, and there only the first "length" bytes. */
 ws2s_verdict ws2s_decide(const uint8_t *rule, size_t rule_len, uint64_t c, uint64_t p,
                          uint8_t *workspace, size_t workspace_len,
                          uint8_t *out, size_t out_len);
+
+/* The bytes of workspace that ws2s_judge and ws2s_decide ask for, of a rule that
+ * ws2s_check_rule accepted; 0 for any other, and for a c that they refuse. */
+static inline size_t ws2s_workspace_size(ws2s_rule rule, uint64_t c)
+{
+    if (rule.refusal != 0 || rule.variables > WS2S_MAX_VARIABLES || rule.records > WS2S_MAX_RECORDS
+        || c > WS2S_MAX_STATES)
+        return 0;
+    return (rule.records << rule.variables) * c * c;
+}
+
+/* The bytes of the out buffer that ws2s_decide asks for, of a rule that
+ * ws2s_check_rule accepted; 0 for any other, and for a P that it refuses. */
+static inline size_t ws2s_out_size(ws2s_rule rule, uint64_t p)
+{
+    if (rule.refusal != 0 || rule.variables > WS2S_MAX_VARIABLES || p > WS2S_MAX_POSITIONS)
+        return 0;
+    return (8 + p * (rule.variables + 1) + p + 1 + 7) / 8;
+}
+
+/* Why, as a phrase; for a number that is no refusal, that there is none. */
+static inline const char *ws2s_refusal_text(uint64_t refusal)
+{
+    switch (refusal) {
+    case WS2S_REFUSED_RULE_SHORT: return "the rule has fewer than two bytes";
+    case WS2S_REFUSED_RULE_VERSION: return "the rule's version is not 1";
+    case WS2S_REFUSED_RULE_VARIABLES: return "the rule has no variable or more than 8";
+    case WS2S_REFUSED_RULE_RECORDS: return "the rule has no record or more than 128";
+    case WS2S_REFUSED_RULE_LENGTH: return "the rule's length does not fit its records";
+    case WS2S_REFUSED_RULE_PADDING: return "a padding bit of the rule is set";
+    case WS2S_REFUSED_OP: return "a record has an unknown op";
+    case WS2S_REFUSED_VARIABLE: return "a record names a variable that there is not";
+    case WS2S_REFUSED_RECORD: return "a record names itself or a later record";
+    case WS2S_REFUSED_UNUSED: return "an unused field is not 0";
+    case WS2S_REFUSED_CEILING: return "a ceiling is out of range";
+    case WS2S_REFUSED_WORKSPACE: return "the workspace is too short";
+    case WS2S_REFUSED_OUT: return "the out buffer is too short";
+    case WS2S_REFUSED_STATES: return "a record needs more than c states";
+    case WS2S_REFUSED_TREE_SHORT: return "the tree has no bytes";
+    case WS2S_REFUSED_TREE_VERSION: return "the tree's version is not 1";
+    case WS2S_REFUSED_TREE_VARIABLES: return "the tree has no variable or more than 8";
+    case WS2S_REFUSED_TREE_CUT: return "the tree's bits end early";
+    case WS2S_REFUSED_TREE_BARE: return "a node with label 0 has no branches";
+    case WS2S_REFUSED_TREE_POSITIONS: return "the tree has more than 255 positions";
+    case WS2S_REFUSED_TREE_LEFT_OVER: return "a padding bit of the tree is set, or bytes are left over";
+    case WS2S_REFUSED_TREE_OTHER: return "tree and rule have different numbers of variables";
+    default: return "no such refusal";
+    }
+}
+
+/* What helps, as a phrase; empty for a number that is no refusal. */
+static inline const char *ws2s_refusal_help(uint64_t refusal)
+{
+    switch (refusal) {
+    case WS2S_REFUSED_RULE_SHORT: return "was the whole file read?";
+    case WS2S_REFUSED_RULE_VERSION: return "write it with a matching tool";
+    case WS2S_REFUSED_RULE_VARIABLES: return "use fewer kinds of part";
+    case WS2S_REFUSED_RULE_RECORDS: return "split it";
+    case WS2S_REFUSED_RULE_LENGTH: return "it was cut, or has bytes left over";
+    case WS2S_REFUSED_RULE_PADDING: return "the file is damaged";
+    case WS2S_REFUSED_OP: return "the file is damaged or too new";
+    case WS2S_REFUSED_VARIABLE: return "correct the record, or the number of variables";
+    case WS2S_REFUSED_RECORD: return "put the record that it uses before it";
+    case WS2S_REFUSED_UNUSED: return "set it to 0";
+    case WS2S_REFUSED_CEILING: return "c from 1 to 64, P at most 255";
+    case WS2S_REFUSED_WORKSPACE: return "lend m * 2^n * c * c bytes, or lower c";
+    case WS2S_REFUSED_OUT: return "lend (8 + P(n+1) + P + 1) bits, rounded up to bytes, or lower P";
+    case WS2S_REFUSED_STATES: return "raise c, at most to 64, or simplify that record";
+    case WS2S_REFUSED_TREE_SHORT: return "was the whole file read?";
+    case WS2S_REFUSED_TREE_VERSION: return "write it with a matching tool";
+    case WS2S_REFUSED_TREE_VARIABLES: return "use fewer kinds of part";
+    case WS2S_REFUSED_TREE_CUT: return "the strip was cut";
+    case WS2S_REFUSED_TREE_BARE: return "leave such nodes out";
+    case WS2S_REFUSED_TREE_POSITIONS: return "judge a smaller tree";
+    case WS2S_REFUSED_TREE_LEFT_OVER: return "cut the strip at its end";
+    case WS2S_REFUSED_TREE_OTHER: return "give the tree the rule's number";
+    default: return "";
+    }
+}
+
+/* A walk over the nodes of a tree strip: a node, then all of its first branch,
+ * then all of its second.
+ *
+ *     ws2s_walk w;
+ *     ws2s_walk_begin(&w, out, verdict.length);
+ *     while (ws2s_walk_next(&w))
+ *         ... w.depth, w.branch, w.inside, w.label, w.path, ws2s_walk_has(&w, 0) ...
+ */
+typedef struct {
+    unsigned depth;  /* steps from the root; the root has 0 */
+    unsigned branch; /* the last step: 1 the first part inside, 2 the next beside, 0 for the root */
+    unsigned inside; /* how many of the steps lead inside: how far in an outline has the node */
+    unsigned label;  /* n bits, variable 0 the most significant */
+    uint8_t path[WS2S_MAX_POSITIONS]; /* the steps: path[0] up to path[depth - 1], each 1 or 2 */
+    /* The walk's own: the strip, the next bit, and where the next tree hangs. */
+    const uint8_t *strip;
+    size_t bits, at;
+    unsigned variables, nodes, next_depth, next_inside;
+} ws2s_walk;
+
+/* Sets out. The strip is one that ws2s_check_tree accepts, as those shown are; of
+ * any other bytes some nodes are told, and nothing outside them is read. It must
+ * stay as it is until the walk is over. */
+static inline void ws2s_walk_begin(ws2s_walk *walk, const uint8_t *tree, size_t tree_len)
+{
+    walk->depth = walk->branch = walk->inside = walk->label = 0;
+    walk->nodes = walk->next_depth = walk->next_inside = 0;
+    walk->strip = tree;
+    walk->at = 8;
+    walk->variables = tree_len > 0 ? tree[0] & 15u : 0;
+    walk->bits = tree_len < WS2S_MAX_TREE_BYTES ? 8 * tree_len : 8 * WS2S_MAX_TREE_BYTES;
+    if (walk->variables < 1 || walk->variables > WS2S_MAX_VARIABLES)
+        walk->bits = 0;
+}
+
+/* For ws2s_walk_next alone: the next bit of the strip. */
+static inline unsigned ws2s_walk_bit_(ws2s_walk *walk)
+{
+    unsigned bit = walk->strip[walk->at / 8] >> (7 - walk->at % 8) & 1u;
+    walk->at++;
+    return bit;
+}
+
+/* Goes to the next node: 1, or 0 if there is none. */
+static inline int ws2s_walk_next(ws2s_walk *walk)
+{
+    unsigned i;
+    while (walk->at < walk->bits && ws2s_walk_bit_(walk) == 0) {
+        /* an empty tree: the next one is the second branch of the last node that still lacks it */
+        while (walk->next_depth > 0 && walk->path[walk->next_depth - 1] == 2)
+            walk->next_depth--;
+        if (walk->next_depth == 0)
+            walk->bits = 0;
+        else {
+            walk->path[walk->next_depth - 1] = 2;
+            walk->next_inside--;
+        }
+    }
+    if (walk->at + walk->variables > walk->bits || walk->nodes == WS2S_MAX_POSITIONS) {
+        walk->bits = 0;
+        return 0;
+    }
+    walk->depth = walk->next_depth;
+    walk->inside = walk->next_inside;
+    walk->branch = walk->depth > 0 ? walk->path[walk->depth - 1] : 0;
+    walk->label = 0;
+    for (i = 0; i < walk->variables; i++)
+        walk->label = 2 * walk->label + ws2s_walk_bit_(walk);
+    walk->path[walk->next_depth++] = 1;
+    walk->next_inside++;
+    walk->nodes++;
+    return 1;
+}
+
+/* Whether the node is in the set of a variable: 1 or 0. */
+static inline int ws2s_walk_has(const ws2s_walk *walk, unsigned variable)
+{
+    return variable < walk->variables && (walk->label >> (walk->variables - 1 - variable) & 1u) != 0;
+}
 
 #ifdef __cplusplus
 }

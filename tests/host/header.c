@@ -1,0 +1,306 @@
+/* Holds what the header defines itself, which no proof covers, to what the library
+ * does: header
+ *
+ * - the sizes: with that many bytes a call is not refused for its buffer, with one
+ *   less it is, for every number of variables and records and every ceiling;
+ * - the names of kinds and refusals: a request that has just this answer;
+ * - the texts: one for every refusal, no two alike;
+ * - the limits: accepted, and one more refused;
+ * - the walk: over all small trees, and over large ones of many shapes, it tells
+ *   the nodes that the tree was made of; over any bytes it ends, and reads nothing
+ *   outside them.
+ *
+ * It prints what fails and a count, and ends with status 1 if anything did. */
+#define _DEFAULT_SOURCE
+#include "lent.h"
+#include "strip.h"
+#include "ws2s.h"
+
+static unsigned long passed, failed;
+
+static void count(bool right, const char *what, unsigned long a, unsigned long b)
+{
+    if (right) {
+        passed++;
+        return;
+    }
+    if (failed++ < 20)
+        printf("header: %s (%lu, %lu)\n", what, a, b);
+}
+
+static uint64_t chance = 1;
+
+static unsigned below(unsigned bound)
+{
+    chance = chance * UINT64_C(6364136223846793005) + UINT64_C(1442695040888963407);
+    return (unsigned)(chance >> 33) % bound;
+}
+
+/* ---- Sizes ---- */
+
+/* So many records X0 subset X0. */
+static void make_rule(struct strip *s, unsigned n, unsigned m)
+{
+    size_t at;
+    put_heading(s, &at, n, m);
+    for (unsigned i = 0; i < m; i++)
+        put_record(s, &at, 0, 0, 0);
+}
+
+static uint64_t refusal_of(const struct strip *rule, uint64_t c, uint64_t p, uint8_t *workspace, size_t size,
+                           uint8_t *out, size_t out_size)
+{
+    return ws2s_decide(rule->byte, rule->length, c, p, workspace, size, out, out_size).refusal;
+}
+
+/* Neither call builds anything: with 13 to come, 12 is the only other refusal. */
+static void try_sizes(uint8_t *workspace)
+{
+    static struct strip rule;
+    uint8_t out[WS2S_MAX_TREE_BYTES];
+    size_t most = 0, most_out = 0;
+    for (unsigned n = 1; n <= WS2S_MAX_VARIABLES; n++)
+        for (unsigned m = 1; m <= WS2S_MAX_RECORDS; m++) {
+            make_rule(&rule, n, m);
+            ws2s_rule checked = ws2s_check_rule(rule.byte, rule.length);
+            for (unsigned c = 1; c <= WS2S_MAX_STATES; c++) {
+                size_t size = ws2s_workspace_size(checked, c);
+                most = size > most ? size : most;
+                count(refusal_of(&rule, c, 0, workspace, size, out, 0) == WS2S_REFUSED_OUT
+                          && refusal_of(&rule, c, 0, workspace, size - 1, out, 0) == WS2S_REFUSED_WORKSPACE,
+                      "size of the workspace", n, c);
+            }
+            count(ws2s_workspace_size(checked, 0) == 0 && ws2s_workspace_size(checked, WS2S_MAX_STATES + 1) == 0
+                      && ws2s_workspace_size(checked, UINT64_MAX) == 0, "workspace of a ceiling out of range", n, m);
+        }
+    for (unsigned n = 1; n <= WS2S_MAX_VARIABLES; n++) {
+        make_rule(&rule, n, 1);
+        ws2s_rule checked = ws2s_check_rule(rule.byte, rule.length);
+        for (unsigned p = 0; p <= WS2S_MAX_POSITIONS; p++) {
+            size_t size = ws2s_out_size(checked, p);
+            most_out = size > most_out ? size : most_out;
+            count(refusal_of(&rule, 1, p, workspace, WS2S_MAX_WORKSPACE, out, size) == 0
+                      && refusal_of(&rule, 1, p, workspace, WS2S_MAX_WORKSPACE, out, size - 1) == WS2S_REFUSED_OUT,
+                  "size of out", n, p);
+        }
+        count(ws2s_out_size(checked, WS2S_MAX_POSITIONS + 1) == 0 && ws2s_out_size(checked, UINT64_MAX) == 0,
+              "out of a ceiling out of range", n, 0);
+    }
+    count(most == WS2S_MAX_WORKSPACE && most_out == WS2S_MAX_TREE_BYTES, "largest sizes", most, most_out);
+    count(rule.length == 5 && (make_rule(&rule, 8, WS2S_MAX_RECORDS), rule.length == WS2S_MAX_RULE_BYTES),
+          "longest rule", rule.length, 0);
+    ws2s_rule refused = ws2s_check_rule(rule.byte, 1), odd = { 0, 64, 1 }, many = { 0, 1, UINT64_MAX };
+    count(ws2s_workspace_size(refused, 1) == 0 && ws2s_out_size(refused, 1) == 0, "sizes of a refused rule", 0, 0);
+    count(ws2s_workspace_size(odd, 1) == 0 && ws2s_out_size(odd, 1) == 0 && ws2s_workspace_size(many, 1) == 0,
+          "sizes of what is no check's result", 0, 0);
+}
+
+/* ---- Names ---- */
+
+/* A request that has this refusal. "more" bytes follow the strip as it is written, all zero. */
+static const struct {
+    uint64_t refusal;
+    const char *rule, *tree; /* hex; a tree is judged */
+    size_t more;
+    uint64_t c, p;
+    size_t workspace, out;
+} refusals[] = {
+    { WS2S_REFUSED_RULE_SHORT, "12", NULL, 0, 64, 255, 1 << 16, 320 },
+    { WS2S_REFUSED_RULE_VERSION, "2201200040", NULL, 0, 64, 255, 1 << 16, 320 },
+    { WS2S_REFUSED_RULE_VARIABLES, "1901200040", NULL, 0, 64, 255, 1 << 16, 320 },
+    { WS2S_REFUSED_RULE_RECORDS, "1200200040", NULL, 0, 64, 255, 1 << 16, 320 },
+    { WS2S_REFUSED_RULE_LENGTH, "1201200040", NULL, 1, 64, 255, 1 << 16, 320 },
+    { WS2S_REFUSED_RULE_PADDING, "1201200041", NULL, 0, 64, 255, 1 << 16, 320 },
+    { WS2S_REFUSED_OP, "1201900000", NULL, 0, 64, 255, 1 << 16, 320 },
+    { WS2S_REFUSED_VARIABLE, "1201200080", NULL, 0, 64, 255, 1 << 16, 320 },
+    { WS2S_REFUSED_RECORD, "1201500000", NULL, 0, 64, 255, 1 << 16, 320 },
+    { WS2S_REFUSED_UNUSED, "1201100040", NULL, 0, 64, 255, 1 << 16, 320 },
+    { WS2S_REFUSED_CEILING, "1201200040", NULL, 0, WS2S_MAX_STATES + 1, 255, 1 << 16, 320 },
+    { WS2S_REFUSED_CEILING, "1201200040", NULL, 0, 64, WS2S_MAX_POSITIONS + 1, 1 << 16, 320 },
+    { WS2S_REFUSED_WORKSPACE, "1201200040", NULL, 0, 64, 255, 1 << 10, 320 },
+    { WS2S_REFUSED_OUT, "1201200040", NULL, 0, 64, 255, 1 << 16, 2 },
+    { WS2S_REFUSED_STATES, "1201200040", NULL, 0, 3, 255, 1 << 16, 320 },
+    { WS2S_REFUSED_TREE_SHORT, "1201200040", "", 0, 64, 255, 1 << 16, 0 },
+    { WS2S_REFUSED_TREE_VERSION, "1201200040", "22B800", 0, 64, 255, 1 << 16, 0 },
+    { WS2S_REFUSED_TREE_VARIABLES, "1201200040", "19B800", 0, 64, 255, 1 << 16, 0 },
+    { WS2S_REFUSED_TREE_CUT, "1201200040", "12B8", 0, 64, 255, 1 << 16, 0 },
+    { WS2S_REFUSED_TREE_BARE, "1201200040", "1280", 0, 64, 255, 1 << 16, 0 },
+    { WS2S_REFUSED_TREE_LEFT_OVER, "1201200040", "12B80000", 0, 64, 255, 1 << 16, 0 },
+    { WS2S_REFUSED_TREE_OTHER, "1201200040", "11C0", 0, 64, 255, 1 << 16, 0 },
+};
+
+static void read_hex(struct strip *s, const char *hex, size_t more)
+{
+    unsigned byte;
+    for (s->length = 0; sscanf(hex, "%2x", &byte) == 1; hex += 2)
+        s->byte[s->length++] = (uint8_t)byte;
+    for (; more > 0; more--)
+        s->byte[s->length++] = 0;
+}
+
+static void try_names(uint8_t *workspace)
+{
+    static struct strip rule, tree;
+    uint8_t out[WS2S_MAX_TREE_BYTES];
+    for (size_t i = 0; i < sizeof refusals / sizeof refusals[0]; i++) {
+        uint64_t kind, refusal;
+        read_hex(&rule, refusals[i].rule, refusals[i].more);
+        if (refusals[i].tree) {
+            read_hex(&tree, refusals[i].tree, 0);
+            ws2s_judgement j = ws2s_judge(rule.byte, rule.length, refusals[i].c, workspace, refusals[i].workspace,
+                                          tree.byte, tree.length);
+            kind = j.kind, refusal = j.refusal;
+        } else {
+            ws2s_verdict v = ws2s_decide(rule.byte, rule.length, refusals[i].c, refusals[i].p, workspace,
+                                         refusals[i].workspace, out, refusals[i].out);
+            kind = v.kind, refusal = v.refusal;
+        }
+        count(kind == WS2S_REFUSED && refusal == refusals[i].refusal, "name of a refusal", refusals[i].refusal, refusal);
+    }
+    size_t at = 0; /* 20: a chain of one node too many */
+    put(&tree, &at, 4, 1);
+    put(&tree, &at, 4, 1);
+    for (int i = 0; i <= WS2S_MAX_POSITIONS; i++)
+        put(&tree, &at, 2, 3);
+    count(ws2s_check_tree(tree.byte, tree.length).refusal == WS2S_REFUSED_TREE_POSITIONS, "name of a refusal", 20, 0);
+
+    static const struct {
+        const char *rule;
+        uint64_t p, kind;
+    } kinds[] = { { "1201200040", 2, WS2S_SHOWN }, { "1201200040", 1, WS2S_LARGER }, { "1101200000", 255, WS2S_NONE } };
+    for (size_t i = 0; i < sizeof kinds / sizeof kinds[0]; i++) {
+        read_hex(&rule, kinds[i].rule, 0);
+        count(ws2s_decide(rule.byte, rule.length, 64, kinds[i].p, workspace, 1 << 16, out, sizeof out).kind == kinds[i].kind,
+              "name of a verdict", i, 0);
+    }
+    read_hex(&rule, "1101100000", 0); /* one X0 */
+    read_hex(&tree, "11C0", 0);
+    count(ws2s_judge(rule.byte, rule.length, 64, workspace, 1 << 16, tree.byte, tree.length).kind == WS2S_YES, "name of yes", 0, 0);
+    read_hex(&tree, "1100", 0);
+    count(ws2s_judge(rule.byte, rule.length, 64, workspace, 1 << 16, tree.byte, tree.length).kind == WS2S_NO, "name of no", 0, 0);
+}
+
+static void try_texts(void)
+{
+    const char *none = ws2s_refusal_text(0);
+    for (uint64_t k = 1; k <= WS2S_REFUSED_TREE_OTHER; k++) {
+        bool alone = strcmp(ws2s_refusal_text(k), none) != 0 && *ws2s_refusal_help(k);
+        for (uint64_t other = 1; other < k; other++)
+            alone = alone && strcmp(ws2s_refusal_text(k), ws2s_refusal_text(other)) != 0;
+        count(alone, "text of a refusal", k, 0);
+    }
+    count(ws2s_refusal_text(WS2S_REFUSED_TREE_OTHER + 1) == none && ws2s_refusal_text(UINT64_MAX) == none
+              && !*ws2s_refusal_help(0) && !*ws2s_refusal_help(UINT64_MAX), "text of what is no refusal", 0, 0);
+}
+
+/* ---- The walk ---- */
+
+struct node {
+    unsigned label, depth;
+    uint8_t path[WS2S_MAX_POSITIONS];
+};
+static struct node made[WS2S_MAX_POSITIONS];
+static unsigned nodes;
+static struct lent lent;
+
+/* Puts a tree of so many nodes at the place that the path leads to, labels at
+ * random. bias: 0 a chain by the second branch, 1 one by the first, 2 any shape. */
+static void put_tree(struct strip *s, size_t *at, unsigned n, unsigned left, uint8_t *path, unsigned depth, unsigned bias)
+{
+    put(s, at, 1, left > 0);
+    if (left == 0)
+        return;
+    struct node *here = &made[nodes++];
+    here->depth = depth;
+    here->label = 1 + below((1u << n) - 1);
+    memcpy(here->path, path, depth);
+    put(s, at, n, here->label);
+    unsigned first = bias == 0 ? 0 : bias == 1 ? left - 1 : below(left);
+    path[depth] = 1;
+    put_tree(s, at, n, first, path, depth + 1, bias);
+    path[depth] = 2;
+    put_tree(s, at, n, left - 1 - first, path, depth + 1, bias);
+}
+
+static bool same_node(const ws2s_walk *w, const struct node *n, unsigned variables)
+{
+    unsigned inside = 0, label = 0;
+    for (unsigned i = 0; i < n->depth; i++)
+        inside += n->path[i] == 1;
+    for (unsigned v = 0; v < variables; v++)
+        label = 2 * label + (unsigned)ws2s_walk_has(w, v);
+    return w->depth == n->depth && w->inside == inside && w->label == n->label && label == n->label
+        && !ws2s_walk_has(w, variables) && w->branch == (n->depth ? n->path[n->depth - 1] : 0)
+        && memcmp(w->path, n->path, n->depth) == 0;
+}
+
+static void try_walk(unsigned n, unsigned left, unsigned bias, unsigned more)
+{
+    static struct strip s;
+    uint8_t path[WS2S_MAX_POSITIONS + 1];
+    size_t at = 0;
+    nodes = 0;
+    put(&s, &at, 4, 1);
+    put(&s, &at, 4, n);
+    put_tree(&s, &at, n, left, path, 0, bias);
+    count(ws2s_check_tree(s.byte, s.length).positions == left, "a tree to walk over", n, left);
+    lend_bytes(&lent, s.byte, s.length, LENT_AT_END);
+    ws2s_walk w;
+    unsigned met = 0;
+    bool right = true;
+    ws2s_walk_begin(&w, lent.at, s.length);
+    while (ws2s_walk_next(&w) && met < left)
+        right = same_node(&w, &made[met++], n) && right;
+    count(right && met == left && !ws2s_walk_next(&w) && !ws2s_walk_next(&w), "walk", n, left);
+    /* and a strip that was cut: a beginning of the same nodes */
+    for (size_t length = 0; more && length < s.length; length++) {
+        lend_bytes(&lent, s.byte, length, LENT_AT_END);
+        ws2s_walk_begin(&w, length ? lent.at : NULL, length);
+        for (met = 0, right = true; ws2s_walk_next(&w) && met < left; met++)
+            right = same_node(&w, &made[met], n) && right;
+        count(right && met <= left, "walk over a strip that was cut", n, length);
+    }
+}
+
+/* Bytes of any kind, which stand before a page that may not be touched. */
+static void try_bytes(size_t length)
+{
+    ws2s_walk w;
+    unsigned met = 0;
+    lend(&lent, length, LENT_AT_END);
+    for (size_t i = 0; i < length; i++)
+        lent.at[i] = below(3) == 0 ? 0xFF : below(2) == 0 ? 0 : (uint8_t)below(256);
+    if (length && below(4))
+        lent.at[0] = (uint8_t)(16 + below(16));
+    ws2s_walk_begin(&w, length ? lent.at : NULL, length);
+    while (ws2s_walk_next(&w) && met <= WS2S_MAX_POSITIONS)
+        met++;
+    count(met <= WS2S_MAX_POSITIONS, "walk over any bytes", length, met);
+    ws2s_tree checked = ws2s_check_tree(lent.at, length);
+    count(checked.refusal != 0 || checked.positions == met, "walk over what is a tree", length, met);
+}
+
+int main(void)
+{
+    uint8_t *workspace = malloc(WS2S_MAX_WORKSPACE);
+    if (!workspace)
+        return 2;
+    lent_watch();
+    lent_open(&lent, MOST_STRIP);
+    snprintf(lent_doing, sizeof lent_doing, "header");
+    try_sizes(workspace);
+    try_names(workspace);
+    try_texts();
+    for (unsigned n = 1; n <= WS2S_MAX_VARIABLES; n++) {
+        for (unsigned left = 0; left <= WS2S_MAX_POSITIONS; left++)
+            for (unsigned bias = 0; bias < 3; bias++)
+                try_walk(n, left, bias, left < 20);
+        for (unsigned i = 0; i < 2000; i++)
+            try_walk(n, below(12), 2, 1);
+    }
+    for (unsigned i = 0; i < 200000; i++)
+        try_bytes(below(i % 5 ? 24 : 2 * WS2S_MAX_TREE_BYTES));
+    free(workspace);
+    printf("header: %lu passed, %lu failed\n", passed, failed);
+    return failed != 0;
+}

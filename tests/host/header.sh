@@ -1,0 +1,53 @@
+#!/bin/sh
+# Compiles the header, and the example host, as every kind of C and C++ that it is
+# said to be for, with many warnings, each an error:
+#
+#     header.sh ARCHIVE
+#
+# The example is linked too, of two files that both have the header, and run.
+set -eu
+archive=$1
+room=$(mktemp -d)
+trap 'rm -rf "$room"' EXIT
+warnings='-pedantic -Wall -Wextra -Wconversion -Wsign-conversion -Wshadow -Wcast-qual -Wundef -Werror'
+
+# all that the header has is used, as a host would
+cat >"$room/uses.c" <<'END'
+#include <ws2s.h>
+int uses(ws2s_rule rule, const uint8_t *tree, size_t length, uint64_t number);
+int uses(ws2s_rule rule, const uint8_t *tree, size_t length, uint64_t number)
+{
+    ws2s_walk walk;
+    int members = 0;
+    ws2s_walk_begin(&walk, tree, length);
+    while (ws2s_walk_next(&walk))
+        members += ws2s_walk_has(&walk, 0);
+    return members + (ws2s_workspace_size(rule, number) > ws2s_out_size(rule, number))
+        + *ws2s_refusal_text(number) + *ws2s_refusal_help(number) + *WS2S_VERSION;
+}
+END
+cp "$room/uses.c" "$room/uses.cc"
+cp examples/host.c "$room/host.cc"
+
+compiled=0
+compile() { # COMPILER STANDARD EXTENSION [WARNINGS]
+    compiler=$1 standard=$2 extension=$3
+    shift 3
+    # shellcheck disable=SC2086 # compilers and warnings are several words
+    $compiler -std="$standard" $warnings "$@" -Iinclude -c "$room/uses.$extension" -o "$room/uses.o" || { echo "header.sh: not $standard"; exit 1; }
+    compiled=$((compiled + 1))
+}
+for standard in c99 gnu99 c11 c17 gnu17; do compile "${CC:-cc}" "$standard" c -Wmissing-prototypes; done
+for standard in c++11 c++14 c++17 c++20; do compile "${CXX:-c++}" "$standard" cc -Wold-style-cast -Wzero-as-null-pointer-constant; done
+
+run_example() { # COMPILER STANDARD SOURCE UNIT
+    # shellcheck disable=SC2086
+    $1 -std="$2" -pedantic -Wall -Wextra -Werror -Iinclude "$3" "$4" "$archive" -o "$room/host"
+    said=$("$room/host" samples/seat_with_belt.rul seat belt)
+    [ "$said" = 'shown, places: 2
+- seat
+  - belt' ] || { echo "header.sh: the example says, as $2: $said"; exit 1; }
+}
+run_example "${CC:-cc}" c99 examples/host.c "$room/uses.c"
+run_example "${CXX:-c++}" c++11 "$room/host.cc" "$room/uses.cc"
+echo "the header compiles as $compiled kinds of C and C++, the example as both"
