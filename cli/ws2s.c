@@ -1,0 +1,417 @@
+/* The command ws2s: decides, judges, checks and shows rule and tree strips, by
+ * libws2s. See man/ws2s.1. */
+#define _DEFAULT_SOURCE
+#include "drawing.h"
+#include "words.h"
+
+#include <errno.h>
+#include <getopt.h>
+#include <signal.h>
+#include <stdarg.h>
+#include <stdbool.h>
+#include <stdlib.h>
+#include <string.h>
+
+enum status { GOOD = 0, BAD = 1, LARGER = 2, REFUSED = 3, USAGE = 64, TROUBLE = 74 };
+
+static const char help[] =
+    "usage: ws2s decide [-c N] [-p N] [--outline|--hex|--strip|--dot|--svg] RULE [NAME...]\n"
+    "       ws2s judge [-c N] RULE TREE\n"
+    "       ws2s check rule|tree FILE\n"
+    "       ws2s print RULE [NAME...]\n"
+    "       ws2s tree [--outline|--hex|--dot|--svg] TREE [NAME...]\n"
+    "       ws2s --help | --version\n"
+    "\n"
+    "decide  show the earliest tree that satisfies a rule, or say that there is none\n"
+    "judge   say whether a tree satisfies a rule\n"
+    "check   say whether a file is a rule strip or a tree strip\n"
+    "print   write each record of a rule in words\n"
+    "tree    show a tree\n"
+    "\n"
+    "RULE, TREE and FILE are strips, - for standard input. NAMEs are what the\n"
+    "variables are called, in order, instead of X0, X1, ...\n"
+    "\n"
+    "  -c N       the most states that a record may need, 1 to 64 (64)\n"
+    "  -p N       the most places that the tree may have, 0 to 255 (255)\n"
+    "  --outline  a place on each line, what is inside it further in (this is the default)\n"
+    "  --hex      the tree strip, in hexadecimal digits\n"
+    "  --strip    the tree strip itself\n"
+    "  --dot      a picture for Graphviz: inside solid, beside dashed\n"
+    "  --svg      the picture itself\n"
+    "\n"
+    "Status: 0 shown, yes or accepted; 1 none or no; 2 larger; 3 refused; 64 a wrong\n"
+    "command line; 74 trouble with files, output that could not be written included.\n";
+
+/* ---- What goes wrong ---- */
+
+static enum status say(enum status status, const char *format, ...)
+{
+    va_list words;
+    va_start(words, format);
+    fputs("ws2s: ", stderr);
+    vfprintf(stderr, format, words);
+    fputs("\n", stderr);
+    va_end(words);
+    return status;
+}
+
+static enum status usage(const char *what)
+{
+    return say(USAGE, "%s; ws2s --help says how it is used", what);
+}
+
+static const char *title(const char *file)
+{
+    return strcmp(file, "-") == 0 ? "standard input" : file;
+}
+
+static enum status trouble(const char *with)
+{
+    return say(TROUBLE, "%s: %s", with, strerror(errno));
+}
+
+static enum status refuse(const char *file, uint64_t refusal, uint64_t record, const struct rule *rule,
+                          const struct names *names)
+{
+    fprintf(stderr, "ws2s: %s: ", title(file));
+    put_refusal(stderr, refusal, record, rule, names);
+    return REFUSED;
+}
+
+/* ---- The command line ---- */
+
+enum form { OUTLINE = 256, HEX, STRIP, DOT, SVG, HELP };
+enum { MOST_OPERANDS = 2 + WS2S_MAX_VARIABLES };
+
+struct arguments {
+    uint64_t c, p;
+    enum form form;
+    char *operand[MOST_OPERANDS];
+    unsigned operands;
+};
+
+static bool read_number(const char *word, uint64_t *value)
+{
+    char *end;
+    *value = strtoull(word, &end, 10); /* too large a number is the largest, and refused as that */
+    return word[0] >= '0' && word[0] <= '9' && *end == 0;
+}
+
+static enum status add_operand(struct arguments *a, char *word)
+{
+    if (a->operands == MOST_OPERANDS)
+        return usage("there are too many words");
+    a->operand[a->operands++] = word;
+    return GOOD;
+}
+
+/* Takes the command line apart, from the word after the subcommand; options may
+ * stand anywhere before "--". Those allowed are the letters c, p, and f for the
+ * forms, with s for the strip itself. GOOD, or the status to end with; asked for
+ * help, the form is HELP. */
+static enum status read_arguments(struct arguments *a, int argc, char **argv, const char *allowed)
+{
+    static const struct option forms[] = {
+        { "outline", no_argument, NULL, OUTLINE }, { "hex", no_argument, NULL, HEX },
+        { "strip", no_argument, NULL, STRIP }, { "dot", no_argument, NULL, DOT },
+        { "svg", no_argument, NULL, SVG }, { "help", no_argument, NULL, HELP }, { NULL, 0, NULL, 0 } };
+    enum status status = GOOD;
+    int option;
+    *a = (struct arguments){ .c = WS2S_MAX_STATES, .p = WS2S_MAX_POSITIONS };
+    opterr = 0;
+    while (status == GOOD && (option = getopt_long(argc, argv, "-c:p:h", forms, NULL)) != -1) {
+        if (option == 1)
+            status = add_operand(a, optarg);
+        else if (option == 'h' || option == HELP) {
+            a->form = HELP;
+            return GOOD;
+        } else if (option == 'c' || option == 'p') {
+            if (!strchr(allowed, option))
+                status = usage("-c or -p is for another subcommand");
+            else if (!read_number(optarg, option == 'c' ? &a->c : &a->p))
+                status = usage("-c and -p take a number");
+        } else if (option == '?' || !strchr(allowed, 'f') || (option == STRIP && !strchr(allowed, 's')))
+            status = usage("there is an option that it does not have");
+        else if (a->form != 0)
+            status = usage("one form can be had at a time");
+        else
+            a->form = (enum form)option;
+    }
+    for (; status == GOOD && optind < argc; optind++)
+        status = add_operand(a, argv[optind]);
+    if (a->form == 0)
+        a->form = OUTLINE;
+    return status;
+}
+
+/* The character that a UTF-8 text begins with, and the text after it; 0 if it
+ * begins with none. */
+static unsigned long take_character(const unsigned char **text)
+{
+    static const unsigned long least[] = { 0, 0x80, 0x800, 0x10000 };
+    unsigned long value = *(*text)++;
+    unsigned more = value < 0x80 ? 0 : value >> 5 == 6 ? 1 : value >> 4 == 14 ? 2 : value >> 3 == 30 ? 3 : 4;
+    if (more == 4)
+        return 0;
+    value &= 0x7Fu >> more;
+    for (unsigned i = 0; i < more; i++, (*text)++) {
+        if (**text >> 6 != 2)
+            return 0;
+        value = value << 6 | (**text & 0x3Fu);
+    }
+    return value < least[more] ? 0 : value;
+}
+
+/* Whether a name can stand in a picture and on a terminal: characters that XML
+ * allows, no control characters, at least one. */
+static bool printable(const char *name)
+{
+    const unsigned char *at = (const unsigned char *)name;
+    do {
+        unsigned long c = take_character(&at);
+        if (c < 0x20 || (c >= 0x7F && c < 0xA0) || (c >= 0xD800 && c < 0xE000) || c == 0xFFFE || c == 0xFFFF
+            || c > 0x10FFFF)
+            return false;
+    } while (*at);
+    return true;
+}
+
+/* The names, which are the words from this one on. */
+static enum status read_names(const struct arguments *a, unsigned from, struct names *names)
+{
+    *names = (struct names){ a->operand + from, a->operands - from };
+    for (unsigned i = 0; i < names->count; i++)
+        if (!printable(names->name[i]))
+            return usage("a name must be text that can be printed");
+    return GOOD;
+}
+
+static enum status too_many_names(const struct names *names, uint64_t variables)
+{
+    return names->count > variables ? usage("there are more names than variables") : GOOD;
+}
+
+/* ---- Files ---- */
+
+enum { MOST_BYTES = WS2S_MAX_TREE_BYTES + 1 };
+struct bytes {
+    uint8_t byte[MOST_BYTES];
+    size_t length;
+};
+
+/* Reads a strip that may have so many bytes. Of a longer one a byte more is read,
+ * which is enough for its refusal. */
+static enum status read_strip(const char *file, size_t most, struct bytes *b)
+{
+    FILE *from = strcmp(file, "-") == 0 ? stdin : fopen(file, "rb");
+    if (!from)
+        return trouble(file);
+    b->length = fread(b->byte, 1, most + 1, from);
+    enum status status = ferror(from) ? trouble(title(file)) : GOOD;
+    if (from != stdin)
+        fclose(from);
+    return status;
+}
+
+static enum status read_rule(const char *file, struct bytes *b, struct rule *rule)
+{
+    enum status status = read_strip(file, WS2S_MAX_RULE_BYTES, b);
+    *rule = (struct rule){ b->byte, b->length };
+    return status;
+}
+
+/* ---- The subcommands ---- */
+
+static void put_tree(const uint8_t *tree, size_t length, enum form form, const struct names *names)
+{
+    switch (form) {
+    case HEX:
+        for (size_t i = 0; i < length; i++)
+            printf("%02X", tree[i]);
+        printf("\n");
+        break;
+    case STRIP:
+        fwrite(tree, 1, length, stdout);
+        break;
+    case DOT:
+        put_dot(stdout, tree, length, names);
+        break;
+    case SVG:
+        put_svg(stdout, tree, length, names);
+        break;
+    default:
+        put_outline(stdout, tree, length, names);
+    }
+}
+
+static enum status decide(const struct arguments *a)
+{
+    static struct bytes bytes;
+    uint8_t out[WS2S_MAX_TREE_BYTES];
+    FILE *words = a->form == OUTLINE ? stdout : stderr; /* in other forms standard output has trees alone */
+    struct rule rule;
+    struct names names;
+    enum status status;
+    if ((status = read_names(a, 1, &names)) || (status = read_rule(a->operand[0], &bytes, &rule)))
+        return status;
+    ws2s_rule checked = ws2s_check_rule(rule.strip, rule.length);
+    if (checked.refusal == 0 && (status = too_many_names(&names, checked.variables)))
+        return status;
+    size_t size = ws2s_workspace_size(checked, a->c);
+    uint8_t *workspace = malloc(size > 0 ? size : 1);
+    if (!workspace)
+        return trouble("workspace");
+    ws2s_verdict v = ws2s_decide(rule.strip, rule.length, a->c, a->p, workspace, size, out, sizeof out);
+    free(workspace);
+    switch (v.kind) {
+    case WS2S_SHOWN:
+        if (a->form == OUTLINE)
+            printf("shown: %u place%s, %u state%s\n", (unsigned)v.positions, plural(v.positions), (unsigned)v.states,
+                   plural(v.states));
+        put_tree(out, v.length, a->form, &names);
+        return GOOD;
+    case WS2S_NONE:
+        fprintf(words, "none: no finite sets satisfy the rule\n");
+        return BAD;
+    case WS2S_LARGER:
+        fprintf(words, "larger: finite sets satisfy the rule, but all of them take more than %u place%s\n", (unsigned)a->p,
+                plural(a->p));
+        return LARGER;
+    default:
+        return refuse(a->operand[0], v.refusal, v.record, &rule, &names);
+    }
+}
+
+static enum status judge(const struct arguments *a)
+{
+    static struct bytes bytes, tree;
+    static const struct names names;
+    struct rule rule;
+    enum status status;
+    if (strcmp(a->operand[0], "-") == 0 && strcmp(a->operand[1], "-") == 0)
+        return usage("rule and tree cannot both be standard input");
+    if ((status = read_rule(a->operand[0], &bytes, &rule))
+        || (status = read_strip(a->operand[1], WS2S_MAX_TREE_BYTES, &tree)))
+        return status;
+    size_t size = ws2s_workspace_size(ws2s_check_rule(rule.strip, rule.length), a->c);
+    uint8_t *workspace = malloc(size > 0 ? size : 1);
+    if (!workspace)
+        return trouble("workspace");
+    ws2s_judgement j = ws2s_judge(rule.strip, rule.length, a->c, workspace, size, tree.byte, tree.length);
+    free(workspace);
+    switch (j.kind) {
+    case WS2S_YES:
+        printf("yes: the tree satisfies the rule\n");
+        return GOOD;
+    case WS2S_NO:
+        printf("no: the tree does not satisfy the rule\n");
+        return BAD;
+    default:
+        return refuse(a->operand[j.refusal >= WS2S_REFUSED_TREE_SHORT], j.refusal, j.record, &rule, &names);
+    }
+}
+
+static enum status check(const struct arguments *a)
+{
+    static struct bytes bytes;
+    static const struct names names;
+    struct rule rule = { NULL, 0 };
+    enum status status;
+    uint64_t refusal;
+    if (strcmp(a->operand[0], "rule") == 0) {
+        if ((status = read_rule(a->operand[1], &bytes, &rule)))
+            return status;
+        ws2s_rule r = ws2s_check_rule(rule.strip, rule.length);
+        if ((refusal = r.refusal) == 0)
+            printf("accepted: %u variable%s, %u record%s\n", (unsigned)r.variables, plural(r.variables),
+                   (unsigned)r.records, plural(r.records));
+    } else if (strcmp(a->operand[0], "tree") == 0) {
+        if ((status = read_strip(a->operand[1], WS2S_MAX_TREE_BYTES, &bytes)))
+            return status;
+        ws2s_tree t = ws2s_check_tree(bytes.byte, bytes.length);
+        if ((refusal = t.refusal) == 0)
+            printf("accepted: %u variable%s, %u place%s\n", (unsigned)t.variables, plural(t.variables),
+                   (unsigned)t.positions, plural(t.positions));
+    } else {
+        return usage("check is of a rule or of a tree");
+    }
+    return refusal == 0 ? GOOD : refuse(a->operand[1], refusal, 0, &rule, &names);
+}
+
+static enum status print(const struct arguments *a)
+{
+    static struct bytes bytes;
+    struct rule rule;
+    struct names names;
+    enum status status;
+    if ((status = read_names(a, 1, &names)) || (status = read_rule(a->operand[0], &bytes, &rule)))
+        return status;
+    ws2s_rule checked = ws2s_check_rule(rule.strip, rule.length);
+    if (checked.refusal == 0 && (status = too_many_names(&names, checked.variables)))
+        return status;
+    put_rule(stdout, &rule, checked.refusal, &names);
+    return checked.refusal == 0 ? GOOD : refuse(a->operand[0], checked.refusal, 0, &rule, &names);
+}
+
+static enum status tree(const struct arguments *a)
+{
+    static struct bytes bytes;
+    struct names names;
+    enum status status;
+    if ((status = read_names(a, 1, &names)) || (status = read_strip(a->operand[0], WS2S_MAX_TREE_BYTES, &bytes)))
+        return status;
+    ws2s_tree checked = ws2s_check_tree(bytes.byte, bytes.length);
+    if (checked.refusal != 0)
+        return refuse(a->operand[0], checked.refusal, 0, NULL, &names);
+    if ((status = too_many_names(&names, checked.variables)))
+        return status;
+    put_tree(bytes.byte, bytes.length, a->form, &names);
+    return GOOD;
+}
+
+/* ---- The command ---- */
+
+static const struct subcommand {
+    const char *name, *options; /* the options as read_arguments has them */
+    unsigned least, most; /* words after the name */
+    enum status (*run)(const struct arguments *);
+} subcommands[] = {
+    { "decide", "cpfs", 1, 1 + WS2S_MAX_VARIABLES, decide },
+    { "judge", "c", 2, 2, judge },
+    { "check", "", 2, 2, check },
+    { "print", "", 1, 1 + WS2S_MAX_VARIABLES, print },
+    { "tree", "f", 1, 1 + WS2S_MAX_VARIABLES, tree },
+};
+
+static enum status run(int argc, char **argv)
+{
+    const char *word = argc > 1 ? argv[1] : "";
+    struct arguments a;
+    enum status status;
+    if (strcmp(word, "--help") == 0 || strcmp(word, "-h") == 0 || strcmp(word, "help") == 0)
+        return fputs(help, stdout), GOOD;
+    if (strcmp(word, "--version") == 0)
+        return printf("ws2s %s\n", WS2S_VERSION), GOOD;
+    for (size_t i = 0; i < sizeof subcommands / sizeof subcommands[0]; i++) {
+        const struct subcommand *s = &subcommands[i];
+        if (strcmp(word, s->name) != 0)
+            continue;
+        if ((status = read_arguments(&a, argc - 1, argv + 1, s->options)))
+            return status;
+        if (a.form == HELP)
+            return fputs(help, stdout), GOOD;
+        if (a.operands < s->least || a.operands > s->most)
+            return usage(a.operands < s->least ? "there are too few words" : "there are too many words");
+        return s->run(&a);
+    }
+    return usage(argc > 1 ? "there is no such subcommand" : "a subcommand is missing");
+}
+
+int main(int argc, char **argv)
+{
+    signal(SIGPIPE, SIG_IGN); /* a reader that has gone away is trouble to be told of */
+    enum status status = run(argc, argv);
+    if (ferror(stdout) || fflush(stdout) != 0)
+        status = trouble("standard output");
+    return status;
+}

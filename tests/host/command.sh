@@ -1,0 +1,333 @@
+#!/bin/sh
+# Runs the command as a person would: command.sh COMMAND, from the top of the
+# repository. Every subcommand, every form and every exit status; files that are
+# missing, folders, endless, closed; output that is closed, full or read by nobody.
+# What is written to standard output and standard error is compared, byte for byte.
+# It prints what fails and a count, and ends with status 1 if anything did.
+set -u
+command=$1
+case $command in /*) ;; *) command=$PWD/$command ;; esac
+room=$(mktemp -d) || exit 2
+trap 'rm -rf "$room"' EXIT
+trap 'exit 2' HUP INT TERM
+passed=0 failed=0
+
+strip() { # FILE OCTAL...: a file of these bytes
+    file=$room/$1
+    shift
+    for byte; do printf "\\$byte"; done >"$file"
+}
+
+rule() { # FILE VARIABLES RECORD...: a rule strip; a record is its op and fields
+    file=$room/$1 variables=$2
+    shift 2
+    octal=$(printf '%s\n' "$@" | awk -v n="$variables" '
+        function put(count, value,    text) { for (; count > 0; count--) { text = value % 2 text; value = int(value / 2) } bits = bits text }
+        { op[NR] = $1; first[NR] = $2; second[NR] = $3 }
+        END {
+            put(4, 1); put(4, n); put(8, NR)
+            for (i = 1; i <= NR; i++) { put(4, op[i]); put(7, first[i]); put(7, second[i]) }
+            while (length(bits) % 8) bits = bits "0"
+            for (i = 1; i <= length(bits); i += 8) {
+                value = 0
+                for (k = 0; k < 8; k++) value = 2 * value + substr(bits, i + k, 1)
+                printf "\\%03o", value
+            }
+        }')
+    printf "$octal" >"$file"
+}
+
+verdict() { # RIGHT WHAT
+    if [ "$1" = yes ]; then
+        passed=$((passed + 1))
+        return
+    fi
+    failed=$((failed + 1))
+    echo "$2"
+    echo "  status $status, standard output and error:"
+    sed 's/^/  | /' "$room/out" "$room/err"
+}
+
+# The command's status, standard output and standard error must be these.
+expect() { # STATUS OUT ERR WORDS...
+    wanted=$1 out=$2 err=$3
+    shift 3
+    "$command" "$@" >"$room/out" 2>"$room/err" <"${input:-/dev/null}"
+    status=$?
+    right=yes
+    [ "$status" -eq "$wanted" ] || right=no
+    [ "$(cat "$room/out")" = "$out" ] || right=no
+    [ "$(cat "$room/err")" = "$err" ] || right=no
+    verdict $right "ws2s $*: expected status $wanted and
+$out
+$err"
+}
+
+# Only the status and a part of standard error; nothing on standard output.
+refuses() { # STATUS PART WORDS...
+    wanted=$1 part=$2
+    shift 2
+    "$command" "$@" >"$room/out" 2>"$room/err" <"${input:-/dev/null}"
+    status=$?
+    right=yes
+    [ "$status" -eq "$wanted" ] && [ ! -s "$room/out" ] && grep -qF -- "$part" "$room/err" || right=no
+    [ "$(wc -l <"$room/err")" -eq 1 ] || right=no
+    verdict $right "ws2s $*: expected status $wanted, one line with: $part"
+}
+
+cd "$(dirname "$0")/../.." || exit 2
+samples=samples
+
+# ---- decide
+expect 0 'shown: 2 places, 4 states
+seat
+  belt' '' decide $samples/first_inside.rul belt seat
+expect 0 'shown: 1 place, 3 states
+X0' '' decide $samples/one_part.rul
+expect 0 'shown: 0 places, 1 state
+(the empty tree)' '' decide $samples/hidden_part.rul
+expect 0 'shown: 2 places, 4 states
+(no kind)
+  X0' '' decide --outline $samples/inside_something.rul
+expect 0 'shown: 4 places, 49 states
+report
+  seat
+    belt
+  airbag' '' decide $samples/crash_report.rul report seat belt airbag
+expect 0 'shown: 1 place, 10 states
+this + that' '' decide $samples/same_kinds.rul this that
+expect 0 12B800 '' decide --hex $samples/first_inside.rul
+expect 0 1100 '' decide --hex $samples/hidden_part.rul
+expect 0 12B800 '' decide $samples/first_inside.rul belt --hex seat
+expect 0 12B800 '' decide --hex -c 4 -p 2 -- $samples/first_inside.rul
+expect 0 12B800 '' decide --hex -c4 -p2 $samples/first_inside.rul
+expect 1 'none: no finite sets satisfy the rule' '' decide $samples/kinds_in_a_circle.rul
+expect 1 '' 'none: no finite sets satisfy the rule' decide --svg $samples/kinds_in_a_circle.rul
+expect 2 'larger: finite sets satisfy the rule, but all of them take more than 1 place' '' decide -p 1 $samples/first_inside.rul
+expect 2 '' 'larger: finite sets satisfy the rule, but all of them take more than 1 place' decide -p 1 --hex $samples/first_inside.rul
+expect 3 '' 'ws2s: samples/cut_short.rul: refused 5: the rule'\''s length does not fit its records (1 record takes 5 bytes, and there are 4); it was cut, or has bytes left over' \
+    decide $samples/cut_short.rul
+expect 3 '' 'ws2s: samples/belt_in_every_seat.rul: refused 14: a record needs more than c states (record 7: exists other: 6); raise c, at most to 64, or simplify that record' \
+    decide -c 16 $samples/belt_in_every_seat.rul seat belt other
+expect 3 '' 'ws2s: samples/first_inside.rul: refused 11: a ceiling is out of range; c from 1 to 64, P at most 255' decide -c 65 $samples/first_inside.rul
+refuses 3 'refused 11' decide -c 0 $samples/first_inside.rul
+refuses 3 'refused 11' decide -p 256 $samples/first_inside.rul
+refuses 3 'refused 11' decide -p 99999999999999999999999 $samples/first_inside.rul
+expect 0 'digraph tree {
+    node [shape=box, style=rounded, fontname="sans-serif"];
+    n0 [label="a \"quoted\" \\ kind"];
+    n1 [label="b"];
+    n0 -> n1 [style=dashed];
+    { rank=same; n0; n1; }
+    n2 [label="c"];
+    n1 -> n2 [style=dashed];
+    { rank=same; n1; n2; }
+}' '' decide --dot $samples/in_order.rul 'a "quoted" \ kind' b c
+expect 0 'digraph tree {
+    node [shape=box, style=rounded, fontname="sans-serif"];
+    n0 [label="X1"];
+    n1 [label="X0"];
+    n0 -> n1;
+}' '' decide --dot $samples/first_inside.rul
+expect 0 'digraph tree {
+    node [shape=box, style=rounded, fontname="sans-serif"];
+    n0 [shape=plaintext, label="(the empty tree)"];
+}' '' decide --dot $samples/hidden_part.rul
+expect 0 '<svg xmlns="http://www.w3.org/2000/svg" width="84" height="124" font-family="sans-serif" font-size="15" text-anchor="middle">
+<title>a tree: solid to the first part inside, dashed to the next part beside</title>
+<rect width="100%" height="100%" fill="white"/>
+<g stroke="black" fill="white">
+<rect x="12" y="12" width="60" height="32" rx="6"/>
+<line x1="42" y1="44" x2="42" y2="80"/>
+<rect x="12" y="80" width="60" height="32" rx="6"/>
+</g>
+<text x="42" y="33">&lt;é&gt;&amp;</text>
+<text x="42" y="101">b</text>
+</svg>' '' decide --svg $samples/first_inside.rul b '<é>&'
+expect 0 '<svg xmlns="http://www.w3.org/2000/svg" width="168" height="56" font-family="sans-serif" font-size="15" text-anchor="middle">
+<title>a tree: solid to the first part inside, dashed to the next part beside</title>
+<rect width="100%" height="100%" fill="white"/>
+<g stroke="black" fill="white">
+</g>
+<text x="84" y="33">(the empty tree)</text>
+</svg>' '' decide --svg $samples/hidden_part.rul
+
+# ---- the strip itself, judged, checked and shown again
+"$command" decide --strip $samples/crash_report.rul >"$room/tree"
+"$command" decide --strip $samples/hidden_part.rul >"$room/empty"
+expect 0 'yes: the tree satisfies the rule' '' judge $samples/crash_report.rul "$room/tree"
+expect 0 'accepted: 4 variables, 4 places' '' check tree "$room/tree"
+expect 0 'accepted: 1 variable, 0 places' '' check tree "$room/empty"
+expect 0 "$("$command" decide --hex $samples/crash_report.rul)" '' tree --hex "$room/tree"
+expect 0 "$("$command" decide --svg $samples/crash_report.rul a b c d)" '' tree "$room/tree" --svg a b c d
+expect 0 "$("$command" decide --dot $samples/crash_report.rul)" '' tree "$room/tree" --dot
+expect 0 'X0
+  b
+    X2
+  X3' '' tree "$room/tree" X0 b
+expect 0 '(the empty tree)' '' tree "$room/empty"
+expect 1 'no: the tree does not satisfy the rule' '' judge $samples/one_part.rul "$room/empty"
+expect 3 '' "ws2s: $room/empty: refused 22: tree and rule have different numbers of variables; give the tree the rule's number" \
+    judge $samples/crash_report.rul "$room/empty"
+refuses 3 'samples/one_part.rul: refused 14: a record needs more than c states (record 0: Sing(X0))' judge -c 2 $samples/one_part.rul "$room/empty"
+refuses 3 'samples/cut_short.rul: refused 5' judge $samples/cut_short.rul "$room/empty"
+strip bare 022 200
+expect 3 '' "ws2s: $room/bare: refused 19: a node with label 0 has no branches; leave such nodes out" tree "$room/bare"
+refuses 3 "$room/bare: refused 19" judge $samples/first_inside.rul "$room/bare"
+refuses 3 "$room/bare: refused 19" check tree "$room/bare"
+strip nothing
+refuses 3 "$room/nothing: refused 15" tree "$room/nothing"
+refuses 3 'standard input: refused 15' check tree -
+refuses 3 'standard input: refused 1: the rule has fewer than two bytes; was the whole file read?' check rule -
+
+# ---- check and print
+expect 0 'accepted: 3 variables, 11 records' '' check rule $samples/belt_in_every_seat.rul
+expect 0 'accepted: 1 variable, 1 record' '' check rule $samples/one_part.rul
+expect 0 'n=3
+0: part = seat 1
+1: part ⊆ belt
+2: not 1
+3: 0 and 2
+4: exists part: 3
+5: seat ⊆ part
+6: 4 and 5
+7: exists seat: 6
+8: not 7
+9: Sing(part)
+10: 8 and 9' '' print $samples/belt_in_every_seat.rul part belt seat
+rule all 8 '0 0 7' '1 1 0' '2 2 3' '3 4 5' '4 6 0' '5 4 0' '6 0 1' '7 6 5' '8 7 7'
+expect 0 'n=8
+0: X0 ⊆ X7
+1: Sing(X1)
+2: X2 = X3 1
+3: X4 = X5 2
+4: X6 = ε
+5: not 4
+6: 0 or 1
+7: 6 and 5
+8: exists X7: 7' '' print "$room/all"
+rule bad 2 '0 0 1' '5 2 0' '9 96 2' '1 9 5' '4 0 3' '5 0 7'
+expect 3 'n=2
+0: X0 ⊆ a
+1: not 2   <- refused 9
+2: op 9, fields 96 and 2
+3: Sing(X9), unused field 5
+4: X0 = ε, unused field 3
+5: not 0, unused field 7' "ws2s: $room/bad: refused 9: a record names itself or a later record (record 1: not 2); put the record that it uses before it" \
+    print "$room/bad" X0 a
+rule bad 1 '0 0 0' '0 0 0' '2 0 1'
+expect 3 'n=1
+0: X0 ⊆ X0
+1: X0 ⊆ X0
+2: X0 = X1 1   <- refused 8' "ws2s: $room/bad: refused 8: a record names a variable that there is not (record 2: X0 = X1 1); correct the record, or the number of variables" \
+    print "$room/bad"
+refuses 3 'refused 8: a record names a variable that there is not (record 2: X0 = X1 1); correct' decide "$room/bad"
+rule bad 1 '1 0 1'
+refuses 3 'refused 10: an unused field is not 0 (record 0: Sing(X0), unused field 1); set it to 0' check rule "$room/bad"
+rule bad 1 '0 0 0' '10 1 0'
+refuses 3 'refused 7: a record has an unknown op (record 1: op 10, fields 1 and 0); the file is' check rule "$room/bad"
+strip bad 042 001 040 000 100
+refuses 3 "refused 2: the rule's version is not 1 (it is 2); write" print "$room/bad"
+strip bad 031 001 040 000 100
+refuses 3 'refused 3: the rule has no variable or more than 8 (it says 9); use' print "$room/bad"
+strip bad 022 201 040 000 100
+refuses 3 'refused 4: the rule has no record or more than 128 (it says 129); split it' print "$room/bad"
+expect 3 'n=2' "ws2s: samples/cut_short.rul: refused 5: the rule's length does not fit its records (1 record takes 5 bytes, and there are 4); it was cut, or has bytes left over" \
+    print $samples/cut_short.rul
+input=/dev/zero
+refuses 3 "standard input: refused 2: the rule's version is not 1 (it is 0); write" decide -
+refuses 3 "standard input: refused 16" tree -
+input=
+{ printf '\022\001\040\000\100' && cat /dev/zero; } 2>/dev/null | "$command" print - >"$room/out" 2>"$room/err"
+status=$?
+grep -qF 'refused 5: the rule'\''s length does not fit its records (1 record takes 5 bytes, and there are more)' "$room/err" && [ $status -eq 3 ] &&
+    [ "$(cat "$room/out")" = 'n=2
+0: X0 = X1 1' ] && right=yes || right=no
+verdict $right 'print of an endless strip'
+strip bad 022 001 040 000 101
+expect 3 'n=2
+0: X0 = X1 1' "ws2s: $room/bad: refused 6: a padding bit of the rule is set; the file is damaged" print "$room/bad"
+
+# ---- standard input
+input=$samples/first_inside.rul
+expect 0 12B800 '' decide --hex -
+expect 0 'n=2
+0: X0 = X1 1' '' print -
+printf '\022\270' >"$room/other" && printf '\022\270\000' >"$room/fits"
+expect 0 'yes: the tree satisfies the rule' '' judge - "$room/fits"
+refuses 3 "$room/other: refused 18" judge - "$room/other"
+input=
+
+# ---- a wrong command line
+for words in '' 'frobnicate' 'decide' 'decide --frob x' 'decide -c x' 'decide -c' 'decide -p 1x' 'decide -c -1 x' 'decide --hex --svg x' \
+    'judge x' 'judge x y z' 'judge -p 1 x y' 'judge --hex x y' 'judge - -' 'check' 'check rule' 'check leaf x' 'check rule x y' 'check -c 1 rule x' \
+    'print' 'print --hex x' 'print -c 1 x' 'tree' 'tree --strip x' 'tree -p 1 x' 'decide x 1 2 3 4 5 6 7 8 9' 'tree x 1 2 3 4 5 6 7 8 9 10 11' '-x'; do
+    # shellcheck disable=SC2086
+    refuses 64 'ws2s --help says how it is used' $words
+done
+refuses 64 'there are more names than variables' decide $samples/first_inside.rul a b c
+refuses 64 'there are more names than variables' print $samples/one_part.rul a b
+refuses 64 'there are more names than variables' tree "$room/empty" a b
+for name in '' 'a	b' "$(printf 'a\nb')" "$(printf '\033[31m')" "$(printf 'a\177')" "$(printf '\302\205')" "$(printf 'a\377')" "$(printf '\303')" \
+    "$(printf '\300\200')" "$(printf '\355\240\200')" "$(printf '\357\277\276')" "$(printf '\364\220\200\200')" "$(printf '\340\200\257')"; do
+    refuses 64 'a name must be text that can be printed' decide $samples/first_inside.rul "$name"
+done
+expect 0 'shown: 1 place, 3 states
+𝔵 ž' '' decide $samples/one_part.rul '𝔵 ž'
+expect 0 'shown: 1 place, 3 states
+-x' '' decide -- $samples/one_part.rul -x
+
+# ---- help
+"$command" --help >"$room/help" && [ "$(wc -l <"$room/help")" -gt 20 ] || { echo 'no help'; failed=$((failed + 1)); }
+for words in -h help 'decide --help' 'judge -h x' 'tree --help'; do
+    # shellcheck disable=SC2086
+    expect 0 "$(cat "$room/help")" '' $words
+done
+expect 0 "ws2s $(sed -n 's/^#define WS2S_VERSION "\(.*\)"$/\1/p' include/ws2s.h)" '' --version
+
+# ---- trouble with files
+refuses 74 "$room/missing: No such file or directory" decide "$room/missing"
+refuses 74 "$room: Is a directory" decide "$room"
+refuses 74 "$room/missing: No such file or directory" judge $samples/one_part.rul "$room/missing"
+refuses 74 "$room: Is a directory" tree "$room"
+refuses 74 "$room/missing: No such file" check tree "$room/missing"
+refuses 74 "$room: Is a directory" print "$room"
+input=$room
+refuses 74 'standard input: Is a directory' check rule -
+input=
+
+told() { # WHAT STATUS: standard error has this, once
+    right=no
+    [ "$status" -eq "$2" ] && [ "$(cat "$room/err")" = "ws2s: standard output: $1" ] && right=yes
+    verdict $right "expected status $2 and: $1"
+}
+: >"$room/out"
+for words in "decide $samples/first_inside.rul" "decide --svg $samples/first_inside.rul" "decide --strip $samples/first_inside.rul" \
+    "decide $samples/kinds_in_a_circle.rul" "decide -p 1 $samples/first_inside.rul" "judge $samples/crash_report.rul $room/tree" \
+    "check rule $samples/one_part.rul" "print $samples/one_part.rul" "print $samples/cut_short.rul" "tree $room/tree" '--help' '--version'; do
+    # shellcheck disable=SC2086
+    "$command" $words >/dev/full 2>"$room/err"
+    status=$?
+    sed -i '/refused 5/d' "$room/err"
+    told 'No space left on device' 74
+    # shellcheck disable=SC2086
+    "$command" $words >&- 2>"$room/err"
+    status=$?
+    sed -i '/refused 5/d' "$room/err"
+    told 'Bad file descriptor' 74
+done
+{ sleep 0.2; "$command" decide $samples/first_inside.rul 2>"$room/err"; echo $? >"$room/status"; } | :
+status=$(cat "$room/status")
+told 'Broken pipe' 74
+"$command" decide - <&- >"$room/out" 2>"$room/err"
+status=$?
+[ "$status" -eq 74 ] && [ "$(cat "$room/err")" = 'ws2s: standard input: Bad file descriptor' ] && right=yes || right=no
+verdict $right 'standard input closed'
+# what has nothing to write needs no output
+"$command" decide $samples/cut_short.rul >&- 2>"$room/err"
+status=$?
+[ "$status" -eq 3 ] && right=yes || right=no
+verdict $right 'refused, with standard output closed'
+
+echo "command: $passed passed, $failed failed"
+[ "$failed" -eq 0 ]
