@@ -1,20 +1,22 @@
 #!/bin/sh
 # Holds the C header to what the library exports, and both to the archive:
 #
-#     exports.sh EXPORTS HEADER ARCHIVE
+#     exports.sh EXPORTS HEADER ARCHIVE SHARED
 #
 # EXPORTS is the source of the exported structures and functions. The header's
 # structures must have the same fields in the same places, and its functions the
-# same results and the same parameters, by type, name and order. The archive must
-# define just these functions, and take nothing from outside but memcpy and
-# memset. It prints what differs, and ends with status 1 if anything does.
+# same results and the same parameters, by type, name and order. The archive and
+# the shared library must define just these functions, and take nothing from
+# outside but memcpy and memset; the shared library's soname must be that of the
+# header's version. It prints what differs, and ends with status 1 if anything
+# does.
 set -u
 
-if [ $# -ne 3 ]; then
-    echo "usage: $0 EXPORTS HEADER ARCHIVE" >&2
+if [ $# -ne 4 ]; then
+    echo "usage: $0 EXPORTS HEADER ARCHIVE SHARED" >&2
     exit 2
 fi
-exports=$1 header=$2 archive=$3
+exports=$1 header=$2 archive=$3 shared=$4
 room=$(mktemp -d) || exit 2
 trap 'rm -rf "$room"' EXIT
 trap 'exit 2' HUP INT TERM
@@ -39,17 +41,30 @@ cp "$header" "$room/ws2s.h" || exit 2
 ${CC:-cc} -std=c11 -Wall -Wextra -Werror -fsyntax-only "$room/both.c" >"$room/said" 2>&1 ||
     differ 'a C compiler says that the header is another'
 
-nm -P -g "$archive" >"$room/symbols" || exit 2
-awk -v room="$room" '
-    NF < 2 { next } # the name of a part of the archive
-    $2 ~ /^[Uvw]$/ { wanted[$1]; next }
-    { defined[$1]; print $1 >(room "/defined") }
-    END {
-        for (name in wanted)
-            if (!(name in defined) && name != "memcpy" && name != "memset") print name
-    }' "$room/symbols" >"$room/said"
-[ ! -s "$room/said" ] || differ 'the archive takes from outside'
-same 'the functions exported and those of the archive' exported defined
+# What a library defines and wants. Weak names that a linker puts into every
+# shared library are none of its own.
+symbols() { # what it is, the list of its names, nm's options, the library
+    what=$1 list=$2
+    shift 2
+    : >"$room/$list"
+    nm -P -g "$@" >"$room/symbols" || exit 2
+    awk -v list="$room/$list" '
+        NF < 2 { next } # the name of a part of an archive
+        $2 ~ /^[vw]$/ && $1 ~ /^(_ITM_|__cxa_finalize|__gmon_start__)/ { next }
+        $2 ~ /^[Uvw]$/ { sub(/@.*/, "", $1); wanted[$1]; next }
+        { defined[$1]; print $1 >list }
+        END {
+            for (name in wanted)
+                if (!(name in defined) && name != "memcpy" && name != "memset") print name
+        }' "$room/symbols" >"$room/said"
+    [ ! -s "$room/said" ] || differ "the $what takes from outside"
+    same "the functions exported and those of the $what" exported "$list"
+}
+symbols archive defined "$archive"
+symbols 'shared library' dynamic -D "$shared"
+soname=libws2s.so.$(sed -n 's/^#define WS2S_VERSION "\([0-9]*\)\..*"$/\1/p' "$header")
+readelf -d "$shared" >"$room/said" || exit 2
+grep -q "(SONAME).*\[$soname\]" "$room/said" || differ "the shared library's soname is not $soname"
 
-[ "$bad" -ne 0 ] || echo "exports: $(cat "$room/count") agree with the header and the archive"
+[ "$bad" -ne 0 ] || echo "exports: $(cat "$room/count") agree with the header and both libraries"
 exit "$bad"
