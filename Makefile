@@ -1,87 +1,140 @@
 # Chrastoun: build, run, test, measure, install. `make help` lists the targets.
 CC ?= cc
+CXX ?= c++
 CFLAGS ?= -std=c11 -Wall -Wextra -O2
-PREFIX ?= /usr/local
+SANITIZE ?= -fsanitize=address,undefined -fno-sanitize-recover=all -g
 RULE ?= samples/first_inside.rul
-VERSION := 1.0.0
+export RULE
+PREFIX ?= /usr/local
+BINDIR ?= $(PREFIX)/bin
+LIBDIR ?= $(PREFIX)/lib
+INCLUDEDIR ?= $(PREFIX)/include
+MANDIR ?= $(PREFIX)/share/man
 
-LIB := target/staticlib/libws2s.a
+# The header has the version; a soname lasts as long as its first number.
+VERSION := $(shell sed -n 's/^.define WS2S_VERSION "\(.*\)"$$/\1/p' include/ws2s.h)
+SONAME := libws2s.so.$(firstword $(subst ., ,$(VERSION)))
+
+ARCHIVE := target/staticlib/libws2s.a
+SHARED := target/lib/libws2s.so.$(VERSION)
+COMMAND := target/bin/ws2s
+VERDICT := target/bin/verdict
 HOST := target/host
-INCLUDES := -Iinclude -Itests/oracle
+HEADER := include/ws2s.h
+ORACLE := tests/oracle/oracle.c
+ORACLE_HEADERS := tests/oracle/oracle.h tests/oracle/atom.h
+CLI := cli/ws2s.c cli/words.c cli/drawing.c
+CLI_HEADERS := cli/words.h cli/drawing.h
 VECTORS := $(wildcard tests/vectors/base/*.txt)
+SAMPLES := $(wildcard samples/*.rul)
+MAN1 := $(wildcard man/*.1)
+MAN3 := $(wildcard man/*.3)
 
-.PHONY: help run test host-test attack bound example bench install clean FORCE
+.PHONY: help all run library command test host-test attack bound example bench install uninstall clean FORCE
 .DELETE_ON_ERROR:
-# Two runs of rt on one target/ would disturb each other.
+# rt proves on all cores by itself. That no two of them run on one target/ is tools/prove.sh's care.
 .NOTPARALLEL:
 
 help:
 	@echo 'make run [RULE=file]   prove and build the verdict program, and decide a rule strip'
+	@echo 'make library           prove the library and build its archive and shared library, under target/'
+	@echo 'make command           the same, and build the command, target/bin/ws2s'
+	@echo 'make all               all of these'
 	@echo 'make test              the gate: prove everything from nothing and run every test'
-	@echo 'make host-test         build the C library and run every test of tests/host: header, vectors, attack, stack, verdict program, documents, make'
-	@echo 'make attack            a longer attack [SEED=n CALLS=n]'
+	@echo 'make host-test         what the gate tests beside the proofs: header, vectors, attack, stack, programs, install, documents, make'
+	@echo 'make attack            a longer attack on the library [SEED=n CALLS=n]'
 	@echo 'make bound             how many places a rule of at most 16 states can need'
 	@echo 'make example           the example host program on a rule strip [RULE=file NAMES="belt seat"]'
 	@echo 'make bench             the library beside unproved code and, where it is installed, MONA'
-	@echo 'make install PREFIX=p  header, archive, pkg-config file, verdict program, manual pages'
+	@echo 'make install           header, libraries, pkg-config files, command, verdict program, manual pages [PREFIX=/usr/local DESTDIR=]'
+	@echo 'make uninstall         remove what install put there [PREFIX=/usr/local DESTDIR=]'
+	@echo 'make clean             remove target/, where everything is built'
 
-run: target/bin/verdict
-	@target/bin/verdict < $(RULE)
+all: library command $(VERDICT)
 
-# rt knows by content whether anything that a crate is made of has changed, so it is always asked: a list of sources here could miss one.
-prove = rt check $(1) > target/$(1).log 2>&1 || { cat target/$(1).log; exit 1; }
+run: $(VERDICT)
+	@$(VERDICT) < "$$RULE"
 
-target/bin/verdict: FORCE
-	@mkdir -p target
-	@[ -f $@ ] || rm -f target/stamp/verdict
-	$(call prove,verdict)
+library: $(ARCHIVE) $(SHARED)
 
-target/stamp/ws2s: FORCE
-	@mkdir -p target
-	$(call prove,ws2s)
-
-# The archive stays only if it is, byte for byte, what was made here from the crate with this stamp: rt staticlib by hand may have
-# made it of other sources.
-$(LIB): target/stamp/ws2s FORCE
-	@cat $< $@ 2> /dev/null | cksum | cmp -s - $@.sum || { echo rt staticlib ws2s; rt staticlib ws2s && cat $< $@ | cksum > $@.sum; }
-
-FORCE:
+command: $(COMMAND)
 
 test:
 	.ci/run
 
-$(HOST)/vectors: tests/host/vectors.c tests/host/lent.h tests/host/request.h tests/host/strip.h include/ws2s.h $(LIB)
-	@mkdir -p $(HOST)
-	$(CC) $(CFLAGS) $(INCLUDES) $< $(LIB) -o $@
+FORCE:
 
-$(HOST)/attack: tests/host/attack.c tests/host/lent.h tests/host/strip.h tests/oracle/oracle.c tests/oracle/oracle.h tests/oracle/atom.h include/ws2s.h $(LIB)
-	@mkdir -p $(HOST)
-	$(CC) $(CFLAGS) $(INCLUDES) $< tests/oracle/oracle.c $(LIB) -o $@
+$(VERDICT): FORCE
+	@tools/prove.sh program verdict
 
-$(HOST)/verdict: tests/host/verdict.c tests/host/request.h tests/host/strip.h tests/oracle/oracle.c tests/oracle/oracle.h tests/oracle/atom.h include/ws2s.h $(LIB)
-	@mkdir -p $(HOST)
-	$(CC) $(CFLAGS) $(INCLUDES) $< tests/oracle/oracle.c $(LIB) -o $@
+$(ARCHIVE): FORCE
+	@tools/prove.sh library ws2s
 
-$(HOST)/stack: tests/host/stack.c tests/host/lent.h tests/host/request.h tests/host/strip.h tests/oracle/oracle.c tests/oracle/oracle.h tests/oracle/atom.h include/ws2s.h $(LIB)
-	@mkdir -p $(HOST)
-	$(CC) $(CFLAGS) $(INCLUDES) -pthread $< tests/oracle/oracle.c $(LIB) -o $@
+$(SHARED): $(ARCHIVE) $(HEADER)
+	@mkdir -p $(@D)
+	$(CC) $(LDFLAGS) -shared -Wl,-soname,$(SONAME) -Wl,-z,defs -Wl,--whole-archive $(ARCHIVE) -Wl,--no-whole-archive -o $@
+	@ln -sf $(@F) $(@D)/$(SONAME) && ln -sf $(SONAME) $(@D)/libws2s.so
 
-$(HOST)/bench: bench/bench.c tests/oracle/oracle.c tests/oracle/oracle.h tests/oracle/atom.h include/ws2s.h $(LIB)
-	@mkdir -p $(HOST)
-	$(CC) $(CFLAGS) $(INCLUDES) $< tests/oracle/oracle.c $(LIB) -o $@
+# A program of the C files among what it is made of, and the archive.
+define link
+@mkdir -p $(@D)
+$(CC) $(CFLAGS) -Iinclude -Itests/oracle $(LDFLAGS) $(filter %.c,$^) $(ARCHIVE) -o $@
+endef
 
-$(HOST)/example: examples/host.c include/ws2s.h $(LIB)
-	@mkdir -p $(HOST)
-	$(CC) $(CFLAGS) $(INCLUDES) $< $(LIB) -o $@
+$(COMMAND): $(CLI) $(CLI_HEADERS) $(HEADER) $(ARCHIVE)
+	$(link)
 
-host-test: $(HOST)/vectors $(HOST)/attack $(HOST)/stack $(HOST)/verdict target/bin/verdict
-	CC='$(CC)' tests/host/exports.sh crates/ws2s/src/exports.rt include/ws2s.h $(LIB)
+$(HOST)/vectors: tests/host/vectors.c tests/host/lent.h tests/host/request.h tests/host/strip.h $(HEADER) $(ARCHIVE)
+	$(link)
+
+# The same over the shared library.
+$(HOST)/vectors-shared: tests/host/vectors.c tests/host/lent.h tests/host/request.h tests/host/strip.h $(HEADER) $(SHARED)
+	@mkdir -p $(@D)
+	$(CC) $(CFLAGS) -Iinclude $< -Ltarget/lib -lws2s -Wl,-rpath,'$$ORIGIN/../lib' -o $@
+
+$(HOST)/attack: tests/host/attack.c $(ORACLE) tests/host/lent.h tests/host/strip.h $(ORACLE_HEADERS) $(HEADER) $(ARCHIVE)
+	$(link)
+
+$(HOST)/header: tests/host/header.c tests/host/lent.h tests/host/strip.h $(HEADER) $(ARCHIVE)
+	$(link)
+
+$(HOST)/verdict: tests/host/verdict.c $(ORACLE) tests/host/request.h tests/host/strip.h $(ORACLE_HEADERS) $(HEADER) $(ARCHIVE)
+	$(link)
+
+$(HOST)/stack: tests/host/stack.c $(ORACLE) tests/host/lent.h tests/host/request.h tests/host/strip.h $(ORACLE_HEADERS) $(HEADER) $(ARCHIVE)
+	$(link) -pthread
+
+$(HOST)/command: tests/host/command.c $(CLI) tests/host/strip.h $(CLI_HEADERS) $(HEADER) $(ARCHIVE)
+	@mkdir -p $(@D)
+	$(CC) $(CFLAGS) $(SANITIZE) -Iinclude -Dmain=command_main -c cli/ws2s.c -o $@.o
+	$(CC) $(CFLAGS) $(SANITIZE) -Iinclude $(filter-out cli/ws2s.c,$(filter %.c,$^)) $@.o $(ARCHIVE) -o $@
+
+$(HOST)/bench: bench/bench.c $(ORACLE) $(ORACLE_HEADERS) $(HEADER) $(ARCHIVE)
+	$(link)
+
+$(HOST)/example: examples/host.c $(HEADER) $(ARCHIVE)
+	$(link)
+
+$(HOST)/bound: tests/bound/bound.c tests/oracle/atom.h
+	@mkdir -p $(@D)
+	$(CC) $(CFLAGS) -Itests/oracle $< -o $@
+
+host-test: export CC := $(CC)
+host-test: export CXX := $(CXX)
+host-test: $(foreach t,vectors vectors-shared attack header stack verdict command,$(HOST)/$(t)) $(COMMAND) $(VERDICT)
+	tests/host/exports.sh crates/ws2s/src/exports.rt $(HEADER) $(ARCHIVE) $(SHARED)
+	tests/host/header.sh $(ARCHIVE)
+	$(HOST)/header
 	tests/host/lines.sh
 	$(HOST)/vectors $(VECTORS) tests/vectors/heavy.txt
+	$(HOST)/vectors-shared $(VECTORS)
 	$(HOST)/attack 1 200000
 	$(HOST)/stack $(VECTORS) tests/vectors/heavy.txt
-	$(HOST)/verdict target/bin/verdict $(VECTORS)
-	CC='$(CC)' tests/host/documents.sh target/bin/verdict $(LIB)
+	$(HOST)/verdict $(VERDICT) $(VECTORS)
+	tests/host/command.sh $(COMMAND)
+	$(HOST)/command 1 1000
+	tests/host/documents.sh $(VERDICT) $(COMMAND) $(ARCHIVE)
+	tests/host/install.sh
 	tests/host/make_notices.sh
 
 SEED ?= 2
@@ -89,32 +142,39 @@ CALLS ?= 5000000
 attack: $(HOST)/attack
 	$(HOST)/attack $(SEED) $(CALLS)
 
-$(HOST)/bound: tests/bound/bound.c tests/oracle/atom.h
-	@mkdir -p $(HOST)
-	$(CC) $(CFLAGS) $(INCLUDES) $< -o $@
-
 bound: $(HOST)/bound
 	$(HOST)/bound
 
 example: $(HOST)/example
-	$(HOST)/example -f $(RULE) $(NAMES)
+	@$(HOST)/example "$$RULE" $(NAMES)
 
-bench: $(HOST)/bench target/bin/verdict
-	$(HOST)/bench -v tests/vectors/base/decide.txt -l tests/vectors/heavy.txt -l bench/worst.txt $(wildcard samples/*.rul)
-	bench/instructions.sh $(HOST)/bench $(foreach l,1 2 3 4 5,tests/vectors/heavy.txt:$(l)) $(wildcard samples/*.rul)
-	if command -v mona > /dev/null; then bench/mona.py --time target/bin/verdict $(wildcard samples/*.rul) && bench/mona.py --compare tests/vectors/base/decide.txt; else echo 'MONA is not installed'; fi
+bench: $(HOST)/bench $(VERDICT)
+	$(HOST)/bench -v tests/vectors/base/decide.txt -l tests/vectors/heavy.txt -l bench/worst.txt $(SAMPLES)
+	bench/instructions.sh $(HOST)/bench $(foreach l,1 2 3 4 5,tests/vectors/heavy.txt:$(l)) $(SAMPLES)
+	if command -v mona > /dev/null; then bench/mona.py --time $(VERDICT) $(SAMPLES) && bench/mona.py --compare tests/vectors/base/decide.txt; else echo 'MONA is not installed'; fi
 
-install: target/bin/verdict $(LIB)
-	@mkdir -p $(HOST)
-	sed -e 's|@PREFIX@|$(PREFIX)|' -e 's|@VERSION@|$(VERSION)|' packaging/ws2s.pc.in > $(HOST)/ws2s.pc
-	install -d $(DESTDIR)$(PREFIX)/include $(DESTDIR)$(PREFIX)/lib/pkgconfig $(DESTDIR)$(PREFIX)/bin \
-	    $(DESTDIR)$(PREFIX)/share/man/man1 $(DESTDIR)$(PREFIX)/share/man/man3
-	install -m 644 include/ws2s.h $(DESTDIR)$(PREFIX)/include/
-	install -m 644 $(LIB) $(DESTDIR)$(PREFIX)/lib/
-	install -m 644 $(HOST)/ws2s.pc $(DESTDIR)$(PREFIX)/lib/pkgconfig/
-	install -m 755 target/bin/verdict $(DESTDIR)$(PREFIX)/bin/
-	install -m 644 man/verdict.1 $(DESTDIR)$(PREFIX)/share/man/man1/
-	install -m 644 man/ws2s.3 $(DESTDIR)$(PREFIX)/share/man/man3/
+# Where things go. The names may have spaces in them.
+INSTALLED = $(foreach f,$(MAN1),"$(DESTDIR)$(MANDIR)/man1/$(notdir $(f))") $(foreach f,$(MAN3),"$(DESTDIR)$(MANDIR)/man3/$(notdir $(f))") \
+    $(foreach f,ws2s verdict,"$(DESTDIR)$(BINDIR)/$(f)") "$(DESTDIR)$(INCLUDEDIR)/ws2s.h" \
+    $(foreach f,libws2s.a libws2s.so.$(VERSION) $(SONAME) libws2s.so pkgconfig/ws2s.pc pkgconfig/ws2s-static.pc,"$(DESTDIR)$(LIBDIR)/$(f)")
+
+install: $(VERDICT) $(COMMAND) $(ARCHIVE) $(SHARED)
+	@install -d "$(DESTDIR)$(INCLUDEDIR)" "$(DESTDIR)$(LIBDIR)/pkgconfig" "$(DESTDIR)$(BINDIR)" "$(DESTDIR)$(MANDIR)/man1" "$(DESTDIR)$(MANDIR)/man3"
+	install -m 644 $(HEADER) "$(DESTDIR)$(INCLUDEDIR)/"
+	install -m 644 $(ARCHIVE) "$(DESTDIR)$(LIBDIR)/"
+	install -m 755 $(SHARED) "$(DESTDIR)$(LIBDIR)/"
+	ln -sf $(notdir $(SHARED)) "$(DESTDIR)$(LIBDIR)/$(SONAME)"
+	ln -sf $(SONAME) "$(DESTDIR)$(LIBDIR)/libws2s.so"
+	for name in ws2s ws2s-static; do \
+	    sed -e 's|@LIBDIR@|$(LIBDIR)|' -e 's|@INCLUDEDIR@|$(INCLUDEDIR)|' -e 's|@VERSION@|$(VERSION)|' packaging/$$name.pc.in \
+	        > "$(DESTDIR)$(LIBDIR)/pkgconfig/$$name.pc" || exit 1; \
+	done
+	install -m 755 $(COMMAND) $(VERDICT) "$(DESTDIR)$(BINDIR)/"
+	install -m 644 $(MAN1) "$(DESTDIR)$(MANDIR)/man1/"
+	install -m 644 $(MAN3) "$(DESTDIR)$(MANDIR)/man3/"
+
+uninstall:
+	rm -f $(INSTALLED)
 
 clean:
 	rm -rf target
