@@ -1,7 +1,8 @@
 #!/usr/bin/env python3
 """Writes rule strips as MONA text and compares MONA's verdicts with ours.
 
-    mona.py RULE               print the text for a strip in hex, or in a file
+    mona.py RULE...            print the text for a strip in hex, or in a file;
+                               nothing if any of them is refused
     mona.py --compare FILE...  run MONA on lines of vector files. Rules whose
                                answer is shown, larger or none: the first two must
                                be satisfiable, the last not. Trees that are shown
@@ -22,11 +23,40 @@ import time
 
 
 def read_strip(strip):
-    """The number of variables and the records of a valid rule strip."""
+    """The number of variables and the records of a rule strip of the right length."""
     bits = "".join(f"{byte:08b}" for byte in strip)
     cut = lambda at, length: int(bits[at:at + length], 2)
     starts = [16 + 18 * i for i in range(strip[1])]
     return strip[0] & 15, [(cut(at, 4), cut(at + 4, 7), cut(at + 11, 7)) for at in starts]
+
+
+# What the two fields of each op are: a variable, a record, or unused.
+FIELDS = ["vv", "v-", "vv", "vv", "v-", "r-", "rr", "rr", "vr"]
+
+
+def record_refusal(n, number, op, *fields):
+    """The refusal of a record, 0 if it is good."""
+    if op >= len(FIELDS):
+        return 7
+    for use, limit, refusal in (("v", n, 8), ("r", number, 9), ("-", 1, 10)):
+        if any(u == use and field >= limit for u, field in zip(FIELDS[op], fields)):
+            return refusal
+    return 0
+
+
+def refusal_of(strip):
+    """The refusal of a rule strip, 1 to 10; 0 if it is accepted."""
+    if len(strip) < 2:
+        return 1
+    size = 16 + 18 * strip[1]
+    for refused, number in ((strip[0] >> 4 != 1, 2), (not 1 <= strip[0] & 15 <= 8, 3),
+                            (not 1 <= strip[1] <= 128, 4), (len(strip) != (size + 7) // 8, 5),
+                            (int.from_bytes(strip, "big") % (1 << -size % 8) != 0, 6)):
+        if refused:
+            return number
+    n, records = read_strip(strip)
+    found = (record_refusal(n, number, *record) for number, record in enumerate(records))
+    return next((number for number in found if number), 0)
 
 
 def read_tree(strip):
@@ -150,9 +180,9 @@ def time_rules(program, rules, limit):
     print(f"{'':28} {'verdict ms':>12} {'MONA ms':>12}   verdict")
     for name in rules:
         rule = open(name, "rb").read()
-        said, ours = least_time(lambda: run_program(program, rule))
-        if said[0] == "refused" and int(said[1]) <= 10:
+        if refusal_of(rule):
             continue
+        said, ours = least_time(lambda: run_program(program, rule))
         text = to_mona(rule)
         theirs = least_time(lambda: run_mona(text, limit))[1]
         print(f"{os.path.basename(name):28} {ours:12.2f} {theirs:12.2f}   {' '.join(said)}")
@@ -173,9 +203,16 @@ def main():
     if options.time:
         time_rules(options.time, options.argument, options.limit)
         return
+    texts = []
     for rule in options.argument:
-        strip = open(rule, "rb").read() if os.path.exists(rule) else bytes.fromhex(rule)
-        sys.stdout.write(to_mona(strip))
+        try:
+            strip = open(rule, "rb").read() if os.path.exists(rule) else bytes.fromhex(rule)
+        except (OSError, ValueError) as error:
+            sys.exit(f"mona.py: {rule}: {error}")
+        if refusal_of(strip):
+            sys.exit(f"mona.py: {rule}: refused {refusal_of(strip)}")
+        texts.append(to_mona(strip))
+    sys.stdout.write("".join(texts))
 
 
 if __name__ == "__main__":
