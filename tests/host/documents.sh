@@ -1,46 +1,110 @@
 #!/bin/sh
-# Holds what the documents show to what the programs do: documents.sh VERDICT ARCHIVE, from the top of the repository. The README's C
-# program is compiled and run, its command for the verdict program too, in sh; every sample has a row in samples/README.md, whose verdict
-# is the program's; and no contract or definition cites a file under proofs/, as docs/PROOFS.md says.
+# Holds what the documents show to what the programs do:
+#
+#     documents.sh VERDICT COMMAND ARCHIVE
+#
+# from the top of the repository.
+# - Every command that README.md, samples/README.md and the manual pages show after
+#   a prompt is run, and must write what they show after it.
+# - The README's C program is the example host; its table of refusals and that of
+#   ws2s(3) have the header's names and texts; the manual's example prints what it
+#   says.
+# - Every sample has a row in samples/README.md, with its records as the command
+#   prints them and the verdict program's verdict.
+# - The picture is the one that the command draws.
+# - Every target of make is in `make help` and in the README.
+# - No contract or definition cites a file under proofs/, as docs/PROOFS.md says.
+# It prints what differs, and ends with status 1 if anything does.
 set -eu
-verdict=$1 archive=$2
+verdict=$PWD/$1 command=$PWD/$2 archive=$PWD/$3
 room=$(mktemp -d)
 trap 'rm -rf "$room"' EXIT
 failed=0
 differs() { # WHAT EXPECTED GOT
     [ "$2" = "$3" ] && return
-    printf '%s: documented  %s\n%s: happened    %s\n' "$1" "$2" "$1" "$3"
+    printf '%s: documented\n%s\n%s: happened\n%s\n' "$1" "$2" "$1" "$3"
     failed=1
 }
 
-# What stands in the README after the first line that matches.
-line_after() { awk -v command="$1" 'found { sub(/^ +/, ""); print; exit } index($0, command) { found = 1 }' README.md; }
+# ---- What is shown after a prompt
 
-# The C program, as it stands between the first pair of fences.
-awk '/^```c$/ { inside = 1; next } /^```$/ { if (inside) exit } inside' README.md > "$room/first.c"
-[ -s "$room/first.c" ] || { echo 'the README has no C program'; exit 1; }
-${CC:-cc} -std=c99 -pedantic -Wall -Wextra -Werror -Iinclude "$room/first.c" "$archive" -o "$room/first"
-differs 'README, C program' "$(line_after '&& ./first')" "$("$room/first")"
+mkdir "$room/bin" "$room/tree"
+ln -s "$verdict" "$room/bin/verdict"
+ln -s "$command" "$room/bin/ws2s"
+for part in samples include examples target; do ln -s "$PWD/$part" "$room/tree/$part"; done
+transcripts=0
+transcript() { # FILE [SED]: the indented lines that have a prompt, and those up to the next that is not indented
+    sed "${2:-}" "$1" | awk -v room="$room" '
+        !/^    / { inside = 0; next }
+        { sub(/^    /, "") }
+        /^\$ / { inside = 1; print substr($0, 3) >(room "/shown.sh"); print "+ " substr($0, 3) >(room "/shown"); count++; next }
+        inside { print >(room "/shown") }
+        END { print count + 0 >(room "/count") }'
+    awk '{ q = $0; gsub(/'\''/, "'\''\\'\'''\''", q); print "printf '\''+ %s\\n'\'' '\''" q "'\''"; print }' "$room/shown.sh" >"$room/run.sh"
+    (cd "$room/tree" && PATH="$room/bin:$PATH" sh "$room/run.sh" >"$room/happened" 2>&1 </dev/null) || true
+    differs "$1" "$(cat "$room/shown")" "$(cat "$room/happened")"
+    transcripts=$((transcripts + $(cat "$room/count")))
+    rm -f "$room/shown" "$room/shown.sh"
+}
+transcript README.md
+transcript samples/README.md
+unroff='s/\\-/-/g; s/\\(ib/⊆/g; s/\\e/\\/g'
+transcript man/ws2s.1 "$unroff"
+transcript man/verdict.1 "$unroff"
+[ "$transcripts" -ge 14 ] || { echo "only $transcripts commands are shown"; failed=1; }
 
-# The command line: its first word is the prompt.
-command=$(sed -n "s/^ *\$ \(printf .*\) | target\/bin\/verdict\$/\1/p" README.md)
-[ -n "$command" ] || { echo 'the README has no command for the verdict program'; exit 1; }
-differs 'README, command' "$(line_after '| target/bin/verdict')" "$(sh -c "$command" | "$verdict")"
-manual=$(sed -n "s/^ *\$ \(printf .*\) | verdict\$/\1/p" man/verdict.1 | sed 's/\\e/\\/g')
-differs 'man page, command' "$command" "$manual"
+# ---- The C programs and the refusals
 
-# The samples' table: `file` in its first column, `verdict` in its last.
-rows=0
+awk '/^```c$/ { inside = 1; next } /^```$/ { if (inside) exit } inside' README.md | cmp - examples/host.c || failed=1
+sed -n '/^\.SH EXAMPLES/,/^\.fi/p' man/ws2s.3 | sed -n "/^    /{$unroff; s/^    //; p;}" >"$room/manual.c"
+${CC:-cc} -std=c99 -pedantic -Wall -Wextra -Werror -Iinclude "$room/manual.c" "$archive" -o "$room/manual"
+differs 'ws2s(3), example' 'label 1
+  label 2' "$("$room/manual")"
+
+cat >"$room/refusals.c" <<'END'
+#include <stdio.h>
+#include <stdlib.h>
+#include <ws2s.h>
+int main(int argc, char **argv)
+{
+    for (int i = 1; i < argc; i++)
+        printf("%d|%s|%s|%s\n", i, argv[i], ws2s_refusal_text((uint64_t)i), ws2s_refusal_help((uint64_t)i));
+    return 0;
+}
+END
+${CC:-cc} -std=c99 -Iinclude "$room/refusals.c" -o "$room/refusals"
+# shellcheck disable=SC2046 # a word for each name, in the order of their numbers
+"$room/refusals" $(sed -n 's/^ *WS2S_REFUSED_\([A-Z_]*\) = \([0-9]*\).*/\2 \1/p' include/ws2s.h | sort -n | cut -d' ' -f2) >"$room/refused"
+[ "$(wc -l <"$room/refused")" -eq 22 ] || { echo 'the header does not have 22 refusals'; failed=1; }
+differs 'README, refusals' "$(sed -n 's/^| \([0-9]*\) | `\([A-Z_]*\)` | \(.*\) | \(.*\) |$/\1|\2|\3|\4/p' README.md)" "$(cat "$room/refused")"
+differs 'ws2s(3), refusals' "$(sed -n 's/^ *\([0-9][0-9]*\)  \([A-Z][A-Z_]*\)  *\([a-z].*\)$/\1|\2|\3/p' man/ws2s.3)" "$(cut -d'|' -f1-3 "$room/refused")"
+
+# ---- The samples: `file` in the first column, records in the last but one, `verdict` in the last
+
+rows=0 printed=0
 for rule in samples/*.rul; do
     row=$(grep "^| \`$(basename "$rule")\` |" samples/README.md) || { echo "$rule: no row in samples/README.md"; failed=1; continue; }
-    differs "$rule" "$(printf '%s\n' "$row" | sed 's/.*| `\([^`]*\)` |$/\1/')" "$("$verdict" < "$rule")"
+    differs "$rule" "$(printf '%s\n' "$row" | sed 's/.*| `\([^`]*\)` |$/\1/')" "$("$verdict" <"$rule")"
     rows=$((rows + 1))
+    case $row in *', cut |'* | *' to 16: '*) continue ;; esac
+    differs "$rule" "$(printf '%s\n' "$row" | sed 's/ | `[^`]*` |$//; s/.* | //')" "$("$command" print "$rule" | sed ':a; N; $!ba; s/\n/; /g')"
+    printed=$((printed + 1))
 done
 [ "$rows" -eq "$(grep -c '^| `.*\.rul` |' samples/README.md)" ] || { echo 'samples/README.md has rows without a sample'; failed=1; }
+[ "$printed" -ge $((rows - 2)) ] || { echo 'records of samples were not compared'; failed=1; }
 
+# ---- The picture, the targets, the proofs
+
+"$command" decide --svg samples/crash_report.rul report seat belt airbag | cmp - docs/crash_report.svg || failed=1
+make --no-print-directory help >"$room/help"
+for target in $(sed -n 's/^\.PHONY: //p' Makefile); do
+    [ "$target" != FORCE ] || continue
+    grep -q "make $target\b" "$room/help" || [ "$target" = help ] || { echo "make help has no $target"; failed=1; }
+    grep -q "\`make $target\`" README.md || { echo "the README has no make $target"; failed=1; }
+done
 if grep -n 'proofs\.' crates/*/specs/*.antt crates/*/src/*.rt; then
     echo 'a contract or definition cites a file under proofs/'
     failed=1
 fi
-[ "$failed" -eq 0 ] && echo "documents agree with the programs ($rows samples)"
+[ "$failed" -eq 0 ] && echo "documents agree with the programs ($rows samples, $transcripts commands)"
 exit "$failed"
