@@ -70,7 +70,7 @@ $(VERDICT): FORCE
 $(ARCHIVE): FORCE
 	@tools/prove.sh library ws2s
 
-$(SHARED): $(ARCHIVE) $(HEADER)
+$(SHARED): $(ARCHIVE) $(HEADER) Makefile
 	@mkdir -p $(@D)
 	$(CC) $(LDFLAGS) -shared -Wl,-soname,$(SONAME) -Wl,-z,defs -Wl,--whole-archive $(ARCHIVE) -Wl,--no-whole-archive -o $@
 	@ln -sf $(@F) $(@D)/$(SONAME) && ln -sf $(SONAME) $(@D)/libws2s.so
