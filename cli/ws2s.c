@@ -117,8 +117,8 @@ static enum status read_arguments(struct arguments *a, int argc, char **argv, co
         { "svg", no_argument, NULL, SVG }, { "help", no_argument, NULL, HELP }, { NULL, 0, NULL, 0 } };
     enum status status = GOOD;
     int option;
-    *a = (struct arguments){ .c = WS2S_MAX_STATES, .p = WS2S_MAX_POSITIONS };
     opterr = 0;
+    *a = (struct arguments){ .c = WS2S_MAX_STATES, .p = WS2S_MAX_POSITIONS };
     while (status == GOOD && (option = getopt_long(argc, argv, "-c:p:h", forms, NULL)) != -1) {
         if (option == 1)
             status = add_operand(a, optarg);
@@ -130,8 +130,10 @@ static enum status read_arguments(struct arguments *a, int argc, char **argv, co
                 status = usage("-c or -p is for another subcommand");
             else if (!read_number(optarg, option == 'c' ? &a->c : &a->p))
                 status = usage("-c and -p take a number");
-        } else if (option == '?' || !strchr(allowed, 'f') || (option == STRIP && !strchr(allowed, 's')))
-            status = usage("there is an option that it does not have");
+        } else if (option == '?')
+            status = usage(optopt == 'c' || optopt == 'p' ? "-c and -p take a number" : "there is no such option");
+        else if (!strchr(allowed, option == STRIP ? 's' : 'f'))
+            status = usage("the form is for another subcommand");
         else if (a->form != 0)
             status = usage("one form can be had at a time");
         else

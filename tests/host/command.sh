@@ -265,6 +265,9 @@ for words in '' 'frobnicate' 'decide' 'decide --frob x' 'decide -c x' 'decide -c
     # shellcheck disable=SC2086
     refuses 64 'ws2s --help says how it is used' $words
 done
+refuses 64 '-c and -p take a number' decide -c
+refuses 64 'there is no such option' decide --frob x
+refuses 64 'the form is for another subcommand' tree --strip x
 refuses 64 'there are more names than variables' decide $samples/first_inside.rul a b c
 refuses 64 'there are more names than variables' print $samples/one_part.rul a b
 refuses 64 'there are more names than variables' tree "$room/empty" a b
