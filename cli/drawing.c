@@ -188,6 +188,6 @@ void put_svg(FILE *to, const uint8_t *tree, size_t length, const struct names *n
         fputs("</text>\n", to);
     }
     if (l.nodes == 0)
-        fprintf(to, "<text x=\"%u\" y=\"%u\">%s</text>\n", width / 2 + MARGIN, MARGIN + 21, empty_tree);
+        fprintf(to, "<text x=\"%u\" y=\"%u\">%s</text>\n", width / 2 + MARGIN, (unsigned)MARGIN + 21, empty_tree);
     fputs("</svg>\n", to);
 }

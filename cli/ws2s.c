@@ -224,6 +224,17 @@ static enum status read_rule(const char *file, struct bytes *b, struct rule *rul
 
 /* ---- The subcommands ---- */
 
+/* A rule and what its variables are called, from the words RULE [NAME...]. */
+static enum status read_named_rule(const struct arguments *a, struct rule *rule, struct names *names, ws2s_rule *checked)
+{
+    static struct bytes bytes;
+    enum status status;
+    if ((status = read_names(a, 1, names)) || (status = read_rule(a->operand[0], &bytes, rule)))
+        return status;
+    *checked = ws2s_check_rule(rule->strip, rule->length);
+    return checked->refusal == 0 ? too_many_names(names, checked->variables) : GOOD;
+}
+
 static void put_tree(const uint8_t *tree, size_t length, enum form form, const struct names *names)
 {
     switch (form) {
@@ -248,16 +259,13 @@ static void put_tree(const uint8_t *tree, size_t length, enum form form, const s
 
 static enum status decide(const struct arguments *a)
 {
-    static struct bytes bytes;
     uint8_t out[WS2S_MAX_TREE_BYTES];
     FILE *words = a->form == OUTLINE ? stdout : stderr; /* in other forms standard output has trees alone */
     struct rule rule;
     struct names names;
+    ws2s_rule checked;
     enum status status;
-    if ((status = read_names(a, 1, &names)) || (status = read_rule(a->operand[0], &bytes, &rule)))
-        return status;
-    ws2s_rule checked = ws2s_check_rule(rule.strip, rule.length);
-    if (checked.refusal == 0 && (status = too_many_names(&names, checked.variables)))
+    if ((status = read_named_rule(a, &rule, &names, &checked)))
         return status;
     size_t size = ws2s_workspace_size(checked, a->c);
     uint8_t *workspace = malloc(size > 0 ? size : 1);
@@ -286,20 +294,20 @@ static enum status decide(const struct arguments *a)
 
 static enum status judge(const struct arguments *a)
 {
-    static struct bytes bytes, tree;
+    static struct bytes bytes, report;
     static const struct names names;
     struct rule rule;
     enum status status;
     if (strcmp(a->operand[0], "-") == 0 && strcmp(a->operand[1], "-") == 0)
         return usage("rule and tree cannot both be standard input");
     if ((status = read_rule(a->operand[0], &bytes, &rule))
-        || (status = read_strip(a->operand[1], WS2S_MAX_TREE_BYTES, &tree)))
+        || (status = read_strip(a->operand[1], WS2S_MAX_TREE_BYTES, &report)))
         return status;
     size_t size = ws2s_workspace_size(ws2s_check_rule(rule.strip, rule.length), a->c);
     uint8_t *workspace = malloc(size > 0 ? size : 1);
     if (!workspace)
         return trouble("workspace");
-    ws2s_judgement j = ws2s_judge(rule.strip, rule.length, a->c, workspace, size, tree.byte, tree.length);
+    ws2s_judgement j = ws2s_judge(rule.strip, rule.length, a->c, workspace, size, report.byte, report.length);
     free(workspace);
     switch (j.kind) {
     case WS2S_YES:
@@ -342,14 +350,11 @@ static enum status check(const struct arguments *a)
 
 static enum status print(const struct arguments *a)
 {
-    static struct bytes bytes;
     struct rule rule;
     struct names names;
+    ws2s_rule checked;
     enum status status;
-    if ((status = read_names(a, 1, &names)) || (status = read_rule(a->operand[0], &bytes, &rule)))
-        return status;
-    ws2s_rule checked = ws2s_check_rule(rule.strip, rule.length);
-    if (checked.refusal == 0 && (status = too_many_names(&names, checked.variables)))
+    if ((status = read_named_rule(a, &rule, &names, &checked)))
         return status;
     put_rule(stdout, &rule, checked.refusal, &names);
     return checked.refusal == 0 ? GOOD : refuse(a->operand[0], checked.refusal, 0, &rule, &names);

@@ -7,8 +7,8 @@
 # structures must have the same fields in the same places, and its functions the
 # same results and the same parameters, by type, name and order. The archive and
 # the shared library must define just these functions, and take nothing from
-# outside but memcpy and memset; the shared library's soname must be that of the
-# header's version. It prints what differs, and ends with status 1 if anything
+# outside but memcpy and memset; the archive must have no variables of its own, and
+# the shared library's soname must be that of the header's version. It prints what differs, and ends with status 1 if anything
 # does.
 set -u
 
@@ -61,6 +61,10 @@ symbols() { # what it is, the list of its names, nm's options, the library
     same "the functions exported and those of the $what" exported "$list"
 }
 symbols archive defined "$archive"
+# nothing that can be written is kept between calls, or shared by threads
+objdump -h "$archive" >"$room/sections" || exit 2
+awk '$2 ~ /^\.t?(data|bss)/ && $3 !~ /^0+$/ && $2 !~ /^\.data\.rel\.ro/' "$room/sections" >"$room/said"
+[ ! -s "$room/said" ] || differ 'the archive has state of its own'
 symbols 'shared library' dynamic -D "$shared"
 soname=libws2s.so.$(sed -n 's/^#define WS2S_VERSION "\([0-9]*\)\..*"$/\1/p' "$header")
 readelf -d "$shared" >"$room/said" || exit 2
