@@ -1,10 +1,10 @@
 -- A list of bytes as a list of bits, and back: document 01, "Strips": "Fields are bit-packed, most significant first, then zero bits to
 -- a whole byte." Assumes nothing.
-use mathlib.Core.Bool.{Bool, false, not, _&&_, _||_}
+use mathlib.Core.Bool.{Bool, false, not, _&&_, _||_, cond}
 use mathlib.Core.List.{List, [], _∷_, _++_}
-use Prim.Native.Nat.{ℕ, zero, suc, _+_, _*_, _/_, _%_, _^_}
+use Prim.Native.Nat.{ℕ, zero, suc, _+_, _-_, _*_, _/_, _%_, _^_, min}
 use lib.Dec.{eqb, leb}
-use lib.ListN.{take, drop}
+use lib.ListN.{length, take, drop}
 
 -- the b lowest binary digits of v, most significant first
 unfoldable pub digits : ℕ → ℕ → List ℕ
@@ -29,6 +29,15 @@ field s at b = number 0 (take b (drop at (bits s)))
 unfoldable pub anySet : List ℕ → Bool
 anySet [] = false
 anySet (b ∷ bs) = not (eqb b 0) || anySet bs
+
+-- how many bits stand before the first set one: all of them where none is set
+unfoldable pub firstSet : List ℕ → ℕ
+firstSet [] = 0
+firstSet (b ∷ bs) = cond (eqb b 0) (suc (firstSet bs)) 0
+
+-- "the bit length handed in (2^64 − 1 stands for any more)"
+unfoldable pub bitLength : List ℕ → ℕ
+bitLength s = min (8 * length s) (2 ^ 64 - 1)
 
 -- the bytes of a list of bits; a: the bits of the next byte so far, d: how many it lacks
 unfoldable pub pack : ℕ → ℕ → List ℕ → List ℕ

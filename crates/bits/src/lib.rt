@@ -3,8 +3,14 @@ ghost use mathlib.Core.Path.{_≡_};
 ghost use mathlib.Core.List.{_++_};
 ghost use Prim.Native.Nat.{ℕ, _+_, _*_, _<_, _≤_};
 ghost use lib.ListN.{length, getD, set, drop, replicate};
-ghost use lib.Seq.{sets};
-ghost use Rattle.bits.specs.Bits.{bits, digits, field};
+ghost use lib.Seq.{sets, slice};
+ghost use Rattle.bits.specs.Bits.{bits, digits, field, firstSet, bitLength};
+
+// What a check finds in a strip: nothing amiss, or a refusal's number and the bit place where the field that is meant starts.
+pub enum Fault {
+    Sound,
+    At { number: u64, place: u64 },
+}
 
 // The bit at a place.
 pub fn bit_at(s: &[u8], at: usize) -> u8
@@ -13,6 +19,32 @@ pub fn bit_at(s: &[u8], at: usize) -> u8
     ensures { λ r. ⌜ r < 2 ⌝ }
 {
     (s[at / 8] >> (7 - at % 8)) % 2
+}
+
+// The place of the first set bit of those from one place up to another, or else that other place.
+pub fn first_set(s: &[u8], from: usize, end: usize) -> usize
+    requires { ⌜ (from ≤ end) × (end ≤ 8 * length (now s)) ⌝ }
+    ensures { λ r. ⌜ r ≡ from + firstSet (slice from end (bits (now (s .entry)))) ⌝ }
+{
+    let mut at = from;
+    while at < end {
+        if bit_at(s, at) != 0 {
+            return at;
+        }
+        at += 1;
+    }
+    at
+}
+
+// The bit length of s, as a number of 64 bits: 2^64 - 1 stands for any more.
+pub fn bit_length(s: &[u8]) -> u64
+    ensures { λ r. ⌜ r ≡ bitLength (now (s .entry)) ⌝ }
+{
+    let bytes = s.len() as u64;
+    if 0x1FFF_FFFF_FFFF_FFFF < bytes {
+        return 0xFFFF_FFFF_FFFF_FFFF;
+    }
+    8 * bytes
 }
 
 fn wide(x: u8) -> u64
