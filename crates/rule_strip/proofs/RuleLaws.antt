@@ -1,28 +1,31 @@
 -- What an accepted rule strip gives: its head and its records. Assumes nothing.
 use mathlib.Core.Path.{_≡_, refl, sym, ap, _∙_}
-use mathlib.Core.Logic.{_↔_, _⊎_, ⊎-elim}
-use mathlib.Core.Bool.{Bool, true, false, _&&_, cond}
+use mathlib.Core.Logic.{_↔_}
+use mathlib.Core.Bool.{Bool, true, false, _&&_}
 use mathlib.Core.List.{List, [], _∷_}
 use Prim.Native.Nat.{ℕ, zero, suc, _+_, _-_, _*_, _/_, _%_, _^_, _≤_, _<_}
 use native.Mathlib.Decide.{decLt}
 use native.Mathlib.Nat.{not-suc-le-zero, le-of-suc-le-suc, lt-of-lt-of-le, le-mul-of-pos-right, mul-le-mul-right, mul-comm, mul-assoc, one-mul, pow-suc}
 use native.Mathlib.Omega.{arith}
-use lib.Dec.{T, ltb, leb, eqb, lt→ltb, ltb→lt, eqb→eq, eqb·suc-zero}
+use lib.Dec.{T, ltb, leb, eqb, lt→ltb, ltb→lt, eqb→eq}
 use lib.ListN.{length, getD, take, drop, List·getD-eq-default}
 use lib.Pow.{pow-pos}
 use lib.Seq.{getD-drop}
 use borrow.Author.Tests.{lt-leb, leb-false, le-ltb}
 use Rattle.logic.specs.Rule.{Record, noRecord, good, goodFrom, Accepted}
-use Rattle.bits.specs.Bits.{bits, number, field, anySet}
-use Rattle.rule_strip.specs.RuleStrip.{variablesOf, countOf, recordAt, recordsFrom, recordsOf, ruleBytes, firstUse, secondUse, recordRefusal}
-use Rattle.rule_strip.specs.RuleStrip.{recordsRefusal, ruleRefusal, AcceptedRule}
-use Rattle.rule_strip.specs.RuleAnswers.{limitOf, fieldRefusal, headRefusal, checkedRule}
+use Rattle.bits.specs.Bits.{bits, number, field, anySet, firstSet}
+use Rattle.bits.specs.Faults.{orElse}
+use Rattle.bits.specs.declared.Fault.{Fault}
+use Rattle.bits.specs.declared.Fault.the-variants.{Sound, At}
+use Rattle.rule_strip.specs.RuleStrip.{variablesOf, countOf, recordAt, recordsFrom, recordsOf, ruleBytes, firstUse, secondUse, recordFault}
+use Rattle.rule_strip.specs.RuleStrip.{recordsFault, recordsEnd, padding, headFault, ruleFault, AcceptedRule}
+use Rattle.rule_strip.specs.RuleAnswers.{useRefusal, limitOf, fieldFault, answered, checkedRule}
 use Rattle.rule_strip.specs.declared.Use.{Use}
 use Rattle.rule_strip.specs.declared.Use.the-variants.{Variable, Earlier, Unused}
 use Rattle.rule_strip.specs.declared.RuleCheck.the-variants.{Accepted as accepted, Refused as turnedDown}
 use Rattle.bits.proofs.Digits.{bit-lt}
 use Rattle.bits.proofs.Fields.{length-bits, bits-at}
-use Rattle.rule_strip.proofs.RuleChecks.{firstOf, record-split, zero-or, head-facts, bodyRefusal, rule-split}
+use Rattle.rule_strip.proofs.RuleChecks.{record-split, test-passed, head-facts}
 
 -- ---- one record
 
@@ -32,38 +35,31 @@ pub record RecordFacts (n i : ℕ) (r : Record) : Type 0 where
   pub first-below : r .first < limitOf n i (firstUse (r .op))
   pub second-below : r .second < limitOf n i (secondUse (r .op))
 
--- a test that gives no refusal was not met
-passed : (t : Bool) (k x : ℕ) → cond t (suc k) x ≡ 0 → (t ≡ false) × (x ≡ 0)
-passed true k x e = absurd (omega arith)
-passed false k x e = (refl, e)
+pub or-passed : (f g : Fault) → orElse f g ≡ Sound → (f ≡ Sound) × (g ≡ Sound)
+or-passed Sound g e = (refl, e)
+or-passed (At k p) g e = absurd (let z : _≡_ {A = ℕ} 0 1 = cc in omega arith)
 
-first-passed : (k l : ℕ) → firstOf k l ≡ 0 → (k ≡ 0) × (l ≡ 0)
-first-passed zero l e = (refl, e)
-first-passed (suc k) l e = absurd (let f = rw eqb·suc-zero at e in omega arith)
+field-passed : (n i at : ℕ) (u : Use) (v : ℕ) → fieldFault n i at u v ≡ Sound → v < limitOf n i u
+field-passed n i at u v e = leb-false (limitOf n i u) v (test-passed (leb (limitOf n i u) v) (useRefusal u) at Sound e .0)
 
-field-passed : (n i : ℕ) (u : Use) (v : ℕ) → fieldRefusal n i u v ≡ 0 → v < limitOf n i u
-field-passed n i Variable v e = leb-false n v (passed (leb n v) 7 0 e .0)
-field-passed n i Earlier v e = leb-false i v (passed (leb i v) 8 0 e .0)
-field-passed n i Unused v e = leb-false 1 v (passed (leb 1 v) 9 0 e .0)
+field-good : (n i at : ℕ) (u : Use) (v : ℕ) → v < limitOf n i u → fieldFault n i at u v ≡ Sound
+field-good n i at u v h = rw (lt-leb _ v h) refl
 
-field-good : (n i : ℕ) (u : Use) (v : ℕ) → v < limitOf n i u → fieldRefusal n i u v ≡ 0
-field-good n i u v h = rw (lt-leb _ v h) refl
-
-pub record-facts : (n i : ℕ) (r : Record) → recordRefusal n i r ≡ 0 → RecordFacts n i r
-record-facts n i r e =
-    let w = passed (leb 9 (r .op)) 6 _ (sym (record-split n i (r .op) (r .first) (r .second)) ∙ e) in
-    let f = first-passed (fieldRefusal n i (firstUse (r .op)) (r .first)) (fieldRefusal n i (secondUse (r .op)) (r .second)) (w .1) in
+pub record-facts : (n i at : ℕ) (r : Record) → recordFault n i at r ≡ Sound → RecordFacts n i r
+record-facts n i at r e =
+    let w = test-passed (leb 9 (r .op)) 7 at _ (sym (record-split n i at (r .op) (r .first) (r .second)) ∙ e) in
+    let f = or-passed (fieldFault n i (at + 4) (firstUse (r .op)) (r .first)) (fieldFault n i (at + 11) (secondUse (r .op)) (r .second)) (w .1) in
     record {
       known = leb-false 9 (r .op) (w .0);
-      first-below = field-passed n i (firstUse (r .op)) (r .first) (f .0);
-      second-below = field-passed n i (secondUse (r .op)) (r .second) (f .1);
+      first-below = field-passed n i (at + 4) (firstUse (r .op)) (r .first) (f .0);
+      second-below = field-passed n i (at + 11) (secondUse (r .op)) (r .second) (f .1);
     }
 
-pub record-unrefused : (n i : ℕ) (r : Record) → RecordFacts n i r → recordRefusal n i r ≡ 0
-record-unrefused n i r w =
-    record-split n i (r .op) (r .first) (r .second)
-    ∙ rw (lt-leb 9 (r .op) (w .known), field-good n i (firstUse (r .op)) (r .first) (w .first-below))
-    (field-good n i (secondUse (r .op)) (r .second) (w .second-below))
+pub record-unrefused : (n i at : ℕ) (r : Record) → RecordFacts n i r → recordFault n i at r ≡ Sound
+record-unrefused n i at r w =
+    record-split n i at (r .op) (r .first) (r .second)
+    ∙ rw (lt-leb 9 (r .op) (w .known), field-good n i (at + 4) (firstUse (r .op)) (r .first) (w .first-below))
+    (field-good n i (at + 11) (secondUse (r .op)) (r .second) (w .second-below))
 
 -- logic's test of a field
 abbrev fits : ℕ → ℕ → Use → ℕ → Bool
@@ -113,21 +109,21 @@ abbrev two : ℕ → ℕ → Record → Bool
 two n i r = fits n i (secondUse (r .op)) (r .second)
 
 -- the refusals 7 to 10 are what `good` asks
-pub good-iff : (n i : ℕ) (r : Record) → (recordRefusal n i r ≡ 0) ↔ T (good 2 n i r)
-good-iff n i r = (forth, back)
+pub good-iff : (n i at : ℕ) (r : Record) → (recordFault n i at r ≡ Sound) ↔ T (good 2 n i r)
+good-iff n i at r = (forth, back)
   where
-    forth : recordRefusal n i r ≡ 0 → T (good 2 n i r)
+    forth : recordFault n i at r ≡ Sound → T (good 2 n i r)
     forth e =
-        let w = record-facts n i r e in
+        let w = record-facts n i at r e in
         let f = of-both (one n i r) (two n i r) (below-fits n i (firstUse (r .op)) (r .first) (w .first-below))
         (below-fits n i (secondUse (r .op)) (r .second) (w .second-below)) in
         rw (good-is n i (r .op) (r .first) (r .second)) (of-both (ltb (r .op) 9) (one n i r && two n i r) (lt→ltb (r .op) 9 (w .known)) f)
 
-    back : T (good 2 n i r) → recordRefusal n i r ≡ 0
+    back : T (good 2 n i r) → recordFault n i at r ≡ Sound
     back t =
         let w = both-of (ltb (r .op) 9) (one n i r && two n i r) (rw (good-is n i (r .op) (r .first) (r .second)) at t) in
         let v = both-of (one n i r) (two n i r) (w .1) in
-        record-unrefused n i r
+        record-unrefused n i at r
         (record {
           known = ltb→lt (r .op) 9 (w .0);
           first-below = fits-below n i (firstUse (r .op)) (r .first) (v .0);
@@ -136,12 +132,12 @@ good-iff n i r = (forth, back)
 
 -- ---- all records
 
-records-good : (n i : ℕ) (rs : List Record) → recordsRefusal n i rs ≡ 0 → T (goodFrom 2 n i rs)
-unfolding recordsRefusal goodFrom
-records-good n i [] e = tt
-records-good n i (r ∷ rs) e =
-    let w = first-passed (recordRefusal n i r) (recordsRefusal n (suc i) rs) e in
-    of-both (good 2 n i r) _ (good-iff n i r .0 (w .0)) (records-good n (suc i) rs (w .1))
+records-good : (n i at : ℕ) (rs : List Record) → recordsFault n i at rs ≡ Sound → T (goodFrom 2 n i rs)
+unfolding recordsFault goodFrom
+records-good n i at [] e = tt
+records-good n i at (r ∷ rs) e =
+    let w = or-passed (recordFault n i at r) (recordsFault n (suc i) (at + 18) rs) e in
+    of-both (good 2 n i r) _ (good-iff n i at r .0 (w .0)) (records-good n (suc i) (at + 18) rs (w .1))
 
 records-length : (s : List ℕ) (at m : ℕ) → length (recordsFrom s at m) ≡ m
 unfolding recordsFrom
@@ -198,12 +194,12 @@ pub widths-at : (s : List ℕ) (at : ℕ) → (recordAt s at .op < 16) × (recor
 unfolding recordAt
 widths-at s at = (field-below s at 4, field-below s (at + 4) 7, field-below s (at + 11) 7)
 
-module _ (s : List ℕ) (e : ruleRefusal s ≡ 0) where
-  parts : (headRefusal s ≡ 0) × (bodyRefusal s ≡ 0)
-  parts = first-passed (headRefusal s) (bodyRefusal s) (sym (rule-split s) ∙ e)
-
-  unrefused : recordsRefusal (variablesOf s) 0 (recordsOf s) ≡ 0
-  unrefused = passed (anySet (drop (16 + 18 * countOf s) (bits s))) 5 _ (parts .1) .1
+module _ (s : List ℕ) (e : ruleFault s ≡ Sound) where
+  parts : (headFault s ≡ Sound) × (recordsFault (variablesOf s) 0 16 (recordsOf s) ≡ Sound)
+  unfolding ruleFault
+  parts =
+      let w = or-passed (headFault s) _ e in
+      (w .0, test-passed (anySet (padding s)) 6 (recordsEnd s + firstSet (padding s)) _ (w .1) .1)
 
   records-count : length (recordsOf s) ≡ countOf s
   unfolding recordsOf
@@ -219,23 +215,24 @@ module _ (s : List ℕ) (e : ruleRefusal s ≡ 0) where
         some-record = h .records;
         few-records = h .bound;
         size = h .size;
-        records-accepted = (omega arith, records-good (variablesOf s) 0 (recordsOf s) unrefused);
+        records-accepted = (omega arith, records-good (variablesOf s) 0 16 (recordsOf s) (parts .1));
         records-count = l;
       }
 
 -- ---- what the check's answer says
 module _ (s : List ℕ) where
-  checked-or : ((ruleRefusal s ≡ 0) × (checkedRule s ≡ accepted (variablesOf s) (countOf s)))
-      ⊎ ((ruleRefusal s ≡ 0 → ⊥) × (checkedRule s ≡ turnedDown (ruleRefusal s)))
-  unfolding checkedRule
-  checked-or = zero-or (ruleRefusal s) (accepted (variablesOf s) (countOf s)) (turnedDown (ruleRefusal s))
-
   pub checked-accepted : (n m : ℕ) → checkedRule s ≡ accepted n m → AcceptedRule s n m
-  checked-accepted n m e =
-      ⊎-elim (λ w. let f = sym e ∙ w .1 in record { unrefused = w .0; variables = cc; count = cc })
-      (λ w. let f = sym e ∙ w .1 in absurd (let z : _≡_ {A = ℕ} 0 1 = cc in omega arith)) checked-or
+  unfolding checkedRule
+  checked-accepted n m e = go (ruleFault s) refl e
+    where
+      go : (f : Fault) → ruleFault s ≡ f → answered s f ≡ accepted n m → AcceptedRule s n m
+      go Sound p q = record { unrefused = p; variables = cc; count = cc }
+      go (At k at) p q = absurd (let z : _≡_ {A = ℕ} 0 1 = cc in omega arith)
 
-  pub checked-refused : (k : ℕ) → checkedRule s ≡ turnedDown k → (ruleRefusal s ≡ k) × (k ≡ 0 → ⊥)
-  checked-refused k e =
-      ⊎-elim (λ w. let f = sym e ∙ w .1 in absurd (let z : _≡_ {A = ℕ} 0 1 = cc in omega arith))
-      (λ w. let f = sym e ∙ w .1 in let g : ruleRefusal s ≡ k = cc in (g, λ z. w .0 (g ∙ z))) checked-or
+  pub checked-refused : (k p : ℕ) → checkedRule s ≡ turnedDown k p → ruleFault s ≡ At k p
+  unfolding checkedRule
+  checked-refused k p e = go (ruleFault s) refl e
+    where
+      go : (f : Fault) → ruleFault s ≡ f → answered s f ≡ turnedDown k p → ruleFault s ≡ At k p
+      go Sound g q = absurd (let z : _≡_ {A = ℕ} 0 1 = cc in omega arith)
+      go (At l at) g q = g ∙ cc

@@ -1,13 +1,15 @@
 -- What the functions on rule strips answer. Assumes nothing.
 use Prim.Native.Nat.{ℕ, _+_, _-_, _*_, _≤_}
-use mathlib.Core.Bool.{not, cond}
+use mathlib.Core.Path.{_≡_}
+use mathlib.Core.Bool.{cond}
 use mathlib.Core.List.{List}
-use lib.Dec.{ltb, leb, eqb}
+use lib.Dec.{leb}
 use lib.ListN.{length}
 use Rattle.logic.specs.Rule.{Record as RuleRecord}
-use Rattle.rule_strip.specs.RuleStrip.{versionOf, variablesOf, countOf, ruleBytes, recordAt, recordsFrom, recordRefusal, recordsRefusal}
-use Rattle.bits.specs.Bits.{between}
-use Rattle.rule_strip.specs.RuleStrip.{ruleRefusal}
+use Rattle.rule_strip.specs.RuleStrip.{variablesOf, countOf, recordAt, recordsFrom, recordFault, recordsFault, headFault}
+use Rattle.rule_strip.specs.RuleStrip.{ruleFault}
+use Rattle.bits.specs.declared.Fault.{Fault}
+use Rattle.bits.specs.declared.Fault.the-variants.{Sound, At}
 use Rattle.rule_strip.specs.declared.Fields.{Fields}
 use Rattle.rule_strip.specs.declared.Use.{Use}
 use Rattle.rule_strip.specs.declared.Use.the-variants.{Variable, Earlier, Unused}
@@ -35,35 +37,37 @@ limitOf n i Variable = n
 limitOf n i Earlier = i
 limitOf n i Unused = 1
 
--- the refusal of a field v of that use, or 0
-abbrev pub fieldRefusal : ℕ → ℕ → Use → ℕ → ℕ
-fieldRefusal n i u v = cond (leb (limitOf n i u) v) (useRefusal u) 0
+-- of a field v of that use, which starts at bit place at
+abbrev pub fieldFault : ℕ → ℕ → ℕ → Use → ℕ → Fault
+fieldFault n i at u v = cond (leb (limitOf n i u) v) (At (useRefusal u) at) Sound
 
 -- a record, as the code holds it
 abbrev pub fieldsOf : RuleRecord → Fields
 fieldsOf r = record { op = r .op; first = r .first; second = r .second }
 
--- "the reader answers either a record with the next bit place or a refusal number": the refusal, where it is not 0
-abbrev pub recordOr : ℕ → RuleRecord → ℕ → Read
-recordOr refusal r next = cond (eqb refusal 0) (Record (r .op) (r .first) (r .second) next) (Refused refusal)
+-- "the reader answers either a record with the next bit place or a refusal number", and the place beside the number
+abbrev pub recordOr : Fault → RuleRecord → ℕ → Read
+recordOr Sound r next = Record (r .op) (r .first) (r .second) next
+recordOr (At k p) r next = Refused k p
 
 -- record number i, at bit place at, in a strip of n variables
 unfoldable pub readRecord : List ℕ → ℕ → ℕ → ℕ → Read
-readRecord s n i at = recordOr (recordRefusal n i (recordAt s at)) (recordAt s at) (at + 18)
+readRecord s n i at = recordOr (recordFault n i at (recordAt s at)) (recordAt s at) (at + 18)
 
 -- all m records of the strip, in order: the last of them, or the earliest refusal
 unfoldable pub readRecords : List ℕ → ℕ → ℕ → Read
-readRecords s n m = recordOr (recordsRefusal n 0 (recordsFrom s 16 m)) (recordAt s (16 + 18 * (m - 1))) (16 + 18 * m)
+readRecords s n m = recordOr (recordsFault n 0 16 (recordsFrom s 16 m)) (recordAt s (16 + 18 * (m - 1))) (16 + 18 * m)
 
--- the refusals 1 to 5, or 0
-unfoldable pub headRefusal : List ℕ → ℕ
-headRefusal s =
-    cond (ltb (length s) 2) 1
-    (cond (not (eqb (versionOf s) 1)) 2
-    (cond (not (between 1 8 (variablesOf s))) 3
-    (cond (not (between 1 128 (countOf s))) 4
-    (cond (not (eqb (length s) (ruleBytes (countOf s)))) 5 0))))
+-- n and m are read, and none of the refusals 1 to 5 applies
+pub record GoodHead (s : List ℕ) (n m : ℕ) : Type 0 where
+  pub good : headFault s ≡ Sound
+  pub variables : n ≡ variablesOf s
+  pub count : m ≡ countOf s
 
--- "Check a rule strip": a refusal's number; "Otherwise it returns n and m"
+-- "Check a rule strip": a refusal's number and place; "Otherwise it returns n and m"
+abbrev pub answered : List ℕ → Fault → RuleCheck
+answered s Sound = accepted (variablesOf s) (countOf s)
+answered s (At k p) = turnedDown k p
+
 unfoldable pub checkedRule : List ℕ → RuleCheck
-checkedRule s = cond (eqb (ruleRefusal s) 0) (accepted (variablesOf s) (countOf s)) (turnedDown (ruleRefusal s))
+checkedRule s = answered s (ruleFault s)

@@ -1,12 +1,15 @@
 -- Rule strips: document 01, "Strips" and "Check a rule strip". Assumes nothing.
 use Prim.Native.Nat.{ℕ, zero, suc, _+_, _*_, _/_}
 use mathlib.Core.Path.{_≡_}
-use mathlib.Core.Bool.{Bool, false, not, _&&_, _||_, cond}
+use mathlib.Core.Bool.{Bool, false, not, cond}
 use mathlib.Core.List.{List, [], _∷_}
 use lib.Dec.{ltb, leb, eqb}
 use lib.ListN.{length, getD, drop}
 use Rattle.logic.specs.Rule.{Record}
-use Rattle.bits.specs.Bits.{between, bits, field, anySet}
+use Rattle.bits.specs.Bits.{between, bits, field, anySet, firstSet, bitLength}
+use Rattle.bits.specs.Faults.{orElse}
+use Rattle.bits.specs.declared.Fault.{Fault}
+use Rattle.bits.specs.declared.Fault.the-variants.{Sound, At}
 use Rattle.rule_strip.specs.declared.Use.{Use}
 use Rattle.rule_strip.specs.declared.Use.the-variants.{Variable, Earlier, Unused}
 
@@ -70,33 +73,51 @@ badUnused Variable v = false
 badUnused Earlier v = false
 badUnused Unused v = not (eqb v 0)
 
--- of record number i: "7 op 9 to 15; 8 a variable not below n; 9 a record number not below its own; 10 an unused field not 0"; else 0
-unfoldable pub recordRefusal : ℕ → ℕ → Record → ℕ
-recordRefusal n i r =
-    cond (leb 9 (r .op)) 7
-    (cond (badVariable n (firstUse (r .op)) (r .first) || badVariable n (secondUse (r .op)) (r .second)) 8
-    (cond (badEarlier i (firstUse (r .op)) (r .first) || badEarlier i (secondUse (r .op)) (r .second)) 9
-    (cond (badUnused (firstUse (r .op)) (r .first) || badUnused (secondUse (r .op)) (r .second)) 10 0)))
+-- of record number i, which starts at bit place at: "7 op 9 to 15; 8 a variable not below n; 9 a record number not below its own; 10 an
+-- unused field not 0", at the op, 4 bits on or 11 bits on, "where the offending field starts"; "Of two such fields in one record the first
+-- is meant"
+unfoldable pub recordFault : ℕ → ℕ → ℕ → Record → Fault
+recordFault n i at r =
+    cond (leb 9 (r .op)) (At 7 at)
+    (cond (badVariable n (firstUse (r .op)) (r .first)) (At 8 (at + 4))
+    (cond (badVariable n (secondUse (r .op)) (r .second)) (At 8 (at + 11))
+    (cond (badEarlier i (firstUse (r .op)) (r .first)) (At 9 (at + 4))
+    (cond (badEarlier i (secondUse (r .op)) (r .second)) (At 9 (at + 11))
+    (cond (badUnused (firstUse (r .op)) (r .first)) (At 10 (at + 4))
+    (cond (badUnused (secondUse (r .op)) (r .second)) (At 10 (at + 11)) Sound))))))
 
--- "for the earliest bad record": of records number i on
-unfoldable pub recordsRefusal : ℕ → ℕ → List Record → ℕ
-recordsRefusal n i [] = 0
-recordsRefusal n i (r ∷ rs) = cond (eqb (recordRefusal n i r) 0) (recordsRefusal n (suc i) rs) (recordRefusal n i r)
+-- "for the earliest bad record": of records number i on, from bit place at on
+unfoldable pub recordsFault : ℕ → ℕ → ℕ → List Record → Fault
+recordsFault n i at [] = Sound
+recordsFault n i at (r ∷ rs) = orElse (recordFault n i at r) (recordsFault n (suc i) (at + 18) rs)
 
--- "in order: 1 fewer than two bytes; 2 version not 1; 3 n not 1 to 8; 4 m not 1 to 128; 5 length not as above; 6 a padding bit set; then,
--- for the earliest bad record", 7 to 10; 0 where the strip is accepted
-unfoldable pub ruleRefusal : List ℕ → ℕ
-ruleRefusal s =
-    cond (ltb (length s) 2) 1
-    (cond (not (eqb (versionOf s) 1)) 2
-    (cond (not (between 1 8 (variablesOf s))) 3
-    (cond (not (between 1 128 (countOf s))) 4
-    (cond (not (eqb (length s) (ruleBytes (countOf s)))) 5
-    (cond (anySet (drop (16 + 18 * countOf s) (bits s))) 6
-    (recordsRefusal (variablesOf s) 0 (recordsOf s)))))))
+-- where the records end, and the bits from there on
+abbrev pub recordsEnd : List ℕ → ℕ
+recordsEnd s = 16 + 18 * countOf s
+
+abbrev pub padding : List ℕ → List ℕ
+padding s = drop (recordsEnd s) (bits s)
+
+-- "in order: 1 fewer than two bytes; 2 version not 1; 3 n not 1 to 8; 4 m not 1 to 128; 5 length not as above", each with its place: "for
+-- 1, 5 [..] the bit length handed in", else where the field starts
+unfoldable pub headFault : List ℕ → Fault
+headFault s =
+    cond (ltb (length s) 2) (At 1 (bitLength s))
+    (cond (not (eqb (versionOf s) 1)) (At 2 0)
+    (cond (not (between 1 8 (variablesOf s))) (At 3 4)
+    (cond (not (between 1 128 (countOf s))) (At 4 8)
+    (cond (not (eqb (length s) (ruleBytes (countOf s)))) (At 5 (bitLength s)) Sound))))
+
+-- THE EARLIEST FAULT, its number and its place together: 1 to 5; "6 a padding bit set", at "the first set padding bit"; "then, for the
+-- earliest bad record", 7 to 10
+unfoldable pub ruleFault : List ℕ → Fault
+ruleFault s =
+    orElse (headFault s)
+    (cond (anySet (padding s)) (At 6 (recordsEnd s + firstSet (padding s)))
+    (recordsFault (variablesOf s) 0 16 (recordsOf s)))
 
 -- an accepted strip of m records over n variables
 pub record AcceptedRule (s : List ℕ) (n m : ℕ) : Type 0 where
-  pub unrefused : ruleRefusal s ≡ 0
+  pub unrefused : ruleFault s ≡ Sound
   pub variables : n ≡ variablesOf s
   pub count : m ≡ countOf s

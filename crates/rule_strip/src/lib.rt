@@ -2,11 +2,11 @@
 ghost use mathlib.Core.Path.{_≡_};
 ghost use mathlib.Core.Bool.{not};
 ghost use Prim.Native.Nat.{_+_, _*_, _<_, _≤_};
-ghost use lib.ListN.{length, drop};
-ghost use Rattle.bits.specs.Bits.{bits, anySet};
-ghost use Rattle.rule_strip.specs.RuleStrip.{firstUse, secondUse, recordAt, recordRefusal};
+ghost use lib.ListN.{length};
 ghost use Rattle.bits.specs.Bits.{between};
-ghost use Rattle.rule_strip.specs.RuleAnswers.{useRefusal, limitOf, fieldRefusal, fieldsOf, readRecord, Filled, readRecords, headRefusal, checkedRule};
+ghost use Rattle.rule_strip.specs.RuleStrip.{firstUse, secondUse, recordAt, recordFault, headFault};
+ghost use Rattle.rule_strip.specs.RuleAnswers.{useRefusal, limitOf, fieldFault, fieldsOf, readRecord, Filled, readRecords, GoodHead, checkedRule};
+use bits::Fault;
 
 // A record's three fields, as they stand in the strip.
 pub struct Fields {
@@ -15,7 +15,7 @@ pub struct Fields {
     pub second: usize,
 }
 
-// What reading a record answers: the record with the next bit place, or a refusal number.
+// What reading a record answers: the record with the next bit place, or a refusal number and the bit place that it names.
 enum Read {
     Record {
         op: usize,
@@ -23,13 +23,13 @@ enum Read {
         second: usize,
         next: usize,
     },
-    Refused(u64),
+    Refused { number: u64, place: u64 },
 }
 
 // What checking a rule strip answers.
 pub enum RuleCheck {
     Accepted { variables: usize, records: usize },
-    Refused(u64),
+    Refused { number: u64, place: u64 },
 }
 
 // What a field of a record holds: a variable, an earlier record's number, or nothing.
@@ -100,27 +100,35 @@ fn limit(n: usize, i: usize, held: Use) -> usize
     }
 }
 
-fn field_refusal(n: usize, i: usize, held: Use, v: usize) -> u64
-    ensures { λ r. ⌜ r ≡ fieldRefusal n i held v ⌝ }
+// What is amiss with a field that starts at a bit place.
+fn field_fault(n: usize, i: usize, at: usize, held: Use, v: usize) -> Fault
+    ensures { λ r. ⌜ r ≡ fieldFault n i at held v ⌝ }
 {
     if limit(n, i, held) <= v {
-        return use_refusal(held);
+        return Fault::At {
+            number: use_refusal(held),
+            place: at as u64,
+        };
     }
-    0
+    Fault::Sound
 }
 
-// The refusal 7 to 10 of a record, or 0. Of no op does the second field have an earlier refusal than the first.
-fn record_refusal(n: usize, i: usize, op: usize, first: usize, second: usize) -> u64
-    ensures { λ r. ⌜ r ≡ recordRefusal n i (record { op = op; first = first; second = second }) ⌝ }
+// The refusals 7 to 10 of a record that starts at a bit place. Of no op does the second field have an earlier refusal than the first.
+fn record_fault(n: usize, i: usize, at: usize, op: usize, first: usize, second: usize) -> Fault
+    requires { ⌜ at ≤ 32768 ⌝ }
+    ensures { λ r. ⌜ r ≡ recordFault n i at (record { op = op; first = first; second = second }) ⌝ }
 {
     if 9 <= op {
-        return 7;
+        return Fault::At {
+            number: 7,
+            place: at as u64,
+        };
     }
-    let refused = field_refusal(n, i, first_use(op), first);
-    if refused != 0 {
-        return refused;
-    }
-    field_refusal(n, i, second_use(op), second)
+    let fault = field_fault(n, i, at + 4, first_use(op), first);
+    let Fault::Sound = fault else {
+        return fault;
+    };
+    field_fault(n, i, at + 11, second_use(op), second)
 }
 
 // The fields of the record at a bit place.
@@ -143,16 +151,15 @@ fn read_record(s: &[u8], n: usize, i: usize, at: usize) -> Read
     ensures { λ r. ⌜ r ≡ readRecord (now (s .entry)) n i at ⌝ }
 {
     let f = fields_at(s, at);
-    let refused = record_refusal(n, i, f.op, f.first, f.second);
-    if refused == 0 {
+    let Fault::At { number, place } = record_fault(n, i, at, f.op, f.first, f.second) else {
         return Read::Record {
             op: f.op,
             first: f.first,
             second: f.second,
             next: at + 18,
         };
-    }
-    Read::Refused(refused)
+    };
+    Read::Refused { number, place }
 }
 
 // All m records, in order: the last of them, or the earliest refusal.
@@ -179,22 +186,6 @@ fn read_records(s: &[u8], n: usize, m: usize) -> Read
     read_record(s, n, i, at)
 }
 
-// Whether a bit is set, from a bit place on.
-fn any_set(s: &[u8], from: usize) -> bool
-    requires { ⌜ length (now s) ≤ 4096 ⌝ }
-    ensures { λ r. ⌜ r ≡ anySet (drop from (bits (now (s .entry)))) ⌝ }
-{
-    let end = 8 * s.len();
-    let mut at = from;
-    while at < end {
-        if bits::bit_at(s, at) != 0 {
-            return true;
-        }
-        at += 1;
-    }
-    false
-}
-
 fn outside(v: u64, high: u64) -> bool
     ensures { λ r. ⌜ r ≡ not (between 1 high v) ⌝ }
 {
@@ -204,44 +195,59 @@ fn outside(v: u64, high: u64) -> bool
     high < v
 }
 
-// The refusals 1 to 5, or 0.
-fn head_refusal(s: &[u8]) -> u64
-    ensures { λ r. ⌜ r ≡ headRefusal (now (s .entry)) ⌝ }
+// The refusals 1 to 5.
+fn head_fault(s: &[u8]) -> Fault
+    ensures { λ r. ⌜ r ≡ headFault (now (s .entry)) ⌝ }
 {
     if s.len() < 2 {
-        return 1;
+        return Fault::At {
+            number: 1,
+            place: bits::bit_length(s),
+        };
     }
     if bits::field_at(s, 0, 4) != 1 {
-        return 2;
+        return Fault::At {
+            number: 2,
+            place: 0,
+        };
     }
     if outside(bits::field_at(s, 4, 4), 8) {
-        return 3;
+        return Fault::At {
+            number: 3,
+            place: 4,
+        };
     }
     let m = bits::field_at(s, 8, 8);
     if outside(m, 128) {
-        return 4;
+        return Fault::At {
+            number: 4,
+            place: 8,
+        };
     }
     if s.len() != (16 + 18 * (m as usize) + 7) / 8 {
-        return 5;
+        return Fault::At {
+            number: 5,
+            place: bits::bit_length(s),
+        };
     }
-    0
+    Fault::Sound
 }
 
-// Whether any bytes are a rule strip: the first refusal in document 01's order, or n and m.
-pub fn check_rule(s: &[u8]) -> RuleCheck
+// The refusals 6 to 10 of a strip with a good head, or n and m.
+fn check_body(s: &[u8], n: usize, m: usize) -> RuleCheck
+    requires { ⌜ GoodHead (now s) n m ⌝ }
     ensures { λ r. ⌜ r ≡ checkedRule (now (s .entry)) ⌝ }
 {
-    let refused = head_refusal(s);
-    if refused != 0 {
-        return RuleCheck::Refused(refused);
-    }
-    let n = bits::field_at(s, 4, 4) as usize;
-    let m = bits::field_at(s, 8, 8) as usize;
-    if any_set(s, 16 + 18 * m) {
-        return RuleCheck::Refused(6);
+    let end = 8 * s.len();
+    let set = bits::first_set(s, 16 + 18 * m, end);
+    if set < end {
+        return RuleCheck::Refused {
+            number: 6,
+            place: set as u64,
+        };
     }
     match read_records(s, n, m) {
-        Read::Refused(number) => RuleCheck::Refused(number),
+        Read::Refused { number, place } => RuleCheck::Refused { number, place },
         Read::Record {
             op: _,
             first: _,
@@ -252,4 +258,16 @@ pub fn check_rule(s: &[u8]) -> RuleCheck
             records: m,
         },
     }
+}
+
+// Whether any bytes are a rule strip: the first refusal in document 01's order, with its place, or n and m.
+pub fn check_rule(s: &[u8]) -> RuleCheck
+    ensures { λ r. ⌜ r ≡ checkedRule (now (s .entry)) ⌝ }
+{
+    let Fault::At { number, place } = head_fault(s) else {
+        let n = bits::field_at(s, 4, 4) as usize;
+        let m = bits::field_at(s, 8, 8) as usize;
+        return check_body(s, n, m);
+    };
+    RuleCheck::Refused { number, place }
 }

@@ -1,4 +1,4 @@
--- `rule::head_refusal` meets its contract: each return follows from the tests that led to it. Assumes nothing.
+-- `rule::head_fault` meets its contract: each return follows from the tests that led to it. Assumes nothing.
 use mathlib.Core.Path.{_≡_, refl, sym, _∙_}
 use mathlib.Core.Bool.{Bool, true, false, not}
 use mathlib.Core.List.{List}
@@ -8,9 +8,9 @@ use lib.Dec.{eqb}
 use borrow.Author.Needs.{needs}
 use borrow.Author.Tests.{lt-ltb, le-ltb, eq-eqb, ne-eqb}
 use Rattle.bits.specs.Bits.{between}
-use Rattle.rule_strip.proofs.RuleChecks.{in-range, short, otherVersion, badVariables, badCount, head-1, head-2, head-3, head-4, head-5, head-0}
-use Rattle.rule_strip.proofs.head_refusal.Statement.{statement}
-use Rattle.rule_strip.proofs.head_refusal.Tie as tie
+use Rattle.rule_strip.proofs.RuleChecks.{in-range, short, otherVersion, badVariables, badCount, head-1, head-2, head-3, head-4, head-5, head-sound}
+use Rattle.rule_strip.proofs.head_fault.Statement.{statement}
+use Rattle.rule_strip.proofs.head_fault.Tie as tie
 
 -- a test of a number r that was read, as one of what it was read from
 differs : (r v k : ℕ) → r ≡ v → (r ≡ k → ⊥) → not (eqb v k) ≡ true
@@ -56,23 +56,25 @@ returns-4 c =
 
 returns-5 : tie.Need-returns-5
 returns-5 c =
-    let d = c .before .before .before .before in
+    let d = c .before .before .before .before .before in
     let b = d .before .before .before in
-    let m = c .before .before .before .field-at3 .ensures in
-    head-5 _ (pass-1 (b .before .before)) (pass-2 b) (pass-3 d) (pass-4 (c .before)) (rw (← m, ne-eqb _ _ (c .if5 .taken)) refl)
+    let m = c .before .before .before .before .field-at3 .ensures in
+    head-5 _ (pass-1 (b .before .before)) (pass-2 b) (pass-3 d) (pass-4 (c .before .before)) (rw (← m, ne-eqb _ _ (c .before .if5 .taken)) refl)
+    _ (c .bit-length2 .ensures)
 
 returns-6 : tie.Need-returns-6
 returns-6 c =
     let d = c .before .before .before .before in
     let b = d .before .before .before in
     let m = c .before .before .before .field-at3 .ensures in
-    head-0 _ (pass-1 (b .before .before)) (pass-2 b) (pass-3 d) (pass-4 (c .before)) (rw (← m, eq-eqb _ _ (c .if5 .left)) refl)
+    head-sound _ (pass-1 (b .before .before)) (pass-2 b) (pass-3 d) (pass-4 (c .before)) (rw (← m, eq-eqb _ _ (c .if5 .left)) refl)
 
-pub head-refusal-spec : {M : Type 1} → statement M
-head-refusal-spec =
+pub head-fault-spec : {M : Type 1} → statement M
+head-fault-spec =
     tie.close
     (tie.spec
-    (λ c. head-1 _ (lt-ltb _ 2 (c .if1 .taken))) (λ c κs. search needs)
+    (λ c κs. search needs) (λ c. head-1 _ (lt-ltb _ 2 (c .before .if1 .taken)) _ (c .bit-length .ensures)) (λ c κs. search needs)
     (λ c. head-2 _ (pass-1 (c .before .before)) (differs _ _ 1 (c .before .field-at .ensures) (c .if2 .taken))) (λ c κs. search needs)
     (λ c κs. search needs) returns-3 (λ c κs. search needs) (λ c κs. search needs) returns-4 (λ c. let h = few c in omega arith)
-    (λ c. let h = few c in omega arith) (λ c. let h = few c in omega arith) returns-5 returns-6)
+    (λ c. let h = few c in omega arith) (λ c. let h = few c in omega arith) (λ c κs. search needs)
+    returns-5 returns-6)
