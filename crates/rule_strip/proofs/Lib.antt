@@ -1,2 +1,3 @@
 pub mod RuleChecks
 pub mod RuleLaws
+pub mod RulePlaces

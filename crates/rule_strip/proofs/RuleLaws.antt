@@ -20,6 +20,7 @@ use Rattle.bits.specs.declared.Fault.the-variants.{Sound, At}
 use Rattle.rule_strip.specs.RuleStrip.{variablesOf, countOf, recordAt, recordsFrom, recordsOf, ruleBytes, firstUse, secondUse, recordFault}
 use Rattle.rule_strip.specs.RuleStrip.{recordsFault, recordsEnd, padding, headFault, ruleFault, AcceptedRule}
 use Rattle.rule_strip.specs.RuleAnswers.{useRefusal, limitOf, fieldFault, answered, checkedRule}
+use Rattle.rule_strip.specs.RulePlaces.{Keeps}
 use Rattle.rule_strip.specs.declared.Use.{Use}
 use Rattle.rule_strip.specs.declared.Use.the-variants.{Variable, Earlier, Unused}
 use Rattle.rule_strip.specs.declared.RuleCheck.the-variants.{Accepted as accepted, Refused as turnedDown}
@@ -29,24 +30,18 @@ use Rattle.rule_strip.proofs.RuleChecks.{record-split, test-passed, hea
 
 -- ---- one record
 
--- what the refusals 7 to 10 leave: a known op, and each field below its limit (n for a variable, i for an earlier record, 1 if unused)
-pub record RecordFacts (n i : ℕ) (r : Record) : Type 0 where
-  pub known : r .op < 9
-  pub first-below : r .first < limitOf n i (firstUse (r .op))
-  pub second-below : r .second < limitOf n i (secondUse (r .op))
-
 pub or-passed : (f g : Fault) → orElse f g ≡ Sound → (f ≡ Sound) × (g ≡ Sound)
 or-passed Sound g e = (refl, e)
 or-passed (At k p) g e = absurd (let z : _≡_ {A = ℕ} 0 1 = cc in omega arith)
 
-field-passed : (n i at : ℕ) (u : Use) (v : ℕ) → fieldFault n i at u v ≡ Sound → v < limitOf n i u
+pub field-passed : (n i at : ℕ) (u : Use) (v : ℕ) → fieldFault n i at u v ≡ Sound → v < limitOf n i u
 field-passed n i at u v e = leb-false (limitOf n i u) v (test-passed (leb (limitOf n i u) v) (useRefusal u) at Sound e .0)
 
 field-good : (n i at : ℕ) (u : Use) (v : ℕ) → v < limitOf n i u → fieldFault n i at u v ≡ Sound
 field-good n i at u v h = rw (lt-leb _ v h) refl
 
-pub record-facts : (n i at : ℕ) (r : Record) → recordFault n i at r ≡ Sound → RecordFacts n i r
-record-facts n i at r e =
+pub record-kept : (n i at : ℕ) (r : Record) → recordFault n i at r ≡ Sound → Keeps n i r
+record-kept n i at r e =
     let w = test-passed (leb 9 (r .op)) 7 at _ (sym (record-split n i at (r .op) (r .first) (r .second)) ∙ e) in
     let f = or-passed (fieldFault n i (at + 4) (firstUse (r .op)) (r .first)) (fieldFault n i (at + 11) (secondUse (r .op)) (r .second)) (w .1) in
     record {
@@ -55,7 +50,7 @@ record-facts n i at r e =
       second-below = field-passed n i (at + 11) (secondUse (r .op)) (r .second) (f .1);
     }
 
-pub record-unrefused : (n i at : ℕ) (r : Record) → RecordFacts n i r → recordFault n i at r ≡ Sound
+pub record-unrefused : (n i at : ℕ) (r : Record) → Keeps n i r → recordFault n i at r ≡ Sound
 record-unrefused n i at r w =
     record-split n i at (r .op) (r .first) (r .second)
     ∙ rw (lt-leb 9 (r .op) (w .known), field-good n i (at + 4) (firstUse (r .op)) (r .first) (w .first-below))
@@ -114,7 +109,7 @@ good-iff n i at r = (forth, back)
   where
     forth : recordFault n i at r ≡ Sound → T (good 2 n i r)
     forth e =
-        let w = record-facts n i at r e in
+        let w = record-kept n i at r e in
         let f = of-both (one n i r) (two n i r) (below-fits n i (firstUse (r .op)) (r .first) (w .first-below))
         (below-fits n i (secondUse (r .op)) (r .second) (w .second-below)) in
         rw (good-is n i (r .op) (r .first) (r .second)) (of-both (ltb (r .op) 9) (one n i r && two n i r) (lt→ltb (r .op) 9 (w .known)) f)
@@ -177,7 +172,7 @@ number-below (suc b) n (x ∷ l) h =
     let m : suc (n * 2 + x) ≤ suc n * 2 = (let g = h 0 in omega arith) in
     rw f (lt-of-lt-of-le (number-below b (n * 2 + x) l (λ j. h (suc j))) (mul-le-mul-right (2 ^ b) m))
 
-bits-below : (s : List ℕ) (j : ℕ) → getD (bits s) j 0 < 2
+pub bits-below : (s : List ℕ) (j : ℕ) → getD (bits s) j 0 < 2
 bits-below s j = elim (decLt j (8 * length s)) [
   | yes h ↦
       let e : 8 * (j / 8) + j % 8 ≡ j = omega arith in

@@ -1,2 +1,3 @@
 pub mod RuleAnswers
 pub mod RuleStrip
+pub mod RulePlaces

@@ -23,7 +23,10 @@ enum Read {
         second: usize,
         next: usize,
     },
-    Refused { number: u64, place: u64 },
+    Refused {
+        number: u64,
+        place: u64,
+    },
 }
 
 // What checking a rule strip answers.
