@@ -1,25 +1,26 @@
 -- Decide's result and the buffers at its end, by the refusals; and demands 2 and 3 of them. Assumes nothing.
-use Prim.Native.Nat.{ℕ, zero, suc, _+_, _-_, _≤_}
+use Prim.Native.Nat.{ℕ, _+_, _-_, _≤_}
 use mathlib.Core.Path.{_≡_, refl, sym, _∙_}
 use mathlib.Core.List.{List}
-use mathlib.Core.Bool.{cond}
 use native.Mathlib.Nat.{mul-le-mul-right}
 use native.Mathlib.Omega.{arith}
 use borrow.Author.Tests.{ne-eqb}
-use lib.Dec.{eqb, eqb·suc-zero}
 use lib.ListN.{length, drop}
 use lib.Seq.{take-append-seam}
 use Rattle.logic.specs.Tree.{positions}
 use Rattle.logic.proofs.Answers.{decide-answers, shown-fits}
 use Rattle.solver.specs.Solve.{outcomeOf}
 use Rattle.solver.specs.declared.Solution.{Solution}
-use Rattle.rule_strip.specs.RuleStrip.{variablesOf, countOf, recordsOf, ruleRefusal, AcceptedRule}
+use Rattle.rule_strip.specs.RuleStrip.{variablesOf, countOf, recordsOf, ruleFault, AcceptedRule}
 use Rattle.tree_strip.specs.TreeStrip.{treeStrip, treeBytes}
 use Rattle.rule_strip.proofs.RuleLaws.{rule-accepted}
+use Rattle.bits.specs.declared.Fault.the-variants.{Sound, At}
+use Rattle.rules.specs.Refusal.{Refusal, nothing, tested}
 use Rattle.rules.specs.Room.{roomFor, cleared, roomRefusal, Roomy}
 use Rattle.decide.specs.Decide.{earlyRefusal, decidedOf, tell, outAfter, Spacious, verdictOf, workspaceOf, outOf, Claim}
 use Rattle.decide.specs.declared.Verdict.{Verdict}
-use Rattle.decide.specs.declared.Verdict.the-variants.{Refused}
+use Rattle.decide.specs.declared.Verdict.the-variants.{RefusedAt, Refused}
+use Rattle.rules.proofs.Refusals.{checked-free}
 use Rattle.rules.proofs.Rooms.{room-free}
 
 module _ (rule : List ℕ) (c P : ℕ) (ws out : List ℕ) where
@@ -28,29 +29,23 @@ module _ (rule : List ℕ) (c P : ℕ) (ws out : List ℕ) where
   Ends v ws′ out′ =
       (v ≡ verdictOf rule c P (length ws) (length out)) × ((ws′ ≡ workspaceOf rule c P ws (length out)) × (out′ ≡ outOf rule c P (length ws) out))
 
-  abbrev early : ℕ
+  abbrev early : Refusal
   early = earlyRefusal rule c P (length ws) (length out)
 
-  ends-early : (k : ℕ) → early ≡ k → (k ≡ 0 → ⊥) → Ends (Refused k) ws out
-  unfolding verdictOf workspaceOf outOf
-  ends-early k e z = rw (e, ne-eqb k 0 z) (refl, (refl, refl))
-
-  early-rule : (k : ℕ) → ruleRefusal rule ≡ k → (k ≡ 0 → ⊥) → early ≡ k
-  unfolding earlyRefusal
-  early-rule k e z = rw (e, ne-eqb k 0 z)
-
   -- a strip that is turned down
-  pub ends-refused : (k : ℕ) → ruleRefusal rule ≡ k → (k ≡ 0 → ⊥) → Ends (Refused k) ws out
-  ends-refused k e z = ends-early k (early-rule k e z) z
+  pub ends-refused : (k p : ℕ) → ruleFault rule ≡ At k p → Ends (RefusedAt k p) ws out
+  unfolding verdictOf workspaceOf outOf earlyRefusal
+  ends-refused k p e = rw e (refl, (refl, refl))
 
   module _ {n m : ℕ} (accepted : AcceptedRule rule n m) {k : ℕ} (ek : k ≡ roomRefusal n m c P (length ws) (length out)) where
-    early-room : early ≡ k
+    early-room : early ≡ tested k nothing
     unfolding earlyRefusal
-    early-room = rw (accepted .unrefused, ← accepted .variables, ← accepted .count) (sym ek)
+    early-room = rw (accepted .unrefused, ← accepted .variables, ← accepted .count, ← ek) refl
 
     -- want of room, or a ceiling out of range
     pub ends-room : (k ≡ 0 → ⊥) → Ends (Refused k) ws out
-    ends-room z = ends-early k early-room z
+    unfolding verdictOf workspaceOf outOf
+    ends-room z = rw (early-room, ne-eqb k 0 z) (refl, (refl, refl))
 
     module _ (z : k ≡ 0) where
       -- the build and the search may go on
@@ -71,7 +66,7 @@ module _ (rule : List ℕ) (c P : ℕ) (ws out : List ℕ) where
           → {ws′ : List ℕ} → ws′ ≡ cleared (roomFor n m c) ws → {out′ : List ℕ} → out′ ≡ outAfter n (outcomeOf v) out → Ends x ws′ out′
       unfolding verdictOf workspaceOf outOf
       ends-told v e ex ew eo =
-          let y : early ≡ 0 = early-room ∙ z in
+          let y : early ≡ nothing = early-room ∙ rw z refl in
           let en = accepted .variables in
           rw y (ex ∙ rw (e, en), (ew ∙ rw (en, accepted .count), eo ∙ rw (e, en)))
 
@@ -86,10 +81,5 @@ claim rule c P ws out ex eo = record {
   shows = λ e places states t f. rw (eo) (rw e (rw f (take-append-seam (treeStrip (variablesOf rule) t) (drop (length (treeStrip (variablesOf rule) t)) out))));
 }
   where
-    accepted : earlyRefusal rule c P (length ws) (length out) ≡ 0 → ruleRefusal rule ≡ 0
-    accepted e = go (ruleRefusal rule) refl e
-      where
-        go : (k : ℕ) → ruleRefusal rule ≡ k → cond (eqb k 0) (roomRefusal (variablesOf rule) (countOf rule) c P (length ws) (length out)) k ≡ 0
-            → ruleRefusal rule ≡ 0
-        go zero p f = p
-        go (suc k) p f = absurd (let g = rw eqb·suc-zero at f in omega arith)
+    accepted : earlyRefusal rule c P (length ws) (length out) ≡ nothing → ruleFault rule ≡ Sound
+    accepted e = checked-free (ruleFault rule) _ e .0

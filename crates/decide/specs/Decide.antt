@@ -2,23 +2,22 @@
 use Prim.Native.Nat.{ℕ, _+_, _≤_}
 use mathlib.Core.Path.{_≡_}
 use mathlib.Core.List.{List, _++_}
-use mathlib.Core.Bool.{cond}
-use lib.Dec.{eqb}
 use lib.ListN.{length, take, drop}
 use Rattle.logic.specs.Rule.{lastOf}
 use Rattle.logic.specs.Tree.{Tree, positions}
 use Rattle.logic.specs.Claims.{Outcome, refused14, shown, none, larger, statesAt, Answers}
 use Rattle.logic.specs.Decide.{decideOf}
-use Rattle.rule_strip.specs.RuleStrip.{variablesOf, countOf, recordsOf, ruleRefusal}
+use Rattle.rule_strip.specs.RuleStrip.{variablesOf, countOf, recordsOf, ruleFault}
 use Rattle.tree_strip.specs.TreeStrip.{treeStrip, treeBytes}
+use Rattle.rules.specs.Refusal.{Refusal, nothing, placed, plain, checked, tested, unlessRefused}
 use Rattle.rules.specs.Room.{roomFor, cleared, roomRefusal}
 use Rattle.decide.specs.declared.Verdict.{Verdict}
-use Rattle.decide.specs.declared.Verdict.the-variants.{Shown, None, Larger, Refused, TooManyStates}
+use Rattle.decide.specs.declared.Verdict.the-variants.{Shown, None, Larger, RefusedAt, Refused, TooManyStates}
 
--- the refusals tested before any machine is built: 1 to 10, then 11 to 13; else 0
-unfoldable pub earlyRefusal : List ℕ → ℕ → ℕ → ℕ → ℕ → ℕ
+-- the refusals tested before any machine is built: 1 to 10, then 11 to 13
+unfoldable pub earlyRefusal : List ℕ → ℕ → ℕ → ℕ → ℕ → Refusal
 earlyRefusal rule c P room outRoom =
-    cond (eqb (ruleRefusal rule) 0) (roomRefusal (variablesOf rule) (countOf rule) c P room outRoom) (ruleRefusal rule)
+    checked (ruleFault rule) (tested (roomRefusal (variablesOf rule) (countOf rule) c P room outRoom) nothing)
 
 -- this paper's answers for the outcome of a rule over n variables
 unfoldable pub tell : ℕ → Outcome 2 → Verdict
@@ -41,27 +40,32 @@ decidedOf rule c P = decideOf 2 (variablesOf rule) (recordsOf rule) c P
 abbrev pub Spacious : ℕ → Outcome 2 → ℕ → Type 0
 Spacious n o space = (places states : ℕ) (t : Tree 2) → o ≡ shown places states t → (positions t ≤ 255) × (treeBytes n (positions t) ≤ space)
 
+-- this paper's answer for a refusal, or else a verdict: 1 to 10 with their place, 11 to 13 without
+abbrev pub refusedOr : Refusal → Verdict → Verdict
+refusedOr nothing v = v
+refusedOr (placed number place) v = RefusedAt number place
+refusedOr (plain number) v = Refused number
+
 -- decide's result
 unfoldable pub verdictOf : List ℕ → ℕ → ℕ → ℕ → ℕ → Verdict
-verdictOf rule c P room outRoom =
-    cond (eqb (earlyRefusal rule c P room outRoom) 0) (tell (variablesOf rule) (decidedOf rule c P)) (Refused (earlyRefusal rule c P room outRoom))
+verdictOf rule c P room outRoom = refusedOr (earlyRefusal rule c P room outRoom) (tell (variablesOf rule) (decidedOf rule c P))
 
 -- out at the end
 unfoldable pub outOf : List ℕ → ℕ → ℕ → ℕ → List ℕ → List ℕ
 outOf rule c P room out =
-    cond (eqb (earlyRefusal rule c P room (length out)) 0) (outAfter (variablesOf rule) (decidedOf rule c P) out) out
+    unlessRefused (earlyRefusal rule c P room (length out)) (outAfter (variablesOf rule) (decidedOf rule c P) out) out
 
 -- the workspace at the end
 unfoldable pub workspaceOf : List ℕ → ℕ → ℕ → List ℕ → ℕ → List ℕ
 workspaceOf rule c P ws outRoom =
-    cond (eqb (earlyRefusal rule c P (length ws) outRoom) 0) (cleared (roomFor (variablesOf rule) (countOf rule) c) ws) ws
+    unlessRefused (earlyRefusal rule c P (length ws) outRoom) (cleared (roomFor (variablesOf rule) (countOf rule) c) ws) ws
 
 -- DEMANDS 2 AND 3, of decide's result v and the bytes that out holds at the end: where no refusal before the build applies, they tell an
 -- outcome that answers the rule
 pub record Claim (rule : List ℕ) (c P room outRoom : ℕ) (v : Verdict) (out : List ℕ) : Type 0 where
-  pub outcome : earlyRefusal rule c P room outRoom ≡ 0 → Outcome 2
-  pub answers : (e : earlyRefusal rule c P room outRoom ≡ 0)
+  pub outcome : earlyRefusal rule c P room outRoom ≡ nothing → Outcome 2
+  pub answers : (e : earlyRefusal rule c P room outRoom ≡ nothing)
       → Answers (variablesOf rule) (recordsOf rule) c P (statesAt 2 (variablesOf rule) (recordsOf rule) (lastOf (recordsOf rule))) (outcome e)
-  pub told : (e : earlyRefusal rule c P room outRoom ≡ 0) → v ≡ tell (variablesOf rule) (outcome e)
-  pub shows : (e : earlyRefusal rule c P room outRoom ≡ 0) → (places states : ℕ) (t : Tree 2) → outcome e ≡ shown places states t
+  pub told : (e : earlyRefusal rule c P room outRoom ≡ nothing) → v ≡ tell (variablesOf rule) (outcome e)
+  pub shows : (e : earlyRefusal rule c P room outRoom ≡ nothing) → (places states : ℕ) (t : Tree 2) → outcome e ≡ shown places states t
       → take (length (treeStrip (variablesOf rule) t)) out ≡ treeStrip (variablesOf rule) t

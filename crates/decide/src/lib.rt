@@ -13,7 +13,8 @@ use search::Finding;
 use solver::Solution;
 
 // Decide's answer: the tree shown in out, with its positions, the states of the last record and the strip's length; none or
-// larger, with the states; a refusal's number; or refusal 14, with the record's number.
+// larger, with the states; a refusal of the strip, 1 to 10, with its number and the bit place that it names; a refusal without a place,
+// 11 to 13; or refusal 14, with the record's number.
 pub enum Verdict {
     Shown {
         positions: u64,
@@ -22,6 +23,7 @@ pub enum Verdict {
     },
     None(u64),
     Larger(u64),
+    RefusedAt { number: u64, place: u64 },
     Refused(u64),
     TooManyStates(u64),
 }
@@ -132,7 +134,7 @@ pub fn decide(rule: &[u8], c: u64, p: u64, ws: &mut [u8], out: &mut [u8]) -> Ver
     ensures { λ r. ⌜ Claim (now (rule .entry)) c p (length (now (ws .entry))) (length (now (out .entry))) r (now (out .exit)) ⌝ }
 {
     match rule_strip::check_rule(rule) {
-        RuleCheck::Refused(k) => Verdict::Refused(k),
+        RuleCheck::Refused { number, place } => Verdict::RefusedAt { number, place },
         RuleCheck::Accepted { variables, records } => decide_accepted(
             rule,
             variables,

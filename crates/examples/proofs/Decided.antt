@@ -12,13 +12,13 @@ use Rattle.logic.specs.Reach.{elem, below, flat, select, outcomes, successors, 
 use Rattle.logic.specs.Table.{table, codedProduct, build, productTable, projectionTable, complementTable, tableOf, admit, buildAll, kindOf}
 use Rattle.logic.specs.Search.{settled, view, lighter, choose, consider, loop, tuples, pick, verdict, next, rounds, anyBelow, begin, search}
 use Rattle.logic.specs.Decide.{report, conclude, decideOf}
-use Rattle.bits.specs.Bits.{digits, bits, anySet, pack}
-use Rattle.rule_strip.specs.RuleStrip.{variablesOf, recordAt, recordsFrom, recordsOf, firstUse, secondUse, recordRefusal, recordsRefusal, ruleRefusal}
+use Rattle.bits.specs.Bits.{digits, bits, anySet, firstSet, bitLength, pack}
+use Rattle.rule_strip.specs.RuleStrip.{variablesOf, recordAt, recordsFrom, recordsOf, firstUse, secondUse, recordFault, recordsFault, headFault, ruleFault}
 use Rattle.tree_strip.specs.TreeStrip.{treeBits, treeStrip}
 use Rattle.rules.specs.Room.{roomRefusal}
 use Rattle.decide.specs.Decide.{earlyRefusal, tell, outAfter, verdictOf, outOf}
 use Rattle.decide.specs.declared.Verdict.{Verdict}
-use Rattle.decide.specs.declared.Verdict.the-variants.{Shown, None, Larger, Refused, TooManyStates}
+use Rattle.decide.specs.declared.Verdict.the-variants.{Shown, None, Larger, RefusedAt, Refused, TooManyStates}
 
 -- what decide is asked: a rule strip and both ceilings
 pub record Question : Type 0 where
@@ -38,6 +38,7 @@ abbrev front : Verdict → List ℕ → List ℕ
 front (Shown places states size) out = take size out
 front (None states) out = []
 front (Larger states) out = []
+front (RefusedAt number place) out = []
 front (Refused number) out = []
 front (TooManyStates number) out = []
 
@@ -103,8 +104,9 @@ expected =
     ∷ []
 
 pub examples-right : map answer examples ≡ expected
-unfolding answer examples expected bits anySet recordAt recordsFrom recordsOf firstUse secondUse recordRefusal recordsRefusal ruleRefusal roomRefusal
-    earlyRefusal tell outAfter verdictOf outOf low bit downFrom allOf anyOf sumOf positions successorAt kindOf setLow withBit run elem below flat select
+unfolding answer examples expected bits anySet firstSet bitLength recordAt recordsFrom recordsOf firstUse secondUse recordFault recordsFault
+    headFault ruleFault roomRefusal earlyRefusal tell outAfter verdictOf outOf low bit downFrom allOf anyOf sumOf positions successorAt kindOf setLow
+    withBit run elem below flat select
     outcomes successors add closure reach position numbered wordOf members projection table codedProduct build productTable projectionTable
     complementTable tableOf admit buildAll settled view lighter choose consider loop tuples pick verdict next rounds anyBelow begin search report
     conclude decideOf digits pack treeBits treeStrip decLt

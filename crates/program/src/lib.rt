@@ -26,7 +26,7 @@ fn rule_in(input: &[u8]) -> &[u8]
 
 // The verdict's line for a rule with c = 16 and P = 60 stands at the front of `line`.
 fn respond(rule: &[u8], ws: &mut [u8], out: &mut [u8], line: &mut [u8]) -> usize
-    requires { ⌜ 49 + 2 * length (now out) ≤ length (now line) ⌝ }
+    requires { ⌜ 50 + 2 * length (now out) ≤ length (now line) ⌝ }
     ensures { λ r. ⌜ Put (now (line .entry)) 0
         (lineOf (verdictOf (now (rule .entry)) 16 60 (length (now (ws .entry))) (length (now (out .entry))))
         (outOf (now (rule .entry)) 16 60 (length (now (ws .entry))) (now (out .entry)))) r (now (line .exit)) ⌝ }

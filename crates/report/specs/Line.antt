@@ -4,7 +4,7 @@ use mathlib.Core.List.{List, [], _∷_, _++_}
 use lib.ListN.{take}
 use Rattle.report.specs.Text.{decimal, hex}
 use Rattle.decide.specs.declared.Verdict.{Verdict}
-use Rattle.decide.specs.declared.Verdict.the-variants.{Shown, None, Larger, Refused, TooManyStates}
+use Rattle.decide.specs.declared.Verdict.the-variants.{Shown, None, Larger, RefusedAt, Refused, TooManyStates}
 
 -- `shown `
 abbrev pub shownWord : List ℕ
@@ -40,11 +40,12 @@ counted word n = word ++ decimal 20 n
 abbrev pub shownLine : ℕ → ℕ → List ℕ → List ℕ
 shownLine positions states strip = counted shownWord positions ++ (counted space states ++ (space ++ (hex strip ++ lineEnd)))
 
--- "`shown positions states HEX`, `none states`, `larger states`, `refused number`, or `refused 14 record`", and the line's end;
--- out: the buffer whose front holds the tree strip
+-- "`shown positions states HEX`, `none states`, `larger states`, `refused number`, or `refused 14 record`", and the line's end; of a
+-- strip's refusal also the place: "the verdict program prints it last on its line". out: the buffer whose front holds the tree strip
 unfoldable pub lineOf : Verdict → List ℕ → List ℕ
 lineOf (Shown positions states size) out = shownLine positions states (take size out)
 lineOf (None states) out = counted noneWord states ++ lineEnd
 lineOf (Larger states) out = counted largerWord states ++ lineEnd
+lineOf (RefusedAt number place) out = counted refusedWord number ++ (counted space place ++ lineEnd)
 lineOf (Refused number) out = counted refusedWord number ++ lineEnd
 lineOf (TooManyStates number) out = counted refused14Word number ++ lineEnd

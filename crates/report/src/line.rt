@@ -3,7 +3,7 @@ ghost use mathlib.Core.List.{_++_};
 ghost use Prim.Native.Nat.{_+_, _*_, _≤_};
 ghost use lib.ListN.{length, take};
 ghost use Rattle.report.specs.Text.{Put};
-ghost use Rattle.report.specs.Line.{counted, shownLine, lineOf, lineEnd};
+ghost use Rattle.report.specs.Line.{counted, space, shownLine, lineOf, lineEnd};
 use crate::text::put_bytes;
 use crate::text::put_decimal;
 use crate::text::put_hex;
@@ -26,6 +26,16 @@ fn put_count(line: &mut [u8], word: &[u8], n: u64) -> usize
 {
     let next = put_counted(line, 0, word, n);
     put_bytes(line, next, b"\n")
+}
+
+// A line of a word and two numbers.
+fn put_counts(line: &mut [u8], word: &[u8], n: u64, m: u64) -> usize
+    requires { ⌜ length (now word) + 42 ≤ length (now line) ⌝ }
+    ensures { λ r. ⌜ Put (now (line .entry)) 0 (counted (now (word .entry)) n ++ (counted space m ++ lineEnd)) r (now (line .exit)) ⌝ }
+{
+    let second = put_counted(line, 0, word, n);
+    let end = put_counted(line, second, b" ", m);
+    put_bytes(line, end, b"\n")
 }
 
 // The line of a shown tree, by its strip.
@@ -54,7 +64,7 @@ fn put_front(line: &mut [u8], positions: u64, states: u64, out: &[u8], size: u64
 
 // The line of a verdict stands at the front of `line`; out is the buffer that decide wrote to.
 pub fn write_line(v: Verdict, out: &[u8], line: &mut [u8]) -> usize
-    requires { ⌜ 49 + 2 * length (now out) ≤ length (now line) ⌝ }
+    requires { ⌜ 50 + 2 * length (now out) ≤ length (now line) ⌝ }
     ensures { λ r. ⌜ Put (now (line .entry)) 0 (lineOf v (now (out .entry))) r (now (line .exit)) ⌝ }
 {
     match v {
@@ -65,6 +75,7 @@ pub fn write_line(v: Verdict, out: &[u8], line: &mut [u8]) -> usize
         } => put_front(line, positions, states, out, length),
         Verdict::None(states) => put_count(line, b"none ", states),
         Verdict::Larger(states) => put_count(line, b"larger ", states),
+        Verdict::RefusedAt { number, place } => put_counts(line, b"refused ", number, place),
         Verdict::Refused(number) => put_count(line, b"refused ", number),
         Verdict::TooManyStates(record) => put_count(line, b"refused 14 ", record),
     }
