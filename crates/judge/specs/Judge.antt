@@ -10,24 +10,17 @@ use Rattle.logic.specs.Tree.{Tree, empty, TreeOf}
 use Rattle.logic.specs.Claims.{Judgement as Ruled, unbuilt, yes, no, Judges}
 use Rattle.logic.specs.Decide.{judgeOf}
 use Rattle.bits.specs.Bits.{field}
-use Rattle.rule_strip.specs.RuleStrip.{variablesOf, countOf, recordsOf, ruleRefusal}
-use Rattle.tree_strip.specs.TreeStrip.{Parsed, parsed, refused, readTree}
+use Rattle.rule_strip.specs.RuleStrip.{variablesOf, countOf, recordsOf, ruleFault}
+use Rattle.tree_strip.specs.TreeStrip.{Parsed, parsed, refused, readTree, treeFault}
+use Rattle.rules.specs.Refusal.{Refusal, nothing, placed, plain, checked, tested, unlessRefused}
 use Rattle.rules.specs.Room.{roomFor, cleared, workRefusal}
 use Rattle.judge.specs.declared.Judgement.{Judgement}
-use Rattle.judge.specs.declared.Judgement.the-variants.{No, Yes, Refused, TooManyStates}
-
--- "15 to 21 in that operation's order"; else 0
-abbrev pub refusalIn : Parsed → ℕ
-refusalIn (parsed t met rest) = 0
-refusalIn (refused r) = r
-
-unfoldable pub treeRefusal : List ℕ → ℕ
-treeRefusal tree = refusalIn (readTree tree)
+use Rattle.judge.specs.declared.Judgement.the-variants.{No, Yes, RefusedAt, Refused, TooManyStates}
 
 -- the tree of an accepted strip
 abbrev pub treeIn : Parsed → Tree 2
 treeIn (parsed t met rest) = t
-treeIn (refused r) = empty
+treeIn (refused k p) = empty
 
 -- the strip holds a tree over n variables
 pub record AcceptedTree (strip : List ℕ) (n : ℕ) : Type 0 where
@@ -37,16 +30,17 @@ pub record AcceptedTree (strip : List ℕ) (n : ℕ) : Type 0 where
   pub read : readTree strip ≡ parsed tree met rest
   pub variables : field strip 4 4 ≡ n
 
--- "In order: 1 to 10; 11 for c alone; 12; 15 to 21 in that operation's order; 22 the two n differ"; else 0
-unfoldable pub lateRefusal : List ℕ → ℕ → ℕ
-lateRefusal tree n = cond (eqb (treeRefusal tree) 0) (cond (eqb (field tree 4 4) n) 0 22) (treeRefusal tree)
+-- "22 the two n differ"; else 0
+abbrev pub otherVariables : List ℕ → ℕ → ℕ
+otherVariables tree n = cond (eqb (field tree 4 4) n) 0 22
 
-unfoldable pub refusalBefore : List ℕ → ℕ → ℕ → List ℕ → ℕ
+-- "In order: 1 to 10; 11 for c alone; 12; 15 to 21 in that operation's order; 22 the two n differ"
+unfoldable pub refusalBefore : List ℕ → ℕ → ℕ → List ℕ → Refusal
 refusalBefore rule c room tree =
-    cond (eqb (ruleRefusal rule) 0)
-    (cond (eqb (workRefusal (variablesOf rule) (countOf rule) c room) 0) (lateRefusal tree (variablesOf rule))
-    (workRefusal (variablesOf rule) (countOf rule) c room))
-    (ruleRefusal rule)
+    checked (ruleFault rule)
+    (tested (workRefusal (variablesOf rule) (countOf rule) c room)
+    (checked (treeFault tree)
+    (tested (otherVariables tree (variablesOf rule)) nothing)))
 
 -- this paper's answers: "14. Otherwise yes or no"
 abbrev pub tell : Ruled → Judgement
@@ -57,13 +51,20 @@ tell no = No
 unfoldable pub judgedOf : List ℕ → ℕ → List ℕ → Ruled
 judgedOf rule c tree = judgeOf (variablesOf rule) (recordsOf rule) c (treeIn (readTree tree))
 
+-- this paper's answer for a refusal, or else a judgement: 1 to 10 and 15 to 21 with their place, 11, 12 and 22 without
+abbrev pub refusedOr : Refusal → Judgement → Judgement
+refusedOr nothing v = v
+refusedOr (placed number place) v = RefusedAt number place
+refusedOr (plain number) v = Refused number
+
 -- judge's result
 unfoldable pub judgementFor : List ℕ → ℕ → ℕ → List ℕ → Judgement
-judgementFor rule c room tree = cond (eqb (refusalBefore rule c room tree) 0) (tell (judgedOf rule c tree)) (Refused (refusalBefore rule c room tree))
+judgementFor rule c room tree = refusedOr (refusalBefore rule c room tree) (tell (judgedOf rule c tree))
 
 -- the workspace at the end
 unfoldable pub workspaceFor : List ℕ → ℕ → List ℕ → List ℕ → List ℕ
-workspaceFor rule c ws tree = cond (eqb (refusalBefore rule c (length ws) tree) 0) (cleared (roomFor (variablesOf rule) (countOf rule) c) ws) ws
+workspaceFor rule c ws tree =
+    unlessRefused (refusalBefore rule c (length ws) tree) (cleared (roomFor (variablesOf rule) (countOf rule) c) ws) ws
 
 -- the strip holds the tree of an assignment, and v tells a judgement of the tree
 pub record JudgedTree (rule : List ℕ) (c : ℕ) (strip : List ℕ) (v : Judgement) : Type 0 where
@@ -78,4 +79,4 @@ pub record JudgedTree (rule : List ℕ) (c : ℕ) (strip : List ℕ) (v : Judgem
 
 -- "For a tree I hand in, yes or no agrees with the same meaning", where no refusal before the build applies
 pub record JudgeClaim (rule : List ℕ) (c room : ℕ) (strip : List ℕ) (v : Judgement) : Type 0 where
-  pub judged : refusalBefore rule c room strip ≡ 0 → JudgedTree rule c strip v
+  pub judged : refusalBefore rule c room strip ≡ nothing → JudgedTree rule c strip v

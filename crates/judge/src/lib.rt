@@ -11,10 +11,12 @@ use rules::decode::decode;
 use solver::Ruling;
 use tree_strip::check::TreeCheck;
 
-// Judge's answer: no or yes; a refusal's number; or refusal 14, with the record's number.
+// Judge's answer: no or yes; a strip's refusal, 1 to 10 or 15 to 21, with its number and the bit place that it names; a refusal without a
+// place, 11, 12 or 22; or refusal 14, with the record's number.
 pub enum Judgement {
     No,
     Yes,
+    RefusedAt { number: u64, place: u64 },
     Refused(u64),
     TooManyStates(u64),
 }
@@ -61,7 +63,7 @@ fn judge_accepted(rule: &[u8], n: usize, m: usize, c: u64, ws: &mut [u8], tree: 
         return Judgement::Refused(k);
     }
     match tree_strip::check::check_tree(tree) {
-        TreeCheck::Refused(k) => Judgement::Refused(k),
+        TreeCheck::Refused { number, place } => Judgement::RefusedAt { number, place },
         TreeCheck::Accepted {
             variables,
             positions: _,
@@ -81,7 +83,7 @@ pub fn judge(rule: &[u8], c: u64, ws: &mut [u8], tree: &[u8]) -> Judgement
     ensures { λ r. ⌜ JudgeClaim (now (rule .entry)) c (length (now (ws .entry))) (now (tree .entry)) r ⌝ }
 {
     match rule_strip::check_rule(rule) {
-        RuleCheck::Refused(k) => Judgement::Refused(k),
+        RuleCheck::Refused { number, place } => Judgement::RefusedAt { number, place },
         RuleCheck::Accepted { variables, records } => judge_accepted(
             rule,
             variables,

@@ -1,5 +1,5 @@
--- The numbers that C is given for each answer: document 01's number and values for each case, and 0 where a field does not apply.
--- Assumes nothing.
+-- The numbers that C is given for each answer: document 01's number and values for each case, document 02's place of a
+-- strip's refusal, and 0 where a field does not apply. Assumes nothing.
 use Prim.Native.Nat.{ℕ}
 use mathlib.Core.Path.{_≡_}
 use mathlib.Core.List.{List}
@@ -19,27 +19,29 @@ use Rattle.ws2s.specs.declared.exports.JudgementNumbers.{JudgementNumber
 use Rattle.ws2s.specs.declared.exports.VerdictNumbers.{VerdictNumbers}
 
 abbrev pub ruleNumbers : RuleCheck → RuleNumbers
-ruleNumbers (rule.Accepted n m) = record { refusal = 0; variables = n; records = m }
-ruleNumbers (rule.Refused k) = record { refusal = k; variables = 0; records = 0 }
+ruleNumbers (rule.Accepted n m) = record { refusal = 0; variables = n; records = m; place = 0 }
+ruleNumbers (rule.Refused k p) = record { refusal = k; variables = 0; records = 0; place = p }
 
 abbrev pub treeNumbers : TreeCheck → TreeNumbers
-treeNumbers (tree.Accepted n N) = record { refusal = 0; variables = n; positions = N }
-treeNumbers (tree.Refused k) = record { refusal = k; variables = 0; positions = 0 }
+treeNumbers (tree.Accepted n N) = record { refusal = 0; variables = n; positions = N; place = 0 }
+treeNumbers (tree.Refused k p) = record { refusal = k; variables = 0; positions = 0; place = p }
 
 -- kind: 0 no, 1 yes, 3 refused
 abbrev pub judgementNumbers : Judgement → JudgementNumbers
-judgementNumbers judgement.No = record { kind = 0; refusal = 0; recordnumber = 0 }
-judgementNumbers judgement.Yes = record { kind = 1; refusal = 0; recordnumber = 0 }
-judgementNumbers (judgement.Refused k) = record { kind = 3; refusal = k; recordnumber = 0 }
-judgementNumbers (judgement.TooManyStates r) = record { kind = 3; refusal = 14; recordnumber = r }
+judgementNumbers judgement.No = record { kind = 0; refusal = 0; recordnumber = 0; place = 0 }
+judgementNumbers judgement.Yes = record { kind = 1; refusal = 0; recordnumber = 0; place = 0 }
+judgementNumbers (judgement.RefusedAt k p) = record { kind = 3; refusal = k; recordnumber = 0; place = p }
+judgementNumbers (judgement.Refused k) = record { kind = 3; refusal = k; recordnumber = 0; place = 0 }
+judgementNumbers (judgement.TooManyStates r) = record { kind = 3; refusal = 14; recordnumber = r; place = 0 }
 
 -- kind: 0 shown, 1 none, 2 larger, 3 refused
 abbrev pub verdictNumbers : Verdict → VerdictNumbers
-verdictNumbers (verdict.Shown p q l) = record { kind = 0; refusal = 0; recordnumber = 0; positions = p; states = q; length = l }
-verdictNumbers (verdict.None q) = record { kind = 1; refusal = 0; recordnumber = 0; positions = 0; states = q; length = 0 }
-verdictNumbers (verdict.Larger q) = record { kind = 2; refusal = 0; recordnumber = 0; positions = 0; states = q; length = 0 }
-verdictNumbers (verdict.Refused k) = record { kind = 3; refusal = k; recordnumber = 0; positions = 0; states = 0; length = 0 }
-verdictNumbers (verdict.TooManyStates r) = record { kind = 3; refusal = 14; recordnumber = r; positions = 0; states = 0; length = 0 }
+verdictNumbers (verdict.Shown N q l) = record { kind = 0; refusal = 0; recordnumber = 0; positions = N; states = q; length = l; place = 0 }
+verdictNumbers (verdict.None q) = record { kind = 1; refusal = 0; recordnumber = 0; positions = 0; states = q; length = 0; place = 0 }
+verdictNumbers (verdict.Larger q) = record { kind = 2; refusal = 0; recordnumber = 0; positions = 0; states = q; length = 0; place = 0 }
+verdictNumbers (verdict.RefusedAt k p) = record { kind = 3; refusal = k; recordnumber = 0; positions = 0; states = 0; length = 0; place = p }
+verdictNumbers (verdict.Refused k) = record { kind = 3; refusal = k; recordnumber = 0; positions = 0; states = 0; length = 0; place = 0 }
+verdictNumbers (verdict.TooManyStates r) = record { kind = 3; refusal = 14; recordnumber = r; positions = 0; states = 0; length = 0; place = 0 }
 
 -- the numbers are those of a judgement that meets judge's claim
 pub record JudgedInNumbers (rule : List ℕ) (c room : ℕ) (tree : List ℕ) (r : JudgementNumbers) : Type 0 where

@@ -1,4 +1,5 @@
-// The C interface, include/ws2s.h: the entry points over numbers and byte slices. Fields that do not apply are 0.
+// The C interface, include/ws2s.h: the entry points over numbers and byte slices. Fields that do not apply are 0;
+// place is the bit place that a strip's refusal names.
 ghost use mathlib.Core.Path.{_≡_};
 ghost use lib.ListN.{length};
 ghost use Rattle.rule_strip.specs.RuleAnswers.{checkedRule};
@@ -16,6 +17,7 @@ pub struct RuleNumbers {
     pub refusal: u64,
     pub variables: u64,
     pub records: u64,
+    pub place: u64,
 }
 
 #[repr(C)]
@@ -23,6 +25,7 @@ pub struct TreeNumbers {
     pub refusal: u64,
     pub variables: u64,
     pub positions: u64,
+    pub place: u64,
 }
 
 // kind: 0 no, 1 yes, 3 refused.
@@ -31,6 +34,7 @@ pub struct JudgementNumbers {
     pub kind: u64,
     pub refusal: u64,
     pub recordnumber: u64,
+    pub place: u64,
 }
 
 // kind: 0 shown, 1 none, 2 larger, 3 refused.
@@ -42,6 +46,7 @@ pub struct VerdictNumbers {
     pub positions: u64,
     pub states: u64,
     pub length: u64,
+    pub place: u64,
 }
 
 fn rule_numbers(r: RuleCheck) -> RuleNumbers
@@ -52,11 +57,13 @@ fn rule_numbers(r: RuleCheck) -> RuleNumbers
             refusal: 0,
             variables: variables as u64,
             records: records as u64,
+            place: 0,
         },
-        RuleCheck::Refused(k) => RuleNumbers {
-            refusal: k,
+        RuleCheck::Refused { number, place } => RuleNumbers {
+            refusal: number,
             variables: 0,
             records: 0,
+            place,
         },
     }
 }
@@ -72,12 +79,25 @@ fn tree_numbers(r: TreeCheck) -> TreeNumbers
             refusal: 0,
             variables: variables as u64,
             positions: positions as u64,
+            place: 0,
         },
-        TreeCheck::Refused(k) => TreeNumbers {
-            refusal: k,
+        TreeCheck::Refused { number, place } => TreeNumbers {
+            refusal: number,
             variables: 0,
             positions: 0,
+            place,
         },
+    }
+}
+
+fn judged(kind: u64, refusal: u64, recordnumber: u64, place: u64) -> JudgementNumbers
+    ensures { λ x. ⌜ x ≡ record { kind = kind; refusal = refusal; recordnumber = recordnumber; place = place } ⌝ }
+{
+    JudgementNumbers {
+        kind,
+        refusal,
+        recordnumber,
+        place,
     }
 }
 
@@ -85,32 +105,18 @@ fn judgement_numbers(j: Judgement) -> JudgementNumbers
     ensures { λ x. ⌜ x ≡ judgementNumbers j ⌝ }
 {
     match j {
-        Judgement::No => JudgementNumbers {
-            kind: 0,
-            refusal: 0,
-            recordnumber: 0,
-        },
-        Judgement::Yes => JudgementNumbers {
-            kind: 1,
-            refusal: 0,
-            recordnumber: 0,
-        },
-        Judgement::Refused(k) => JudgementNumbers {
-            kind: 3,
-            refusal: k,
-            recordnumber: 0,
-        },
-        Judgement::TooManyStates(r) => JudgementNumbers {
-            kind: 3,
-            refusal: 14,
-            recordnumber: r,
-        },
+        Judgement::No => judged(0, 0, 0, 0),
+        Judgement::Yes => judged(1, 0, 0, 0),
+        Judgement::RefusedAt { number, place } => judged(3, number, 0, place),
+        Judgement::Refused(k) => judged(3, k, 0, 0),
+        Judgement::TooManyStates(r) => judged(3, 14, r, 0),
     }
 }
 
 // The numbers of a verdict that shows no tree.
-fn plain(kind: u64, refusal: u64, recordnumber: u64, states: u64) -> VerdictNumbers
-    ensures { λ x. ⌜ x ≡ record { kind = kind; refusal = refusal; recordnumber = recordnumber; positions = 0; states = states; length = 0 } ⌝ }
+fn plain(kind: u64, refusal: u64, recordnumber: u64, states: u64, place: u64) -> VerdictNumbers
+    ensures { λ x. ⌜ x
+        ≡ record { kind = kind; refusal = refusal; recordnumber = recordnumber; positions = 0; states = states; length = 0; place = place } ⌝ }
 {
     VerdictNumbers {
         kind,
@@ -119,6 +125,7 @@ fn plain(kind: u64, refusal: u64, recordnumber: u64, states: u64) -> VerdictNumb
         positions: 0,
         states,
         length: 0,
+        place,
     }
 }
 
@@ -137,11 +144,13 @@ fn verdict_numbers(v: Verdict) -> VerdictNumbers
             positions,
             states,
             length,
+            place: 0,
         },
-        Verdict::None(states) => plain(1, 0, 0, states),
-        Verdict::Larger(states) => plain(2, 0, 0, states),
-        Verdict::Refused(k) => plain(3, k, 0, 0),
-        Verdict::TooManyStates(r) => plain(3, 14, r, 0),
+        Verdict::None(states) => plain(1, 0, 0, states, 0),
+        Verdict::Larger(states) => plain(2, 0, 0, states, 0),
+        Verdict::RefusedAt { number, place } => plain(3, number, 0, 0, place),
+        Verdict::Refused(k) => plain(3, k, 0, 0, 0),
+        Verdict::TooManyStates(r) => plain(3, 14, r, 0, 0),
     }
 }
 

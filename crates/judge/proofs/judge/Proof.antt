@@ -14,8 +14,8 @@ judge-accepted-requires c κs =
 returns : tie.Need-returns
 returns c =
     let a = c .before .before .before .before .before .before .before .args in
-    let w = checked-refused (a .rule .now) _ (sym (c .before .before .before .check-rule .ensures) ∙ c .before .k .given .1) in
-    let e = ends-refused (a .rule .now) (a .c) (a .ws .now) (a .tree .now) _ (w .0) (w .1) in
+    let w = checked-refused (a .rule .now) _ _ (sym (c .before .before .before .check-rule .ensures) ∙ c .before .number .given .1) in
+    let e = ends-refused (a .rule .now) (a .c) (a .ws .now) (a .tree .now) _ _ w in
     (e .0, (e .1, claim (a .rule .now) (a .c) (a .ws .now) (a .tree .now) (e .0)))
 
 returns-2 : tie.Need-returns-2

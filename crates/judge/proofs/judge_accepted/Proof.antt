@@ -3,8 +3,9 @@ use mathlib.Core.Path.{sym, _∙_, subst}
 use Prim.Native.Nat.{ℕ}
 use native.Mathlib.Omega.{arith}
 use Rattle.rule_strip.proofs.RuleLaws.{rule-accepted}
+use Rattle.tree_strip.proofs.TreeLaws.{checked-refused}
 use Rattle.judge.specs.Judge.{AcceptedTree}
-use Rattle.judge.proofs.Judging.{check-readable, check-refused, ends-room, ends-tree, ends-other, room-known, ends-told}
+use Rattle.judge.proofs.Judging.{check-readable, ends-room, ends-tree, ends-other, room-known, ends-told}
 use borrow.Author.Needs.{needs}
 use Rattle.judge.proofs.judge_accepted.Statement.{statement}
 use Rattle.judge.proofs.judge_accepted.Tie as tie
@@ -49,9 +50,8 @@ returns-3 c =
     let b = c .before .before .before in
     let st = b .before .before .before .before .before .before in
     let a = st .args in
-    let w = check-refused (a .tree .now) _ (sym (b .check-tree .ensures) ∙ c .before .k .given .1) in
     ends-tree (a .rule .now) (a .c) (a .ws .now) (a .tree .now) (st .pre) (b .before .before .work-refusal .ensures)
-    (omega arith) (w .0) (w .1)
+    (omega arith) (checked-refused (a .tree .now) _ _ (sym (b .check-tree .ensures) ∙ c .before .number .given .1))
 
 returns-4 : tie.Need-returns-4
 returns-4 c =
