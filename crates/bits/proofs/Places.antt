@@ -1,5 +1,5 @@
 -- The first set bit of a list of bits: where it stands, and how it is found. Assumes nothing.
-use mathlib.Core.Path.{_≡_, refl, sym, _∙_}
+use mathlib.Core.Path.{_≡_, refl, sym, ap, _∙_}
 use mathlib.Core.Logic.{_⊎_, inl, inr, ⊎-elim}
 use mathlib.Core.Bool.{true}
 use mathlib.Core.List.{List, [], _∷_}
@@ -9,8 +9,8 @@ use native.Mathlib.Numerals.{add-one}
 use native.Mathlib.Omega.{arith}
 use borrow.Author.Tests.{lt-ltb, ne-eqb}
 use lib.Dec.{ltb, leb·suc-suc, eqb·suc-zero}
-use lib.ListN.{length, getD}
-use lib.Seq.{slice, slice-empty, slice-cons}
+use lib.ListN.{length, getD, take, drop}
+use lib.Seq.{slice, slice-empty, slice-cons, take-add, drop-at, length-take-le}
 use Rattle.bits.specs.Bits.{anySet, firstSet}
 
 -- a bit is 0 or not
@@ -33,6 +33,10 @@ module _ (l : List ℕ) (at end : ℕ) where
   pub first-none : at ≡ end → at ≡ at + firstSet (slice at end l)
   unfolding firstSet
   first-none e = rw (e, slice-empty end l) (omega arith)
+
+-- the k bits from a place on, as a part of all
+pub slice-from : (l : List ℕ) (at k : ℕ) → at ≤ length l → slice at (at + k) l ≡ take k (drop at l)
+slice-from l at k h = ap (drop at) (take-add at k l) ∙ drop-at (take at l) (take k (drop at l)) at (length-take-le at l h)
 
 -- ---- where it stands
 

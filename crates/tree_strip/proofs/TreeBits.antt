@@ -1,20 +1,20 @@
--- Trees of two branches as bits: how many, and the number that a label's bits are. Assumes nothing.
-use Prim.Native.Nat.{ℕ, zero, suc, _+_, _-_, _*_, _/_, _%_, _^_, _<_}
-use mathlib.Core.Path.{_≡_, refl, sym, ap, ap₂, _∙_}
+-- Trees of two branches as bits: how many, and the number that a label's bits are; and the last bits of a strip. Assumes nothing.
+use Prim.Native.Nat.{ℕ, zero, suc, _+_, _-_, _*_, _/_, _%_, _^_, _≤_, _<_}
+use mathlib.Core.Path.{_≡_, refl, sym, ap, ap₂, subst, _∙_}
 use mathlib.Core.List.{List, [], _∷_, _++_}
-use native.Mathlib.Nat.{mod-eq-of-lt, add-mul, suc-mul, pow-suc, mul-assoc, mul-comm}
+use native.Mathlib.Nat.{mod-eq-of-lt, add-zero, add-mul, suc-mul, pow-suc, mul-assoc, mul-comm}
 use native.Mathlib.Omega.{arith}
 use lib.Arith.{digits-lt, digits-mod}
 use lib.Dec.{lit<}
-use lib.ListN.{length, getD, take, drop, length-append, length-drop}
+use lib.ListN.{length, getD, take, drop, length-append, length-drop, take-append-drop}
 use lib.Pow.{high}
-use lib.Seq.{getD-drop, getD-append-add}
+use lib.Seq.{getD-drop, getD-append-add, drop-drop, drop-append-seam}
 use Rattle.logic.specs.Meaning.{Branch}
 use Rattle.logic.specs.Tree.{Tree, empty, node, downFrom, sumOf, positions}
 use Rattle.logic.specs.Two.{one, two, pairOf}
 use Rattle.logic.proofs.Two.{two-branches}
 use Rattle.bits.specs.Bits.{digits, bits, number}
-use Rattle.tree_strip.specs.TreeStrip.{treeBits}
+use Rattle.tree_strip.specs.TreeStrip.{treeBits, placeOf}
 use Rattle.bits.proofs.Digits.{bit-lt}
 use Rattle.bits.proofs.Fields.{length-digits, length-bits, number-digits}
 
@@ -85,6 +85,39 @@ tree-bits n (node l f) (suc k) =
 -- the bits from a place on
 pub length-from : (s : List ℕ) (at : ℕ) → length (drop at (bits s)) ≡ 8 * length s - at
 length-from s at = length-drop at (bits s) ∙ ap (λ (k : ℕ). k - at) (length-bits s)
+
+pub bit-is : (s : List ℕ) (at b : ℕ) (bs : List ℕ) → drop at (bits s) ≡ b ∷ bs
+    → (at < 8 * length s) × (getD (bits s) at 0 ≡ b) × (drop (at + 1) (bits s) ≡ bs)
+bit-is s at b bs e = (
+  let l = length-from s at in let k = ap length e in omega arith,
+  ap (λ (k : ℕ). getD (bits s) k 0) (sym (add-zero at)) ∙ sym (getD-drop at (bits s) 0 0) ∙ ap (λ (l : List ℕ). getD l 0 0) e,
+  sym (drop-drop 1 at (bits s)) ∙ ap (drop 1) e,
+)
+
+-- ---- bs are the last bits of the strip s: they stand at the place that their number gives
+abbrev pub Last : List ℕ → List ℕ → Type 0
+Last s bs = drop (placeOf s bs) (bits s) ≡ bs
+
+module _ (s : List ℕ) where
+  pub last-few : (bs : List ℕ) → Last s bs → length bs ≤ 8 * length s
+  last-few bs e = let k = ap length e in let l = length-from s (placeOf s bs) in omega arith
+
+  pub last-bits : (bs : List ℕ) → Last s bs → AreBits bs
+  last-bits bs e = subst AreBits e (bits-drop (placeOf s bs) (bits s) (bits-bits s))
+
+  pub last-second : (xs ys : List ℕ) → Last s (xs ++ ys) → Last s ys
+  last-second xs ys e =
+      let l = last-few (xs ++ ys) e in
+      let k = length-append xs ys in
+      let f : placeOf s ys ≡ placeOf s (xs ++ ys) + length xs = omega arith in
+      ap (λ (k : ℕ). drop k (bits s)) f ∙ sym (drop-drop (length xs) (placeOf s (xs ++ ys)) (bits s)) ∙ ap (drop (length xs)) e
+      ∙ drop-append-seam xs ys
+
+  pub last-drop : (n : ℕ) (bs : List ℕ) → Last s bs → Last s (drop n bs)
+  last-drop n bs e = last-second (take n bs) (drop n bs) (subst (Last s) (sym (take-append-drop n bs)) e)
+
+  pub last-from : (at : ℕ) → Last s (drop at (bits s))
+  last-from at = last-drop at (bits s) (let l = length-bits s in let e : placeOf s (bits s) ≡ 0 = omega arith in rw e refl)
 
 -- ---- a list of bits as a number
 -- a number of n bits, from its digits

@@ -1,73 +1,75 @@
 -- The end of a tree strip: padding bits, bytes left over, and the answer. Assumes nothing.
-use Prim.Native.Nat.{ℕ, zero, suc, _+_, _-_, _*_, _/_, _%_, _≤_, _<_}
+use Prim.Native.Nat.{ℕ, _+_, _-_, _*_, _/_, _%_, _≤_, _<_}
 use mathlib.Core.Path.{_≡_, refl, sym, ap, _∙_}
-use mathlib.Core.Bool.{Bool, true, false, not, _||_}
-use mathlib.Core.List.{List, [], _∷_}
+use mathlib.Core.Bool.{Bool, true, false}
+use mathlib.Core.List.{List}
 use native.Mathlib.Omega.{arith}
-use borrow.Author.Tests.{le-leb, lt-leb, ne-eqb}
-use lib.Dec.{eqb, leb}
-use lib.ListN.{length, drop, drop-of-length-le}
-use lib.Seq.{take-all}
+use borrow.Author.Tests.{lt-ltb, le-ltb, le-leb, lt-leb}
+use lib.ListN.{length, take, drop}
+use lib.Seq.{slice, length-take-le}
 use Rattle.logic.specs.Tree.{Tree, positions}
-use Rattle.bits.specs.Bits.{bits, number, field, anySet}
-use Rattle.tree_strip.specs.TreeStrip.{Parsed, parsed, refused, ended, treeBits}
+use Rattle.bits.specs.Bits.{bits, field, anySet, firstSet}
+use Rattle.bits.specs.declared.Fault.{Fault}
+use Rattle.bits.specs.declared.Fault.the-variants.{Sound, At}
+use Rattle.tree_strip.specs.TreeStrip.{Parsed, parsed, refused, padding, endFault, unless, ended, treeBits}
 use Rattle.tree_strip.specs.TreeAnswers.{told, answered}
+use Rattle.tree_strip.specs.TreePlaces.{wholeByte}
 use Rattle.tree_strip.specs.declared.check.TreeRead.{TreeRead}
 use Rattle.tree_strip.specs.declared.check.TreeRead.the-variants as read
 use Rattle.tree_strip.specs.declared.check.TreeCheck.the-variants as check
 use Rattle.bits.proofs.Fields.{length-bits}
+use Rattle.bits.proofs.Places.{slice-from, any-first, first-most}
 use Rattle.tree_strip.proofs.TreeBits.{length-from, treeBits-length}
-use Rattle.tree_strip.proofs.TreeHead.{treeAt, told-tree, reading-at, ending, room}
+use Rattle.tree_strip.proofs.TreeHead.{treeAt, told-tree, place, reading-at, ending, room}
 
--- a list of bits is the number 0 where none is set
-number-set : (n : ℕ) (l : List ℕ) → not (eqb (number n l) 0) ≡ (not (eqb n 0) || anySet l)
-unfolding anySet
-number-set n [] = none (not (eqb n 0))
-  where
-    none : (v : Bool) → v ≡ (v || false)
-    none true = refl
-    none false = refl
-number-set n (d ∷ l) = number-set (n * 2 + d) l ∙ ap (λ (v : Bool). v || anySet l) (digit n d) ∙ either (not (eqb n 0)) (not (eqb d 0)) (anySet l)
-  where
-    digit : (n d : ℕ) → not (eqb (n * 2 + d) 0) ≡ (not (eqb n 0) || not (eqb d 0))
-    digit zero zero = refl
-    digit zero (suc d) = rw (ne-eqb (0 * 2 + suc d) 0 (λ e. omega arith), ne-eqb (suc d) 0 (λ e. omega arith)) refl
-    digit (suc n) d = rw (ne-eqb (suc n * 2 + d) 0 (λ e. omega arith), ne-eqb (suc n) 0 (λ e. omega arith)) refl
+-- ---- the bits from a place on: the padding fills up a byte
+module _ (s : List ℕ) (at : ℕ) (within : at ≤ 8 * length s) where
+  abbrev pad : List ℕ
+  pad = padding (drop at (bits s))
 
-    either : (u v w : Bool) → ((u || v) || w) ≡ (u || (v || w))
-    either true v w = refl
-    either false v w = refl
+  fills : length (drop at (bits s)) % 8 ≡ wholeByte at - at
+  fills = let l = length-from s at in omega arith
 
-pub any-number : (l : List ℕ) → not (eqb (number 0 l) 0) ≡ anySet l
-any-number l = number-set 0 l
+  pub padding-length : length pad ≡ wholeByte at - at
+  padding-length = let l = length-from s at in length-take-le (length (drop at (bits s)) % 8) (drop at (bits s)) (omega arith) ∙ fills
 
--- whether a byte is left over or a bit set, from a place on
-abbrev pub over : List ℕ → ℕ → Bool
-over s at = leb 8 (length (drop at (bits s))) || anySet (drop at (bits s))
+  padding-slice : pad ≡ slice at (wholeByte at) (bits s)
+  padding-slice =
+      let e : wholeByte at ≡ at + (wholeByte at - at) = omega arith in
+      rw fills (sym (ap (λ (k : ℕ). slice at k (bits s)) e ∙ slice-from (bits s) at (wholeByte at - at) (let l = length-bits s in omega arith)))
 
-module _ (s : List ℕ) (at : ℕ) where
-  pub byte-left : (at + 7) / 8 < length s → true ≡ over s at
-  byte-left h = let l = length-from s at in rw (le-leb 8 (length (drop at (bits s))) (omega arith)) refl
+  -- the first set bit of the padding, or else its end
+  module _ (set : ℕ) (is-first : set ≡ at + firstSet (slice at (wholeByte at) (bits s))) where
+    first-is : set ≡ at + firstSet pad
+    first-is = rw padding-slice is-first
 
-  pub none-left : length s ≤ (at + 7) / 8 → at % 8 ≡ 0 → false ≡ over s at
-  unfolding anySet
-  none-left h e =
-      let k : length (bits s) ≤ at = (let l = length-bits s in omega arith) in
-      rw (drop-of-length-le (bits s) k) refl
+    pub bit-set : set < wholeByte at → At 21 set ≡ endFault at (drop at (bits s))
+    unfolding endFault
+    bit-set h =
+        rw (any-first pad, lt-ltb (firstSet pad) (length pad) (omega (arith, first-is, padding-length))) (ap (At 21) first-is)
 
-  pub bits-left : length s ≤ (at + 7) / 8 → (at % 8 ≡ 0 → ⊥) → at ≤ 8 * length s → (v : ℕ) → v ≡ field s at (8 - at % 8) → not (eqb v 0) ≡ over s at
-  bits-left h e k v q =
-      let l = length-from s at in
-      rw (lt-leb 8 (length (drop at (bits s))) (omega arith), q, take-all (8 - at % 8) (drop at (bits s)) (omega arith)) (any-number (drop at (bits s)))
+    module _ (h : wholeByte at ≤ set) where
+      none-set : anySet pad ≡ false
+      none-set = any-first pad ∙ le-ltb (firstSet pad) (length pad) (omega (arith, first-is, padding-length))
+
+      pub byte-left : wholeByte at / 8 < length s → At 21 (wholeByte at) ≡ endFault at (drop at (bits s))
+      unfolding endFault
+      byte-left k =
+          let l = length-from s at in
+          rw (none-set, le-leb 8 (length (drop at (bits s))) (omega arith)) (ap (At 21) (omega (arith, padding-length)))
+
+      pub none-left : length s ≤ wholeByte at / 8 → Sound ≡ endFault at (drop at (bits s))
+      unfolding endFault
+      none-left k = let l = length-from s at in rw (none-set, lt-leb 8 (length (drop at (bits s))) (omega arith)) refl
 
 -- ---- the answer after the tree
 module _ (s : List ℕ) (n : ℕ) (r : TreeRead) (is-read : r ≡ told s (treeAt s n 0 8)) where
-  pub end-refused : (k : ℕ) → r ≡ read.Refused k → check.Refused k ≡ answered s (ended (treeAt s n 0 8))
+  pub end-refused : (k p : ℕ) → r ≡ read.Refused k p → check.Refused k p ≡ answered s (ended s (treeAt s n 0 8))
   unfolding ended
-  end-refused k e = go (treeAt s n 0 8) (sym is-read ∙ e)
+  end-refused k p e = go (treeAt s n 0 8) (sym is-read ∙ e)
     where
-      go : (P : Parsed) → told s P ≡ read.Refused k → check.Refused k ≡ answered s (ended P)
-      go (refused r) e = let q : k ≡ r = cc in ap check.Refused q
+      go : (P : Parsed) → told s P ≡ read.Refused k p → check.Refused k p ≡ answered s (ended s P)
+      go (refused k′ p′) e = cc
       go (parsed t m rest) e = absurd (let z : _≡_ {A = ℕ} 0 1 = cc in omega arith)
 
   module _ (met next : ℕ) (is-tree : r ≡ read.Tree met next) (any : 0 < length s) where
@@ -86,10 +88,14 @@ module _ (s : List ℕ) (n : ℕ) (r : TreeRead) (is-read : r ≡ told s (treeAt
         let c = room s n (positions (w .0)) h in
         (omega arith, w .3)
 
-    pub end-over : (v : Bool) → v ≡ over s next → v ≡ true → check.Refused 21 ≡ answered s (ended (treeAt s n 0 8))
-    unfolding ended
-    end-over v p q = let w = tree-end in rw (w .1, ← p, q) refl
+    -- v is what the bits after the tree leave to refuse
+    module _ (v : Fault) (is-end : v ≡ endFault next (drop next (bits s))) where
+      ended-by : ended s (treeAt s n 0 8) ≡ unless v (parsed (tree-end .0) met (drop next (bits s)))
+      unfolding ended
+      ended-by = let w = tree-end in rw (w .1, place s n next (w .3), ← is-end) refl
 
-    pub end-clean : (v : Bool) → v ≡ over s next → v ≡ false → n ≡ field s 4 4 → check.Accepted n met ≡ answered s (ended (treeAt s n 0 8))
-    unfolding ended
-    end-clean v p q e = let w = tree-end in rw (w .1, ← p, q) (ap (λ (k : ℕ). check.Accepted k met) e)
+      pub end-over : (k p : ℕ) → v ≡ At k p → check.Refused k p ≡ answered s (ended s (treeAt s n 0 8))
+      end-over k p e = rw (ended-by, e) refl
+
+      pub end-clean : v ≡ Sound → n ≡ field s 4 4 → check.Accepted n met ≡ answered s (ended s (treeAt s n 0 8))
+      end-clean e q = rw (ended-by, e) (ap (λ (k : ℕ). check.Accepted k met) q)

@@ -1,6 +1,6 @@
 -- Tree strips and trees: an accepted strip holds one trimmed tree, the tree's strip is read back, and no other strip holds it.
 -- Assumes nothing.
-use Prim.Native.Nat.{ℕ, zero, suc, _+_, _*_, _/_, _≤_, _<_}
+use Prim.Native.Nat.{ℕ, zero, suc, _+_, _*_, _/_, _%_, _≤_, _<_}
 use mathlib.Core.Path.{_≡_, refl, sym, ap, ap₂, subst, _∙_}
 use mathlib.Core.Bool.{Bool, true, false, not, _&&_, _||_, cond}
 use mathlib.Core.List.{List, [], _∷_, _++_, append-assoc}
@@ -9,16 +9,19 @@ use native.Mathlib.Omega.{arith}
 use borrow.Author.Tests.{le-leb, lt-leb, eq-eqb, ne-eqb, leb-true, leb-false, eqb-true, eqb-false, not-false}
 use lib.Dec.{leb, eqb}
 use lib.ListN.{length, getD, take, drop, replicate, length-append, length-drop, length-replicate, take-append-drop}
-use lib.Seq.{drop-drop, take-at, drop-at}
+use lib.Seq.{drop-drop, take-all, take-at, drop-at}
 use Rattle.logic.specs.Tree.{Tree, positions, Proper}
 use Rattle.logic.specs.Trim.{Trimmed}
-use Rattle.bits.specs.Bits.{digits, bits, number, field, anySet}
+use Rattle.bits.specs.Bits.{digits, bits, number, field, anySet, firstSet, bitLength}
 use Rattle.bits.specs.Bits.{between}
-use Rattle.tree_strip.specs.TreeStrip.{Parsed, parsed, refused, parse, ended, readTree, treeBits, treeStrip, treeBytes}
+use Rattle.bits.specs.declared.Fault.{Fault}
+use Rattle.bits.specs.declared.Fault.the-variants.{Sound, At}
+use Rattle.tree_strip.specs.TreeStrip.{Parsed, parsed, refused, placeOf, parse, padding, endFault, unless, ended, readTree, faultIn, treeFault}
+use Rattle.tree_strip.specs.TreeStrip.{treeBits, treeStrip, treeBytes}
 use Rattle.tree_strip.specs.TreeAnswers.{answered, checkedTree}
-use Rattle.tree_strip.specs.declared.check.TreeCheck.the-variants.{Accepted}
+use Rattle.tree_strip.specs.declared.check.TreeCheck.the-variants.{Accepted, Refused}
 use Rattle.bits.proofs.Fields.{length-digits, length-bits}
-use Rattle.tree_strip.proofs.TreeBits.{treeBits-length, length-from, number-of, bits-append, bits-drop, bits-bits, digits-bits, tree-bits}
+use Rattle.tree_strip.proofs.TreeBits.{treeBits-length, length-from, number-of, bits-append, bits-drop, bits-bits, digits-bits, tree-bits, last-from}
 use Rattle.tree_strip.proofs.TreeParse.{label-digits, parse-reading, parse-back}
 use Rattle.tree_strip.proofs.TreePack.{Padded, pack-bits, strip-of-bits}
 
@@ -45,9 +48,15 @@ both true b e = (refl, e)
 both false b e = absurd (let z : _≡_ {A = ℕ} 0 1 = cc in omega arith)
 
 -- a test that refuses did not
-passed : (v : Bool) (r : ℕ) (P : Parsed) (t : Tree 2) (m : ℕ) (rest : List ℕ) → cond v (refused r) P ≡ parsed t m rest → (v ≡ false) × (P ≡ parsed t m rest)
-passed true r P t m rest e = absurd (let z : _≡_ {A = ℕ} 0 1 = cc in omega arith)
-passed false r P t m rest e = (refl, e)
+passed : (v : Bool) (k p : ℕ) (P : Parsed) (t : Tree 2) (m : ℕ) (rest : List ℕ) → cond v (refused k p) P ≡ parsed t m rest
+    → (v ≡ false) × (P ≡ parsed t m rest)
+passed true k p P t m rest e = absurd (let z : _≡_ {A = ℕ} 0 1 = cc in omega arith)
+passed false k p P t m rest e = (refl, e)
+
+-- nor did a fault
+free : (F : Fault) (P : Parsed) (t : Tree 2) (m : ℕ) (rest : List ℕ) → unless F P ≡ parsed t m rest → (F ≡ Sound) × (P ≡ parsed t m rest)
+free Sound P t m rest e = (refl, e)
+free (At k p) P t m rest e = absurd (let z : _≡_ {A = ℕ} 0 1 = cc in omega arith)
 
 no-bit : (l : List ℕ) → anySet l ≡ false → l ≡ replicate (length l) 0
 unfolding anySet
@@ -61,15 +70,36 @@ unfolding anySet
 no-set zero = refl
 no-set (suc z) = no-set z
 
-ended-is : (P : Parsed) (t : Tree 2) (m : ℕ) (rest : List ℕ) → ended P ≡ parsed t m rest
+-- bits that are left leave nothing to refuse exactly if they are less than a byte of zeros
+short-padding : (l : List ℕ) → length l < 8 → padding l ≡ l
+short-padding l h = take-all (length l % 8) l (omega arith)
+
+clean : (at : ℕ) (l : List ℕ) → endFault at l ≡ Sound → (length l < 8) × (l ≡ replicate (length l) 0)
+unfolding endFault
+clean at l e = go (anySet (padding l)) refl (leb 8 (length l)) refl e
+  where
+    go : (v : Bool) → anySet (padding l) ≡ v → (w : Bool) → leb 8 (length l) ≡ w
+        → cond v (At 21 (at + firstSet (padding l))) (cond w (At 21 (at + length (padding l))) Sound) ≡ Sound
+        → (length l < 8) × (l ≡ replicate (length l) 0)
+    go true f w g e = absurd (let z : _≡_ {A = ℕ} 0 1 = cc in omega arith)
+    go false f true g e = absurd (let z : _≡_ {A = ℕ} 0 1 = cc in omega arith)
+    go false f false g e = let h = leb-false 8 (length l) g in (h, no-bit l (ap anySet (sym (short-padding l h)) ∙ f))
+
+zeros-clean : (at z : ℕ) → z < 8 → endFault at (replicate z 0) ≡ Sound
+unfolding endFault
+zeros-clean at z h =
+    let l : length (replicate {A = ℕ} z 0) < 8 = omega (arith, length-replicate {A = ℕ} z 0) in
+    rw (short-padding (replicate z 0) l, no-set z, lt-leb 8 (length (replicate {A = ℕ} z 0)) l) refl
+
+ended-is : (s : List ℕ) (P : Parsed) (t : Tree 2) (m : ℕ) (rest : List ℕ) → ended s P ≡ parsed t m rest
     → (P ≡ parsed t m rest) × (length rest < 8) × (rest ≡ replicate (length rest) 0)
 unfolding ended
-ended-is (refused r) t m rest e = absurd (let z : _≡_ {A = ℕ} 0 1 = cc in omega arith)
-ended-is (parsed u k more) t m rest e =
-    let w = passed (leb 8 (length more) || anySet more) 21 (parsed u k more) t m rest e in
-    let v = either (leb 8 (length more)) (anySet more) (w .0) in
+ended-is s (refused k p) t m rest e = absurd (let z : _≡_ {A = ℕ} 0 1 = cc in omega arith)
+ended-is s (parsed u k more) t m rest e =
+    let w = free (endFault (placeOf s more) more) (parsed u k more) t m rest e in
+    let v = clean (placeOf s more) more (w .0) in
     let q : more ≡ rest = (let a = w .1 in cc) in
-    (w .1, subst (λ (l : List ℕ). length l < 8) q (leb-false 8 (length more) (v .0)), subst (λ (l : List ℕ). l ≡ replicate (length l) 0) q (no-bit more (v .1)))
+    (w .1, subst (λ (l : List ℕ). length l < 8) q (v .0), subst (λ (l : List ℕ). l ≡ replicate (length l) 0) q (v .1))
 
 -- ---- what is accepted
 grouped : (n : ℕ) (t : Tree 2) (z : ℕ) → stripBits n t ++ replicate z 0 ≡ digits 4 1 ++ (digits 4 n ++ (treeBits n t ++ replicate z 0))
@@ -89,12 +119,12 @@ pub tree-accepted : (s : List ℕ) (t : Tree 2) (m : ℕ) (rest : List ℕ) → 
 unfolding readTree
 tree-accepted s t m rest e =
     let n = field s 4 4 in
-    let a = passed (eqb (length s) 0) 15 _ t m rest e in
-    let b = passed (not (eqb (field s 0 4) 1)) 16 _ t m rest (a .1) in
-    let c = passed (not (between 1 8 n)) 17 _ t m rest (b .1) in
+    let a = passed (eqb (length s) 0) 15 (bitLength s) _ t m rest e in
+    let b = passed (not (eqb (field s 0 4) 1)) 16 0 _ t m rest (a .1) in
+    let c = passed (not (between 1 8 n)) 17 4 _ t m rest (b .1) in
     let i = both (leb 1 n) (leb n 8) (not-false (between 1 8 n) (c .0)) in
-    let d = ended-is (parse (suc (8 * length s)) n 0 (drop 8 (bits s))) t m rest (c .1) in
-    let g = parse-reading n (suc (8 * length s)) 0 (drop 8 (bits s)) t m rest (omega arith) (bits-drop 8 (bits s) (bits-bits s)) (d .0) in
+    let d = ended-is s (parse s (suc (8 * length s)) n 0 (drop 8 (bits s))) t m rest (c .1) in
+    let g = parse-reading s n (suc (8 * length s)) 0 (drop 8 (bits s)) t m rest (omega arith) (last-from s 8) (d .0) in
     let h : 0 < length s = (let z = eqb-false (length s) 0 (a .0) in omega arith) in
     let v = eqb-true (field s 0 4) 1 (not-false (eqb (field s 0 4) 1) (b .0)) in (
       omega arith,
@@ -174,8 +204,7 @@ module _ (s : List ℕ) (n : ℕ) (t : Tree 2) (f : TreeFacts s n t) where
   unfolding readTree ended
   facts-read =
       let h : length (treeBits n t ++ zeros) < suc (8 * length s) = omega (arith, ap length facts-tree, length-from s 8) in
-      let p = parse-back n (suc (8 * length s)) 0 t zeros h (omega arith) (f .proper) (f .trimmed) in
-      let z : length zeros < 8 = omega (arith, length-replicate {A = ℕ} (f .padded .0) 0, f .padded .1) in
+      let p = parse-back s n (suc (8 * length s)) 0 t zeros h (omega arith) (f .proper) (f .trimmed) in
       rw (
         facts-variables,
         ne-eqb (length s) 0 (λ e. omega (arith, facts-length)),
@@ -184,8 +213,7 @@ module _ (s : List ℕ) (n : ℕ) (t : Tree 2) (f : TreeFacts s n t) where
         le-leb n 8 (f .at-most),
         facts-tree,
         p,
-        lt-leb 8 (length zeros) z,
-        no-set (f .padded .0),
+        zeros-clean (placeOf s zeros) (f .padded .0) (f .padded .1),
       )
       (ap (λ (m : ℕ). parsed t m zeros) (zero-add (positions t)))
 
@@ -211,9 +239,35 @@ pub checked-accepted : (s : List ℕ) (n N : ℕ) → checkedTree s ≡ Accepted
 checked-accepted s n N e = go (readTree s) refl e
   where
     go : (P : Parsed) → readTree s ≡ P → answered s P ≡ Accepted n N → (t : Tree 2) × (N ≡ positions t) × TreeFacts s n t
-    go (refused r) p q = absurd (let z : _≡_ {A = ℕ} 0 1 = cc in omega arith)
-    go (parsed t m rest) p q =
-        let w = tree-accepted s t m rest p in
+    go (refused k p) f q = absurd (let z : _≡_ {A = ℕ} 0 1 = cc in omega arith)
+    go (parsed t m rest) f q =
+        let w = tree-accepted s t m rest f in
         let i : field s 4 4 ≡ n = cc in
         let j : m ≡ N = cc in
         (t, sym j ∙ w .0, subst (λ (k : ℕ). TreeFacts s k t) i (w .1))
+
+-- the check answers with the strip's fault
+pub checked-refused : (s : List ℕ) (k p : ℕ) → checkedTree s ≡ Refused k p → treeFault s ≡ At k p
+unfolding treeFault
+checked-refused s k p e = go (readTree s) e
+  where
+    go : (P : Parsed) → answered s P ≡ Refused k p → faultIn P ≡ At k p
+    go (refused k′ p′) q = cc
+    go (parsed t m rest) q = absurd (let z : _≡_ {A = ℕ} 0 1 = cc in omega arith)
+
+pub checked-sound : (s : List ℕ) (n N : ℕ) → checkedTree s ≡ Accepted n N → treeFault s ≡ Sound
+unfolding treeFault
+checked-sound s n N e = go (readTree s) e
+  where
+    go : (P : Parsed) → answered s P ≡ Accepted n N → faultIn P ≡ Sound
+    go (refused k p) q = absurd (let z : _≡_ {A = ℕ} 0 1 = cc in omega arith)
+    go (parsed t m rest) q = refl
+
+-- a strip without a fault holds a tree
+pub sound-read : (s : List ℕ) → treeFault s ≡ Sound → (t : Tree 2) × (met : ℕ) × (rest : List ℕ) × (readTree s ≡ parsed t met rest)
+unfolding treeFault
+sound-read s e = go (readTree s) refl e
+  where
+    go : (P : Parsed) → readTree s ≡ P → faultIn P ≡ Sound → (t : Tree 2) × (met : ℕ) × (rest : List ℕ) × (readTree s ≡ parsed t met rest)
+    go (refused k p) f q = absurd (let z : _≡_ {A = ℕ} 0 1 = cc in omega arith)
+    go (parsed t m rest) f q = (t, m, rest, f)

@@ -2,17 +2,16 @@
 use Prim.Native.Nat.{ℕ, _+_, _*_, _^_, _≤_, _<_}
 use mathlib.Core.Path.{_≡_, refl, sym, ap, _∙_}
 use mathlib.Core.List.{List, _∷_, _++_, append-assoc}
-use native.Mathlib.Nat.{add-zero}
 use native.Mathlib.Omega.{arith}
 use lib.ListN.{length, getD, take, drop, length-append}
-use lib.Seq.{getD-drop, drop-drop, take-at, drop-at, drop-append-seam}
+use lib.Seq.{drop-drop, take-at, drop-at, drop-append-seam}
 use Rattle.logic.specs.Meaning.{Branch}
 use Rattle.logic.specs.Tree.{Tree, empty, node}
 use Rattle.logic.specs.Two.{one, two}
 use Rattle.bits.specs.Bits.{digits, bits, number, field}
 use Rattle.tree_strip.specs.TreeStrip.{treeBits, Stands}
 use Rattle.bits.proofs.Fields.{length-digits}
-use Rattle.tree_strip.proofs.TreeBits.{treeBits-length, length-from, number-of}
+use Rattle.tree_strip.proofs.TreeBits.{treeBits-length, length-from, bit-is, number-of}
 use Rattle.tree_strip.proofs.TreeLaws.{TreeFacts, facts-tree}
 
 pub facts-stand : (s : List ℕ) (n : ℕ) (t : Tree 2) → TreeFacts s n t → Stands s n 8 t
@@ -26,16 +25,9 @@ module _ (s : List ℕ) (n at : ℕ) where
       let b = treeBits-length n t in
       omega arith
 
-  bit-is : (b : ℕ) (bs : List ℕ) → drop at (bits s) ≡ b ∷ bs → (at < 8 * length s) × (getD (bits s) at 0 ≡ b) × (drop (at + 1) (bits s) ≡ bs)
-  bit-is b bs e = (
-    let l = length-from s at in let k = ap length e in omega arith,
-    ap (λ (k : ℕ). getD (bits s) k 0) (sym (add-zero at)) ∙ sym (getD-drop at (bits s) 0 0) ∙ ap (λ (l : List ℕ). getD l 0 0) e,
-    sym (drop-drop 1 at (bits s)) ∙ ap (drop 1) e,
-  )
-
   pub empty-bit : Stands s n at empty → (at < 8 * length s) × (getD (bits s) at 0 ≡ 0)
   unfolding treeBits
-  empty-bit p = let w = bit-is 0 (p .0) (p .1) in (w .0, w .1)
+  empty-bit p = let w = bit-is s at 0 (p .0) (p .1) in (w .0, w .1)
 
   module _ (l : ℕ) (f : Branch 2 → Tree 2) (p : Stands s n at (node l f)) where
     -- what stands after the label
@@ -46,7 +38,7 @@ module _ (s : List ℕ) (n at : ℕ) where
     unfolding treeBits
     node-bit =
         let e : (digits n l ++ (treeBits n (f one) ++ treeBits n (f two))) ++ p .0 ≡ digits n l ++ after = simp append-assoc in
-        bit-is 1 (digits n l ++ after) (p .1 ∙ ap (λ (r : List ℕ). 1 ∷ r) e)
+        bit-is s at 1 (digits n l ++ after) (p .1 ∙ ap (λ (r : List ℕ). 1 ∷ r) e)
 
     after-label : drop (at + 1 + n) (bits s) ≡ after
     after-label = sym (drop-drop n (at + 1) (bits s)) ∙ ap (drop n) (node-bit .2) ∙ drop-at (digits n l) after n (length-digits n l)

@@ -1,3 +1,4 @@
 pub mod TreeStrip
 pub mod TreeAnswers
+pub mod TreePlaces
 pub mod Ranks
