@@ -20,10 +20,11 @@ fn read_head(s: &[u8], n: usize, met: usize, at: usize) -> Head
     requires { ⌜ HeadPlace n at ⌝ }
     ensures { λ r. ⌜ r ≡ headAt (now (s .entry)) n met at ⌝ }
 {
+    let end = bits::bit_length(s);
     if s.len() <= at / 8 {
         return Head::Refused {
             number: 18,
-            place: bits::bit_length(s),
+            place: end,
         };
     }
     if bits::bit_at(s, at) == 0 {
@@ -38,7 +39,7 @@ fn read_head(s: &[u8], n: usize, met: usize, at: usize) -> Head
     if s.len() <= (at + n) / 8 {
         return Head::Refused {
             number: 18,
-            place: bits::bit_length(s),
+            place: end, // the label is cut short
         };
     }
     Head::Node {

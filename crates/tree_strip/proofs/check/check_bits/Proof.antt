@@ -4,8 +4,8 @@ use Rattle.tree_strip.proofs.TreeEnd.{end-refused, end-room, end-over, 
 use Rattle.tree_strip.proofs.check.check_bits.Statement.{statement}
 use Rattle.tree_strip.proofs.check.check_bits.Tie as tie
 
-left-over-requires : tie.Need-left-over-requires
-left-over-requires c κs =
+read-end-requires : tie.Need-read-end-requires
+read-end-requires c κs =
     let b = c .before .before .before .before .before in
     let r = c .before .before .before .read-tree in
     let e = end-room (b .args .s .now) (b .args .n) (r .result) (r .ensures) _ _ (c .before .met .given .1) (b .pre .some-byte) (b .pre .few-variables) in
@@ -13,28 +13,30 @@ left-over-requires c κs =
 
 returns : tie.Need-returns
 returns c =
-    let b = c .before .before .before .before .before .before .before in
-    let r = c .before .before .before .before .before .read-tree in
-    let o = c .before .left-over in
-    end-over (b .args .s .now) (b .args .n) (r .result) (r .ensures) _ _ (c .before .before .before .met .given .1) (b .pre .some-byte) (o .result) (o .ensures)
-    (c .if1 .taken)
+    let m = c .before .before .before .before in
+    let b = m .before .before .before .before in
+    let r = m .before .before .read-tree in
+    let o = c .before .before .read-end in
+    end-clean (b .args .s .now) (b .args .n) (r .result) (r .ensures) _ _ (m .met .given .1) (b .pre .some-byte) (o .result) (o .ensures)
+    (c .enum-told .given .1) (b .pre .said)
 
 returns-2 : tie.Need-returns-2
 returns-2 c =
     let a = c .before .before .before .before .before .args in
     let r = c .before .before .before .read-tree in
-    end-refused (a .s .now) (a .n) (r .result) (r .ensures) _ (c .before .k .given .1)
+    end-refused (a .s .now) (a .n) (r .result) (r .ensures) _ _ (c .before .number .given .1)
 
 returns-3 : tie.Need-returns-3
 returns-3 c =
-    let b = c .before .before .before .before .before .before .before in
-    let r = c .before .before .before .before .before .read-tree in
-    let o = c .before .left-over in
-    end-clean (b .args .s .now) (b .args .n) (r .result) (r .ensures) _ _ (c .before .before .before .met .given .1) (b .pre .some-byte) (o .result)
-    (o .ensures) (c .if1 .left) (b .pre .said)
+    let m = c .before .before .before .before .before in
+    let b = m .before .before .before .before in
+    let r = m .before .before .read-tree in
+    let o = c .before .before .before .read-end in
+    end-over (b .args .s .now) (b .args .n) (r .result) (r .ensures) _ _ (m .met .given .1) (b .pre .some-byte) (o .result) (o .ensures)
+    _ _ (c .before .number2 .given .1)
 
 pub check-bits-spec : {M : Type 1} → statement M
 check-bits-spec =
     tie.close
     (tie.spec
-    (λ c κs. search needs) (λ c. search needs) (λ c. search needs) left-over-requires returns returns-2 returns-3)
+    (λ c κs. search needs) (λ c. search needs) (λ c. search needs) read-end-requires (λ c. search needs) (λ c. search needs) returns returns-2 returns-3)
