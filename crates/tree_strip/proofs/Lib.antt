@@ -5,5 +5,6 @@ pub mod TreeEnd
 pub mod TreePack
 pub mod TreeLaws
 pub mod TreeWalk
+pub mod TreePlaces
 pub mod Ranks
 pub mod TreeWriting

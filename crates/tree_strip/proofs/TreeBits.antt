@@ -8,7 +8,7 @@ use lib.Arith.{digits-lt, digits-mod}
 use lib.Dec.{lit<}
 use lib.ListN.{length, getD, take, drop, length-append, length-drop, take-append-drop}
 use lib.Pow.{high}
-use lib.Seq.{getD-drop, getD-append-add, drop-drop, drop-append-seam}
+use lib.Seq.{getD-drop, drop-drop, drop-append-seam}
 use Rattle.logic.specs.Meaning.{Branch}
 use Rattle.logic.specs.Tree.{Tree, empty, node, downFrom, sumOf, positions}
 use Rattle.logic.specs.Two.{one, two, pairOf}
@@ -53,9 +53,6 @@ bits-take zero bs h k = lit< tt
 bits-take (suc n) [] h k = lit< tt
 bits-take (suc n) (x ∷ bs) h zero = h 0
 bits-take (suc n) (x ∷ bs) h (suc k) = bits-take n bs (λ j. h (suc j)) k
-
-pub bits-second : (xs ys : List ℕ) → AreBits (xs ++ ys) → AreBits ys
-bits-second xs ys h k = rw (getD-append-add xs ys k 0) at (h (length xs + k))
 
 pub bits-append : (xs ys : List ℕ) → AreBits xs → AreBits ys → AreBits (xs ++ ys)
 bits-append [] ys g h k = h k

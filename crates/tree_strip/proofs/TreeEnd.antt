@@ -1,11 +1,11 @@
 -- The end of a tree strip: padding bits, bytes left over, and the answer. Assumes nothing.
 use Prim.Native.Nat.{ℕ, _+_, _-_, _*_, _/_, _%_, _≤_, _<_}
 use mathlib.Core.Path.{_≡_, refl, sym, ap, _∙_}
-use mathlib.Core.Bool.{Bool, true, false}
+use mathlib.Core.Bool.{false}
 use mathlib.Core.List.{List}
 use native.Mathlib.Omega.{arith}
 use borrow.Author.Tests.{lt-ltb, le-ltb, le-leb, lt-leb}
-use lib.ListN.{length, take, drop}
+use lib.ListN.{length, drop}
 use lib.Seq.{slice, length-take-le}
 use Rattle.logic.specs.Tree.{Tree, positions}
 use Rattle.bits.specs.Bits.{bits, field, anySet, firstSet}
@@ -18,7 +18,7 @@ use Rattle.tree_strip.specs.declared.check.TreeRead.{TreeRead}
 use Rattle.tree_strip.specs.declared.check.TreeRead.the-variants as read
 use Rattle.tree_strip.specs.declared.check.TreeCheck.the-variants as check
 use Rattle.bits.proofs.Fields.{length-bits}
-use Rattle.bits.proofs.Places.{slice-from, any-first, first-most}
+use Rattle.bits.proofs.Places.{slice-from, any-first}
 use Rattle.tree_strip.proofs.TreeBits.{length-from, treeBits-length}
 use Rattle.tree_strip.proofs.TreeHead.{treeAt, told-tree, place, reading-at, ending, room}
 

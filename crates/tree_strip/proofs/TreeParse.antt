@@ -16,7 +16,7 @@ use Rattle.logic.specs.Trim.{isEmpty, bare, Trimmed}
 use Rattle.logic.specs.Two.{one, two, pairOf}
 use Rattle.logic.proofs.Places.{true→T, not-T}
 use Rattle.bits.specs.Bits.{digits, number, bitLength}
-use Rattle.tree_strip.specs.TreeStrip.{Parsed, parsed, refused, placeOf, join, andThen, parse, treeBits, Stands}
+use Rattle.tree_strip.specs.TreeStrip.{Parsed, parsed, refused, placeOf, join, andThen, parse, treeBits}
 use Rattle.tree_strip.specs.TreePlaces.{Offends, early-end, bare-node, node-bit}
 use Rattle.bits.proofs.Fields.{length-digits}
 use Rattle.logic.proofs.Two.{two-branches}

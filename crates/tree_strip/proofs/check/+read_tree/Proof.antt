@@ -46,7 +46,8 @@ read-tree-returns t c =
     let h = c .before .before .before .before .before .before .read-head in
     let g = c .before .before .before .before .label .given in
     let r = c .before .before .read-tree in
-    first-refused (a .s .now) (a .n) (a .met) (a .at) (g .0 .0) (g .0 .1 .0) (h .result) (h .ensures) (g .1) _ _ (r .result) (r .ensures) (c .enum-told .given .1)
+    first-refused (a .s .now) (a .n) (a .met) (a .at) (g .0 .0) (g .0 .1 .0) (h .result) (h .ensures) (g .1) _ _ (r .result) (r .ensures)
+    (c .enum-told .given .1)
 
 read-tree-read-tree-requires-2 : (t : ℕ) → read-tree-lts.Need-read-tree-requires-2 (R t) (read-tree-at t) read-tree.Post
 read-tree-read-tree-requires-2 t c κs =
