@@ -54,7 +54,7 @@ returns-3 : tie.Need-returns-3
 returns-3 c =
     let b = c .before .before .before .before in
     many _ _ _ _ _ (b .bit-length .ensures) _ (c .before .before .before .if1 .left) (c .before .before .bit-at .ensures .0) (c .before .if2 .left)
-    (c .if3 .taken)
+    (omega arith)
 
 returns-4 : tie.Need-returns-4
 returns-4 c =
