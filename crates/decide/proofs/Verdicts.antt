@@ -1,23 +1,27 @@
 -- Decide's result and the buffers at its end, by the refusals; and demands 2 and 3 of them. Assumes nothing.
-use Prim.Native.Nat.{ℕ, _+_, _-_, _≤_}
+use Prim.Native.Nat.{ℕ, zero, suc, _+_, _-_, _≤_}
 use mathlib.Core.Path.{_≡_, refl, sym, _∙_}
 use mathlib.Core.List.{List}
 use native.Mathlib.Nat.{mul-le-mul-right}
 use native.Mathlib.Omega.{arith}
 use borrow.Author.Tests.{ne-eqb}
+use lib.Dec.{eqb·suc-zero}
 use lib.ListN.{length, drop}
 use lib.Seq.{take-append-seam}
 use Rattle.logic.specs.Tree.{positions}
+use Rattle.logic.specs.Claims.{Outcome, refused14, shown, none, larger}
 use Rattle.logic.proofs.Answers.{decide-answers, shown-fits}
 use Rattle.solver.specs.Solve.{outcomeOf}
 use Rattle.solver.specs.declared.Solution.{Solution}
 use Rattle.rule_strip.specs.RuleStrip.{variablesOf, countOf, recordsOf, ruleFault, AcceptedRule}
 use Rattle.tree_strip.specs.TreeStrip.{treeStrip, treeBytes}
 use Rattle.rule_strip.proofs.RuleLaws.{rule-accepted}
+use Rattle.rule_strip.proofs.RulePlaces.{place-told}
+use Rattle.bits.specs.declared.Fault.{Fault}
 use Rattle.bits.specs.declared.Fault.the-variants.{Sound, At}
-use Rattle.rules.specs.Refusal.{Refusal, nothing, tested}
+use Rattle.rules.specs.Refusal.{Refusal, nothing, checked, tested}
 use Rattle.rules.specs.Room.{roomFor, cleared, roomRefusal, Roomy}
-use Rattle.decide.specs.Decide.{earlyRefusal, decidedOf, tell, outAfter, Spacious, verdictOf, workspaceOf, outOf, Claim}
+use Rattle.decide.specs.Decide.{earlyRefusal, decidedOf, tell, outAfter, Spacious, refusedOr, verdictOf, workspaceOf, outOf, Claim}
 use Rattle.decide.specs.declared.Verdict.{Verdict}
 use Rattle.decide.specs.declared.Verdict.the-variants.{RefusedAt, Refused}
 use Rattle.rules.proofs.Refusals.{checked-free}
@@ -70,7 +74,18 @@ module _ (rule : List ℕ) (c P : ℕ) (ws out : List ℕ) where
           let en = accepted .variables in
           rw y (ex ∙ rw (e, en), (ew ∙ rw (en, accepted .count), eo ∙ rw (e, en)))
 
--- DEMANDS 2 AND 3, of what decide answers and leaves in out
+-- a refusal that names a place is the strip's
+placed-is : (f : Fault) (j n : ℕ) (o : Outcome 2) {k p : ℕ} → refusedOr (checked f (tested j nothing)) (tell n o) ≡ RefusedAt k p → f ≡ At k p
+unfolding tell
+placed-is (At l q) j n o e = cc
+placed-is Sound (suc j) n o e =
+    absurd (let f : Refused (suc j) ≡ RefusedAt _ _ = rw eqb·suc-zero at e in let z : _≡_ {A = ℕ} 0 1 = cc in omega arith)
+placed-is Sound zero n (refused14 r) e = absurd (let z : _≡_ {A = ℕ} 0 1 = cc in omega arith)
+placed-is Sound zero n (shown places states t) e = absurd (let z : _≡_ {A = ℕ} 0 1 = cc in omega arith)
+placed-is Sound zero n (none states) e = absurd (let z : _≡_ {A = ℕ} 0 1 = cc in omega arith)
+placed-is Sound zero n (larger states) e = absurd (let z : _≡_ {A = ℕ} 0 1 = cc in omega arith)
+
+-- DEMANDS 2 AND 3, of what decide answers and leaves in out, and the place that it names
 pub claim : (rule : List ℕ) (c P : ℕ) (ws out : List ℕ) {x : Verdict} → x ≡ verdictOf rule c P (length ws) (length out)
     → {out′ : List ℕ} → out′ ≡ outOf rule c P (length ws) out → Claim rule c P (length ws) (length out) x out′
 unfolding earlyRefusal verdictOf outOf outAfter
@@ -79,6 +94,9 @@ claim rule c P ws out ex eo = record {
   answers = λ e. decide-answers 2 (variablesOf rule) (recordsOf rule) c P (rule-accepted rule (accepted e) .records-accepted);
   told = λ e. ex ∙ rw e;
   shows = λ e places states t f. rw (eo) (rw e (rw f (take-append-seam (treeStrip (variablesOf rule) t) (drop (length (treeStrip (variablesOf rule) t)) out))));
+  names = λ k p e. place-told rule
+      (placed-is (ruleFault rule) (roomRefusal (variablesOf rule) (countOf rule) c P (length ws) (length out)) (variablesOf rule) (decidedOf rule c P)
+      (sym ex ∙ e));
 }
   where
     accepted : earlyRefusal rule c P (length ws) (length out) ≡ nothing → ruleFault rule ≡ Sound

@@ -8,6 +8,7 @@ use Rattle.logic.specs.Tree.{Tree, positions}
 use Rattle.logic.specs.Claims.{Outcome, refused14, shown, none, larger, statesAt, Answers}
 use Rattle.logic.specs.Decide.{decideOf}
 use Rattle.rule_strip.specs.RuleStrip.{variablesOf, countOf, recordsOf, ruleFault}
+use Rattle.rule_strip.specs.RulePlaces.{Offends}
 use Rattle.tree_strip.specs.TreeStrip.{treeStrip, treeBytes}
 use Rattle.rules.specs.Refusal.{Refusal, nothing, placed, plain, checked, tested, unlessRefused}
 use Rattle.rules.specs.Room.{roomFor, cleared, roomRefusal}
@@ -61,7 +62,7 @@ workspaceOf rule c P ws outRoom =
     unlessRefused (earlyRefusal rule c P (length ws) outRoom) (cleared (roomFor (variablesOf rule) (countOf rule) c) ws) ws
 
 -- DEMANDS 2 AND 3, of decide's result v and the bytes that out holds at the end: where no refusal before the build applies, they tell an
--- outcome that answers the rule
+-- outcome that answers the rule; and A1, "Say at which bit": a place that v names is one where the strip offends
 pub record Claim (rule : List ℕ) (c P room outRoom : ℕ) (v : Verdict) (out : List ℕ) : Type 0 where
   pub outcome : earlyRefusal rule c P room outRoom ≡ nothing → Outcome 2
   pub answers : (e : earlyRefusal rule c P room outRoom ≡ nothing)
@@ -69,3 +70,4 @@ pub record Claim (rule : List ℕ) (c P room outRoom : ℕ) (v : Verdict) (out :
   pub told : (e : earlyRefusal rule c P room outRoom ≡ nothing) → v ≡ tell (variablesOf rule) (outcome e)
   pub shows : (e : earlyRefusal rule c P room outRoom ≡ nothing) → (places states : ℕ) (t : Tree 2) → outcome e ≡ shown places states t
       → take (length (treeStrip (variablesOf rule) t)) out ≡ treeStrip (variablesOf rule) t
+  pub names : (k p : ℕ) → v ≡ RefusedAt k p → Offends rule k p

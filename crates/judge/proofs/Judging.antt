@@ -1,12 +1,14 @@
 -- From an accepted rule strip and an accepted tree strip to judge's answer, and its claim. Assumes nothing.
-use Prim.Native.Nat.{ℕ}
+use Prim.Native.Nat.{ℕ, zero, suc}
 use mathlib.Core.Path.{_≡_, refl, sym, ap, _∙_, subst}
+use mathlib.Core.Logic.{_⊎_, inl, inr, ⊎-elim}
 use mathlib.Core.Bool.{Bool, true, false, cond}
 use mathlib.Core.List.{List}
 use native.Mathlib.Omega.{arith}
 use borrow.Author.Tests.{eq-eqb, ne-eqb, eqb-true}
-use lib.Dec.{eqb}
+use lib.Dec.{eqb, eqb·suc-zero}
 use lib.ListN.{length}
+use Rattle.logic.specs.Claims.{Judgement as Ruled, unbuilt, yes, no}
 use Rattle.logic.specs.Decide.{say, judgeOf}
 use Rattle.logic.proofs.Answers.{judge-judges, trimmed-iff}
 use Rattle.records.specs.declared.Decoded.{Decoded}
@@ -16,18 +18,21 @@ use Rattle.refinement.specs.Decode.{shapeOf}
 use Rattle.solver.specs.Solve.{judgementAfter, judgementOf, Judged}
 use Rattle.solver.specs.declared.Ruling.{Ruling}
 use Rattle.bits.specs.Bits.{field}
+use Rattle.bits.specs.declared.Fault.{Fault}
 use Rattle.bits.specs.declared.Fault.the-variants.{Sound, At}
 use Rattle.rule_strip.specs.RuleStrip.{variablesOf, countOf, recordsOf, ruleFault, AcceptedRule}
 use Rattle.tree_strip.specs.TreeStrip.{Parsed, parsed, refused, readTree, treeFault}
 use Rattle.tree_strip.specs.TreeAnswers.{answered, checkedTree}
 use Rattle.tree_strip.specs.declared.check.TreeCheck.the-variants.{Accepted as treeAccepted}
 use Rattle.rule_strip.proofs.RuleLaws.{rule-accepted}
+use Rattle.rule_strip.proofs.RulePlaces.{place-told}
 use Rattle.tree_strip.proofs.TreeLaws.{TreeFacts, tree-accepted, sound-read, facts-length, treeBytes-most}
+use Rattle.tree_strip.proofs.TreePlaces.{place-told as tree-told}
 use Rattle.tree_strip.proofs.TreeWalk.{facts-stand}
 use Rattle.rules.specs.Decoding.{DecodesTo}
 use Rattle.rules.specs.Refusal.{Refusal, nothing, checked, tested}
 use Rattle.rules.specs.Room.{roomFor, cleared, workRefusal, Roomy}
-use Rattle.judge.specs.Judge.{AcceptedTree, otherVariables, refusalBefore, tell, judgedOf, judgementFor, workspaceFor, JudgedTree, JudgeClaim}
+use Rattle.judge.specs.Judge.{AcceptedTree, otherVariables, refusalBefore, tell, judgedOf, refusedOr, judgementFor, workspaceFor, JudgedTree, JudgeClaim}
 use Rattle.judge.specs.declared.Judgement.{Judgement}
 use Rattle.judge.specs.declared.Judgement.the-variants.{No, Yes, RefusedAt, Refused, TooManyStates}
 use Rattle.rules.proofs.Rules.{rule-decoded}
@@ -127,10 +132,29 @@ module _ (rule : List ℕ) (c : ℕ) (ws tree : List ℕ) where
           let y : before ≡ nothing = late ∙ rw (readable-free w, eq-eqb (field tree 4 4) n (w .variables)) refl in
           rw y (ex ∙ ap tell e, ew ∙ rw (accepted .variables, accepted .count))
 
--- YES OR NO AGREES WITH THE MEANING
+-- a refusal that names a place is one of the strips'
+module _ {k p : ℕ} where
+  placed-is : (f : Fault) (j : ℕ) (g : Fault) (i : ℕ) (v : Ruled)
+      → refusedOr (checked f (tested j (checked g (tested i nothing)))) (tell v) ≡ RefusedAt k p → (f ≡ At k p) ⊎ (g ≡ At k p)
+  placed-is (At l q) j g i v e = inl cc
+  placed-is Sound zero (At l q) i v e = inr cc
+  placed-is Sound (suc j) g i v e =
+      absurd (let f : Refused (suc j) ≡ RefusedAt k p = rw eqb·suc-zero at e in let z : _≡_ {A = ℕ} 0 1 = cc in omega arith)
+  placed-is Sound zero Sound (suc i) v e =
+      absurd (let f : Refused (suc i) ≡ RefusedAt k p = rw eqb·suc-zero at e in let z : _≡_ {A = ℕ} 0 1 = cc in omega arith)
+  placed-is Sound zero Sound zero (unbuilt r) e = absurd (let z : _≡_ {A = ℕ} 0 1 = cc in omega arith)
+  placed-is Sound zero Sound zero yes e = absurd (let z : _≡_ {A = ℕ} 0 1 = cc in omega arith)
+  placed-is Sound zero Sound zero no e = absurd (let z : _≡_ {A = ℕ} 0 1 = cc in omega arith)
+
+-- YES OR NO AGREES WITH THE MEANING, and a place that is named is where a strip offends
 pub claim : (rule : List ℕ) (c : ℕ) (ws tree : List ℕ) {x : Judgement} → x ≡ judgementFor rule c (length ws) tree → JudgeClaim rule c (length ws) tree x
 unfolding refusalBefore judgementFor judgedOf
-claim rule c ws tree {x} ex = record { judged = λ e. go e }
+claim rule c ws tree {x} ex = record {
+  judged = λ e. go e;
+  names = λ k p e. ⊎-elim (λ f. inl (place-told rule f)) (λ f. inr (tree-told tree k p f))
+      (placed-is (ruleFault rule) (workRefusal (variablesOf rule) (countOf rule) c (length ws)) (treeFault tree)
+      (otherVariables tree (variablesOf rule)) (judgedOf rule c tree) (sym ex ∙ e));
+}
   where
     same-variables : (n : ℕ) (v : Bool) → eqb (field tree 4 4) n ≡ v → _≡_ {A = ℕ} (cond v 0 22) 0 → field tree 4 4 ≡ n
     same-variables n true q f = eqb-true (field tree 4 4) n q

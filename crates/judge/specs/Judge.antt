@@ -1,6 +1,7 @@
 -- Judge, on bytes: document 01, "Judge", and demand 2's last sentence. Assumes nothing.
 use Prim.Native.Nat.{ℕ}
 use mathlib.Core.Path.{_≡_}
+use mathlib.Core.Logic.{_⊎_}
 use mathlib.Core.List.{List}
 use mathlib.Core.Bool.{cond}
 use lib.Dec.{eqb}
@@ -11,6 +12,8 @@ use Rattle.logic.specs.Claims.{Judgement as Ruled, unbuilt, yes, no, Judges}
 use Rattle.logic.specs.Decide.{judgeOf}
 use Rattle.bits.specs.Bits.{field}
 use Rattle.rule_strip.specs.RuleStrip.{variablesOf, countOf, recordsOf, ruleFault}
+use Rattle.rule_strip.specs.RulePlaces.{Offends}
+use Rattle.tree_strip.specs.TreePlaces.{OffendsAt}
 use Rattle.tree_strip.specs.TreeStrip.{Parsed, parsed, refused, readTree, treeFault}
 use Rattle.rules.specs.Refusal.{Refusal, nothing, placed, plain, checked, tested, unlessRefused}
 use Rattle.rules.specs.Room.{roomFor, cleared, workRefusal}
@@ -77,6 +80,8 @@ pub record JudgedTree (rule : List ℕ) (c : ℕ) (strip : List ℕ) (v : Judgem
   pub judges : Judges (variablesOf rule) (recordsOf rule) c tree judgement
   pub told : v ≡ tell judgement
 
--- "For a tree I hand in, yes or no agrees with the same meaning", where no refusal before the build applies
+-- "For a tree I hand in, yes or no agrees with the same meaning", where no refusal before the build applies; and A1, "Say at which bit": a
+-- place that v names is one where the rule strip or the tree strip offends
 pub record JudgeClaim (rule : List ℕ) (c room : ℕ) (strip : List ℕ) (v : Judgement) : Type 0 where
   pub judged : refusalBefore rule c room strip ≡ nothing → JudgedTree rule c strip v
+  pub names : (k p : ℕ) → v ≡ RefusedAt k p → Offends rule k p ⊎ OffendsAt strip k p

@@ -11,6 +11,8 @@ use Rattle.judge.specs.declared.Judgement.{Judgement}
 use Rattle.judge.specs.declared.Judgement.the-variants as judgement
 use Rattle.decide.specs.declared.Verdict.{Verdict}
 use Rattle.decide.specs.declared.Verdict.the-variants as verdict
+use Rattle.rule_strip.specs.RulePlaces.{Offends}
+use Rattle.tree_strip.specs.TreePlaces.{OffendsAt}
 use Rattle.judge.specs.Judge.{JudgeClaim}
 use Rattle.decide.specs.Decide.{Claim}
 use Rattle.ws2s.specs.declared.exports.RuleNumbers.{RuleNumbers}
@@ -42,6 +44,13 @@ verdictNumbers (verdict.Larger q) = record { kind = 2; refusal = 0; recordnumber
 verdictNumbers (verdict.RefusedAt k p) = record { kind = 3; refusal = k; recordnumber = 0; positions = 0; states = 0; length = 0; place = p }
 verdictNumbers (verdict.Refused k) = record { kind = 3; refusal = k; recordnumber = 0; positions = 0; states = 0; length = 0; place = 0 }
 verdictNumbers (verdict.TooManyStates r) = record { kind = 3; refusal = 14; recordnumber = r; positions = 0; states = 0; length = 0; place = 0 }
+
+-- A1, "Say at which bit": a refusal of the check is one by which the strip offends, at that place
+abbrev pub RuleRefusedAt : List ℕ → RuleNumbers → Type 0
+RuleRefusedAt s r = (r .refusal ≡ 0 → ⊥) → Offends s (r .refusal) (r .place)
+
+abbrev pub TreeRefusedAt : List ℕ → TreeNumbers → Type 0
+TreeRefusedAt s r = (r .refusal ≡ 0 → ⊥) → OffendsAt s (r .refusal) (r .place)
 
 -- the numbers are those of a judgement that meets judge's claim
 pub record JudgedInNumbers (rule : List ℕ) (c room : ℕ) (tree : List ℕ) (r : JudgementNumbers) : Type 0 where

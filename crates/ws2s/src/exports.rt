@@ -6,7 +6,8 @@ ghost use Rattle.rule_strip.specs.RuleAnswers.{checkedRule};
 ghost use Rattle.tree_strip.specs.TreeAnswers.{checkedTree};
 ghost use Rattle.decide.specs.Decide.{verdictOf, workspaceOf, outOf};
 ghost use Rattle.judge.specs.Judge.{judgementFor, workspaceFor};
-ghost use Rattle.ws2s.specs.Numbers.{ruleNumbers, treeNumbers, judgementNumbers, verdictNumbers, JudgedInNumbers, DecidedInNumbers};
+ghost use Rattle.ws2s.specs.Numbers.{ruleNumbers, treeNumbers, judgementNumbers, verdictNumbers};
+ghost use Rattle.ws2s.specs.Numbers.{RuleRefusedAt, TreeRefusedAt, JudgedInNumbers, DecidedInNumbers};
 use decide::Verdict;
 use judge::Judgement;
 use rule_strip::RuleCheck;
@@ -158,6 +159,7 @@ fn verdict_numbers(v: Verdict) -> VerdictNumbers
 #[no_mangle]
 pub extern "C" fn ws2s_check_rule(rule: &[u8]) -> RuleNumbers
     ensures { λ r. ⌜ r ≡ ruleNumbers (checkedRule (now (rule .entry))) ⌝ }
+    ensures { λ r. ⌜ RuleRefusedAt (now (rule .entry)) r ⌝ }
 {
     rule_numbers(rule_strip::check_rule(rule))
 }
@@ -166,6 +168,7 @@ pub extern "C" fn ws2s_check_rule(rule: &[u8]) -> RuleNumbers
 #[no_mangle]
 pub extern "C" fn ws2s_check_tree(tree: &[u8]) -> TreeNumbers
     ensures { λ r. ⌜ r ≡ treeNumbers (checkedTree (now (tree .entry))) ⌝ }
+    ensures { λ r. ⌜ TreeRefusedAt (now (tree .entry)) r ⌝ }
 {
     tree_numbers(tree_strip::check::check_tree(tree))
 }
