@@ -227,7 +227,15 @@ fn head_fault(s: &[u8]) -> Fault
             place: 8,
         };
     }
-    if s.len() != (16 + 18 * (m as usize) + 7) / 8 {
+    // A strip that is cut short is far too short for its bit length to pass 64 bits.
+    let size = (16 + 18 * (m as usize) + 7) / 8;
+    if s.len() < size {
+        return Fault::At {
+            number: 5,
+            place: 8 * s.len() as u64,
+        };
+    }
+    if size < s.len() {
         return Fault::At {
             number: 5,
             place: bits::bit_length(s),

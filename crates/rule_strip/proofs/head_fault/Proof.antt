@@ -3,11 +3,14 @@ use mathlib.Core.Path.{_≡_, refl, sym, _∙_}
 use mathlib.Core.Bool.{Bool, true, false, not}
 use mathlib.Core.List.{List}
 use Prim.Native.Nat.{ℕ, _≤_}
+use lib.ListN.{length}
 use native.Mathlib.Omega.{arith}
 use lib.Dec.{eqb}
 use borrow.Author.Needs.{needs}
 use borrow.Author.Tests.{lt-ltb, le-ltb, eq-eqb, ne-eqb}
-use Rattle.bits.specs.Bits.{between}
+use Rattle.bits.specs.Bits.{between, bitLength}
+use Rattle.bits.specs.declared.Fault.the-variants.{At}
+use Rattle.rule_strip.specs.RuleStrip.{ruleBytes, headFault}
 use Rattle.rule_strip.proofs.RuleChecks.{in-range, short, otherVersion, badVariables, badCount, head-1, head-2, head-3, head-4, head-5, head-sound}
 use Rattle.rule_strip.proofs.head_fault.Statement.{statement}
 use Rattle.rule_strip.proofs.head_fault.Tie as tie
@@ -35,7 +38,10 @@ pass-2 c = equals _ _ 1 (c .before .field-at .ensures) (c .if2 .left)
 pass-3 : (c : tie.Else3) → badVariables (strip-at (c .before .before .before .before .before)) ≡ false
 pass-3 c = ranged 8 _ _ _ false (c .before .before .field-at2 .ensures) (c .before .outside .ensures) (c .if3 .left)
 
-pass-4 : (c : tie.Else4) → badCount (strip-at (c .before .before .before .before .before .before .before .before)) ≡ false
+abbrev four : tie.Else4 → List ℕ
+four c = strip-at (c .before .before .before .before .before .before .before .before)
+
+pass-4 : (c : tie.Else4) → badCount (four c) ≡ false
 pass-4 c = ranged 128 _ _ _ false (c .before .before .field-at3 .ensures) (c .before .outside2 .ensures) (c .if4 .left)
 
 few : (c : tie.Else4) → c .before .before .field-at3 .result ≤ 128
@@ -54,20 +60,25 @@ returns-4 c =
     head-4 _ (pass-1 (b .before .before)) (pass-2 b) (pass-3 d)
     (ranged 128 _ _ _ true (c .before .before .field-at3 .ensures) (c .before .outside2 .ensures) (c .if4 .taken))
 
-returns-5 : tie.Need-returns-5
-returns-5 c =
-    let d = c .before .before .before .before .before in
+-- another length than the records take
+other-length : (c : tie.Else4) → (length (four c) ≡ ruleBytes (c .before .before .field-at3 .result) → ⊥) → (p : ℕ) → p ≡ bitLength (four c)
+    → At 5 p ≡ headFault (four c)
+other-length c z p e =
+    let d = c .before .before .before in
     let b = d .before .before .before in
-    let m = c .before .before .before .before .field-at3 .ensures in
-    head-5 _ (pass-1 (b .before .before)) (pass-2 b) (pass-3 d) (pass-4 (c .before .before)) (rw (← m, ne-eqb _ _ (c .before .if5 .taken)) refl)
-    _ (c .bit-length2 .ensures)
+    head-5 _ (pass-1 (b .before .before)) (pass-2 b) (pass-3 d) (pass-4 c) (rw (← c .before .before .field-at3 .ensures, ne-eqb _ _ z) refl) p e
 
-returns-6 : tie.Need-returns-6
-returns-6 c =
-    let d = c .before .before .before .before in
+returns-5 : tie.Need-returns-5
+unfolding bitLength
+returns-5 c = let h = few (c .before) in other-length (c .before) (λ e. omega arith) _ (omega arith)
+
+returns-7 : tie.Need-returns-7
+returns-7 c =
+    let f = c .before .before in
+    let d = f .before .before .before in
     let b = d .before .before .before in
-    let m = c .before .before .before .field-at3 .ensures in
-    head-sound _ (pass-1 (b .before .before)) (pass-2 b) (pass-3 d) (pass-4 (c .before)) (rw (← m, eq-eqb _ _ (c .if5 .left)) refl)
+    let e : length (four f) ≡ ruleBytes (f .before .before .field-at3 .result) = omega arith in
+    head-sound _ (pass-1 (b .before .before)) (pass-2 b) (pass-3 d) (pass-4 f) (rw (← f .before .before .field-at3 .ensures, eq-eqb _ _ e) refl)
 
 pub head-fault-spec : {M : Type 1} → statement M
 head-fault-spec =
@@ -76,5 +87,5 @@ head-fault-spec =
     (λ c κs. search needs) (λ c. head-1 _ (lt-ltb _ 2 (c .before .if1 .taken)) _ (c .bit-length .ensures)) (λ c κs. search needs)
     (λ c. head-2 _ (pass-1 (c .before .before)) (differs _ _ 1 (c .before .field-at .ensures) (c .if2 .taken))) (λ c κs. search needs)
     (λ c κs. search needs) returns-3 (λ c κs. search needs) (λ c κs. search needs) returns-4 (λ c. let h = few c in omega arith)
-    (λ c. let h = few c in omega arith) (λ c. let h = few c in omega arith) (λ c κs. search needs)
-    returns-5 returns-6)
+    (λ c. let h = few c in omega arith) (λ c. let h = few c in omega arith) (λ c. let h = few (c .before) in omega arith) returns-5
+    (λ c κs. search needs) (λ c. other-length (c .before .before .before) (λ e. omega arith) _ (c .bit-length2 .ensures)) returns-7)
