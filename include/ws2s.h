@@ -55,7 +55,7 @@
 extern "C" {
 #endif
 
-#define WS2S_VERSION "1.1.0"
+#define WS2S_VERSION "2.0.0"
 
 /* Limits. Buffers of these sizes serve every rule and every tree. */
 #define WS2S_MAX_VARIABLES 8
@@ -79,58 +79,70 @@ enum {
 };
 
 /* Refusals. Of several that apply, a call gives the first in the order stated
- * with it. ws2s_refusal_text has each as a phrase. */
+ * with it. ws2s_refusal_text has each as a phrase.
+ *
+ * A strip's refusals, 1 to 10 and 15 to 21, have a place: the bit of that strip,
+ * counted from 0, where the offending field starts. It stands in brackets here.
+ * Record i has its op at bit 16 + 18 i, its first field at 20 + 18 i and its second
+ * at 27 + 18 i; of two fields with the same fault the first is meant. The bit
+ * length is 8 for each byte handed in, and 2^64 - 1 where that would be more. */
 enum {
-    WS2S_REFUSED_RULE_SHORT = 1,       /* rule strip of fewer than two bytes */
-    WS2S_REFUSED_RULE_VERSION = 2,     /* rule strip of a version other than 1 */
-    WS2S_REFUSED_RULE_VARIABLES = 3,   /* rule strip with n not 1 to 8 */
-    WS2S_REFUSED_RULE_RECORDS = 4,     /* rule strip with m not 1 to 128 */
-    WS2S_REFUSED_RULE_LENGTH = 5,      /* rule strip not of (16 + 18 m) bits rounded up to bytes */
-    WS2S_REFUSED_RULE_PADDING = 6,     /* rule strip with a padding bit set */
-    WS2S_REFUSED_OP = 7,               /* record with op 9 to 15 */
-    WS2S_REFUSED_VARIABLE = 8,         /* record naming a variable not below n */
-    WS2S_REFUSED_RECORD = 9,           /* record naming a record not below its own number */
-    WS2S_REFUSED_UNUSED = 10,          /* record with an unused field that is not 0 */
+    WS2S_REFUSED_RULE_SHORT = 1,       /* rule strip of fewer than two bytes [the bit length] */
+    WS2S_REFUSED_RULE_VERSION = 2,     /* rule strip of a version other than 1 [0] */
+    WS2S_REFUSED_RULE_VARIABLES = 3,   /* rule strip with n not 1 to 8 [4] */
+    WS2S_REFUSED_RULE_RECORDS = 4,     /* rule strip with m not 1 to 128 [8] */
+    WS2S_REFUSED_RULE_LENGTH = 5,      /* rule strip not of (16 + 18 m) bits rounded up to bytes
+                                          [the bit length] */
+    WS2S_REFUSED_RULE_PADDING = 6,     /* rule strip with a padding bit set [the first set padding bit] */
+    WS2S_REFUSED_OP = 7,               /* record with op 9 to 15 [the op] */
+    WS2S_REFUSED_VARIABLE = 8,         /* record naming a variable not below n [the field] */
+    WS2S_REFUSED_RECORD = 9,           /* record naming a record not below its own number [the field] */
+    WS2S_REFUSED_UNUSED = 10,          /* record with an unused field that is not 0 [the field] */
     WS2S_REFUSED_CEILING = 11,         /* c not 1 to 64, or P above 255 */
     WS2S_REFUSED_WORKSPACE = 12,       /* workspace shorter than ws2s_workspace_size */
     WS2S_REFUSED_OUT = 13,             /* out buffer shorter than ws2s_out_size */
     WS2S_REFUSED_STATES = 14,          /* a record's machine has more than c states; "record" is
                                           its number, the lowest if there are several */
-    WS2S_REFUSED_TREE_SHORT = 15,      /* tree strip of no bytes */
-    WS2S_REFUSED_TREE_VERSION = 16,    /* tree strip of a version other than 1 */
-    WS2S_REFUSED_TREE_VARIABLES = 17,  /* tree strip with n not 1 to 8 */
-    WS2S_REFUSED_TREE_CUT = 18,        /* tree strip that ends before its tree */
-    WS2S_REFUSED_TREE_BARE = 19,       /* tree strip with a node of label 0 above two empty branches */
-    WS2S_REFUSED_TREE_POSITIONS = 20,  /* tree strip with more than 255 nodes */
-    WS2S_REFUSED_TREE_LEFT_OVER = 21,  /* tree strip with a padding bit set or a byte left over */
+    WS2S_REFUSED_TREE_SHORT = 15,      /* tree strip of no bytes [the bit length] */
+    WS2S_REFUSED_TREE_VERSION = 16,    /* tree strip of a version other than 1 [0] */
+    WS2S_REFUSED_TREE_VARIABLES = 17,  /* tree strip with n not 1 to 8 [4] */
+    WS2S_REFUSED_TREE_CUT = 18,        /* tree strip that ends before its tree [the bit length] */
+    WS2S_REFUSED_TREE_BARE = 19,       /* tree strip with a node of label 0 above two empty branches
+                                          [the node bit] */
+    WS2S_REFUSED_TREE_POSITIONS = 20,  /* tree strip with more than 255 nodes [the 256th node bit] */
+    WS2S_REFUSED_TREE_LEFT_OVER = 21,  /* tree strip with a padding bit set or a byte left over
+                                          [the first set padding bit, or else the first byte left over] */
     WS2S_REFUSED_TREE_OTHER = 22       /* rule and tree differ in n */
 };
 
-/* In every result the fields that do not apply are 0. */
+/* In every result the fields that do not apply are 0. "place" applies where a
+ * strip is refused, with 1 to 10 and 15 to 21; 0 is then a place like any other, so
+ * the refusal alone says whether there is one. */
 
 /* What the check of a rule strip returns: refusal 0 if it is accepted, then n
- * and m. */
+ * and m; else the refusal, 1 to 10, and its place. */
 typedef struct {
-    uint64_t refusal, variables, records;
+    uint64_t refusal, variables, records, place;
 } ws2s_rule;
 
 /* What the check of a tree strip returns: refusal 0 if it is accepted, then n
- * and the number of nodes. */
+ * and the number of nodes; else the refusal, 15 to 21, and its place. */
 typedef struct {
-    uint64_t refusal, variables, positions;
+    uint64_t refusal, variables, positions, place;
 } ws2s_tree;
 
-/* What a tree is judged to be: WS2S_NO, WS2S_YES or WS2S_REFUSED (with refusal,
- * and with 14 the record). */
+/* What a tree is judged to be: WS2S_NO, WS2S_YES or WS2S_REFUSED (with refusal;
+ * with 14 the record; with 1 to 10 the place in the rule, with 15 to 21 in the
+ * tree). */
 typedef struct {
-    uint64_t kind, refusal, record;
+    uint64_t kind, refusal, record, place;
 } ws2s_judgement;
 
 /* What is decided of a rule: WS2S_SHOWN (with positions, states, length),
- * WS2S_NONE (states), WS2S_LARGER (states) or WS2S_REFUSED (refusal, with 14
- * record). */
+ * WS2S_NONE (states), WS2S_LARGER (states) or WS2S_REFUSED (refusal; with 14
+ * record, with 1 to 10 place). */
 typedef struct {
-    uint64_t kind, refusal, record, positions, states, length;
+    uint64_t kind, refusal, record, positions, states, length, place;
 } ws2s_verdict;
 
 /* Checks a rule strip. Refusals in order: 1 to 6; then, for the earliest bad

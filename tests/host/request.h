@@ -100,53 +100,61 @@ static inline bool read_request(char *line, struct request *r)
         && (r->kind < DECIDE || (r->workspace <= MOST_WORKSPACE && r->out <= MOST_OUT));
 }
 
+/* Refusals of a strip have a place. */
+static inline bool has_place(uint64_t refusal)
+{
+    return (refusal >= 1 && refusal <= 10) || (refusal >= 15 && refusal <= 21);
+}
+
 /* Each of these writes an answer to a text of MOST_LINE characters, and says
  * whether the fields that do not apply are 0. */
-static inline bool tell_refusal(char *text, uint64_t refusal, uint64_t record)
+static inline bool tell_refusal(char *text, uint64_t refusal, uint64_t record, uint64_t place)
 {
     if (refusal == 14)
         snprintf(text, MOST_LINE, "refused 14 %" PRIu64, record);
+    else if (has_place(refusal))
+        snprintf(text, MOST_LINE, "refused %" PRIu64 " %" PRIu64, refusal, place);
     else
         snprintf(text, MOST_LINE, "refused %" PRIu64, refusal);
-    return refusal != 0 && (refusal == 14 || record == 0);
+    return refusal != 0 && (refusal == 14 || record == 0) && (has_place(refusal) || place == 0);
 }
 
-static inline bool tell_check(char *text, uint64_t refusal, uint64_t variables, uint64_t count)
+static inline bool tell_check(char *text, uint64_t refusal, uint64_t variables, uint64_t count, uint64_t place)
 {
     if (refusal)
-        return tell_refusal(text, refusal, 0) && variables == 0 && count == 0;
+        return tell_refusal(text, refusal, 0, place) && variables == 0 && count == 0;
     snprintf(text, MOST_LINE, "ok %" PRIu64 " %" PRIu64, variables, count);
-    return true;
+    return place == 0;
 }
 
 static inline bool tell_judgement(char *text, const ws2s_judgement *j)
 {
     if (j->kind == 3)
-        return tell_refusal(text, j->refusal, j->record);
+        return tell_refusal(text, j->refusal, j->record, j->place);
     if (j->kind > 1)
         snprintf(text, MOST_LINE, "kind %" PRIu64, j->kind);
     else
         strcpy(text, j->kind == 1 ? "yes" : "no");
-    return j->refusal == 0 && j->record == 0;
+    return j->refusal == 0 && j->record == 0 && j->place == 0;
 }
 
 /* out: the buffer that was lent, and its length */
 static inline bool tell_verdict(char *text, const ws2s_verdict *v, const uint8_t *out, size_t length)
 {
     if (v->kind == 3)
-        return tell_refusal(text, v->refusal, v->record)
+        return tell_refusal(text, v->refusal, v->record, v->place)
             && v->positions == 0 && v->states == 0 && v->length == 0;
     if (v->kind == 0) {
         int used = snprintf(text, MOST_LINE, "shown %" PRIu64 " %" PRIu64 " ", v->positions, v->states);
         for (uint64_t i = 0; i < v->length && i < length && used < MOST_LINE; i++)
             used += snprintf(text + used, MOST_LINE - (size_t)used, "%02X", out[i]);
-        return v->refusal == 0 && v->record == 0 && v->length <= length;
+        return v->refusal == 0 && v->record == 0 && v->place == 0 && v->length <= length;
     }
     if (v->kind > 3)
         snprintf(text, MOST_LINE, "kind %" PRIu64, v->kind);
     else
         snprintf(text, MOST_LINE, "%s %" PRIu64, v->kind == 1 ? "none" : "larger", v->states);
-    return v->refusal == 0 && v->record == 0 && v->positions == 0 && v->length == 0;
+    return v->refusal == 0 && v->record == 0 && v->positions == 0 && v->length == 0 && v->place == 0;
 }
 
 #endif

@@ -69,15 +69,15 @@ static bool run_judge(const struct request *r, enum lent_place place)
 
 static bool run_check(const struct request *r, enum lent_place place)
 {
-    uint64_t refusal, variables, count;
+    uint64_t refusal, variables, count, at;
     if (r->kind == CHECK_RULE) {
         ws2s_rule c = ws2s_check_rule(handed(&lent_rule, place), r->rule.length);
-        refusal = c.refusal, variables = c.variables, count = c.records;
+        refusal = c.refusal, variables = c.variables, count = c.records, at = c.place;
     } else {
         ws2s_tree c = ws2s_check_tree(handed(&lent_tree, place), r->tree.length);
-        refusal = c.refusal, variables = c.variables, count = c.positions;
+        refusal = c.refusal, variables = c.variables, count = c.positions, at = c.place;
     }
-    bool idle = tell_check(answer, refusal, variables, count);
+    bool idle = tell_check(answer, refusal, variables, count, at);
     if (strcmp(answer, r->expected) != 0)
         return fails("another answer");
     return idle || fails("a field that does not apply is not 0");

@@ -44,50 +44,82 @@ static bool names_variable_second(unsigned op)
     return op == SUBSET || op == FIRST || op == SECOND;
 }
 
-static unsigned refuse_record(const struct record *r, unsigned number, unsigned variables)
+/* A refusal, 0 for none, and the bit that it is told of. */
+struct fault {
+    unsigned refusal;
+    uint64_t place;
+};
+
+static const struct fault no_fault;
+
+static struct fault fault_at(unsigned refusal, uint64_t place)
 {
-    bool unary = r->op == SING || r->op == ROOT || r->op == NOT;
-    if (r->op >= OPS)
-        return 7;
-    if ((names_variable_first(r->op) && r->first >= variables)
-        || (names_variable_second(r->op) && r->second >= variables))
-        return 8;
-    if ((!names_variable_first(r->op) && r->first >= number)
-        || (!names_variable_second(r->op) && !unary && r->second >= number))
-        return 9;
-    if (unary && r->second != 0)
-        return 10;
-    return 0;
+    return (struct fault){ refusal, place };
 }
 
-/* Reads a rule strip and returns its refusal, 0 if it has none. */
-static unsigned read_rule(struct rule *rule, const uint8_t *strip, size_t length)
+/* The bit length of so many bytes; a number of 64 bits has no more. */
+static uint64_t bit_length(size_t bytes)
+{
+    return bytes > UINT64_MAX / 8 ? UINT64_MAX : 8 * (uint64_t)bytes;
+}
+
+/* The first set bit of those from one place up to another; the latter if none is. */
+static size_t first_set(const uint8_t *strip, size_t from, size_t to)
+{
+    while (from < to && field(strip, from, 1) == 0)
+        from++;
+    return from;
+}
+
+/* The record starts at bit "at". */
+static struct fault refuse_record(const struct record *r, unsigned number, unsigned variables, size_t at)
+{
+    bool unary = r->op == SING || r->op == ROOT || r->op == NOT;
+    size_t first = at + 4, second = at + 11;
+    if (r->op >= OPS)
+        return fault_at(7, at);
+    if (names_variable_first(r->op) && r->first >= variables)
+        return fault_at(8, first);
+    if (names_variable_second(r->op) && r->second >= variables)
+        return fault_at(8, second);
+    if (!names_variable_first(r->op) && r->first >= number)
+        return fault_at(9, first);
+    if (!names_variable_second(r->op) && !unary && r->second >= number)
+        return fault_at(9, second);
+    if (unary && r->second != 0)
+        return fault_at(10, second);
+    return no_fault;
+}
+
+/* Reads a rule strip. */
+static struct fault read_rule(struct rule *rule, const uint8_t *strip, size_t length)
 {
     if (length < 2)
-        return 1;
+        return fault_at(1, bit_length(length));
     if (strip[0] >> 4 != 1)
-        return 2;
+        return fault_at(2, 0);
     rule->variables = strip[0] & 15;
     if (rule->variables < 1 || rule->variables > 8)
-        return 3;
+        return fault_at(3, 4);
     rule->records = strip[1];
     if (rule->records < 1 || rule->records > MOST_RECORDS)
-        return 4;
+        return fault_at(4, 8);
     size_t bits = 16 + 18 * (size_t)rule->records;
     if (length != (bits + 7) / 8)
-        return 5;
-    if (field(strip, bits, (unsigned)(length * 8 - bits)) != 0)
-        return 6;
+        return fault_at(5, bit_length(length));
+    size_t set = first_set(strip, bits, 8 * length);
+    if (set < 8 * length)
+        return fault_at(6, set);
     for (unsigned i = 0; i < rule->records; i++) {
         size_t at = 16 + 18 * (size_t)i;
         struct record *r = &rule->record[i];
         *r = (struct record){ field(strip, at, 4), field(strip, at + 4, 7),
                               field(strip, at + 11, 7) };
-        unsigned refusal = refuse_record(r, i, rule->variables);
-        if (refusal)
-            return refusal;
+        struct fault fault = refuse_record(r, i, rule->variables, at);
+        if (fault.refusal)
+            return fault;
     }
-    return 0;
+    return no_fault;
 }
 
 /* ---- Machines ---- */
@@ -328,7 +360,8 @@ static size_t size_up(struct build *b, uint64_t c)
 struct walk {
     const uint8_t *strip;
     size_t length, at; /* bytes, bits */
-    unsigned variables, positions, refusal;
+    unsigned variables, positions;
+    struct fault fault;
     const struct build *build; /* NULL if the tree is only checked */
     const struct machine *machine;
 };
@@ -338,7 +371,7 @@ static unsigned take(struct walk *w, unsigned bits)
     unsigned value = 0;
     for (; bits; bits--, w->at++) {
         if (w->at / 8 >= w->length) {
-            w->refusal = 18;
+            w->fault = fault_at(18, bit_length(w->length));
             return 0;
         }
         value = value << 1 | field(w->strip, w->at, 1);
@@ -350,43 +383,48 @@ static unsigned take(struct walk *w, unsigned bits)
  * goes no deeper than there are positions. */
 static unsigned walk_tree(struct walk *w)
 {
-    if (!take(w, 1) || w->refusal)
+    size_t node = w->at;
+    if (!take(w, 1) || w->fault.refusal)
         return 0;
     if (w->positions == MOST_POSITIONS) {
-        w->refusal = 20;
+        w->fault = fault_at(20, node);
         return 0;
     }
     unsigned so_far = ++w->positions, first = 0, second = 0;
     unsigned label = take(w, w->variables);
-    if (!w->refusal)
+    if (!w->fault.refusal)
         first = walk_tree(w);
-    if (!w->refusal)
+    if (!w->fault.refusal)
         second = walk_tree(w);
-    if (!w->refusal && label == 0 && w->positions == so_far)
-        w->refusal = 19;
-    if (w->refusal || !w->machine)
+    if (!w->fault.refusal && label == 0 && w->positions == so_far)
+        w->fault = fault_at(19, node);
+    if (w->fault.refusal || !w->machine)
         return 0;
     return row(w->build, w->machine, label, first)[second];
+}
+
+static ws2s_tree refuse_tree(struct fault fault)
+{
+    return (ws2s_tree){ .refusal = fault.refusal, .place = fault.place };
 }
 
 static ws2s_tree read_tree(const uint8_t *strip, size_t length)
 {
     if (length < 1)
-        return (ws2s_tree){ .refusal = 15 };
+        return refuse_tree(fault_at(15, 0));
     if (strip[0] >> 4 != 1)
-        return (ws2s_tree){ .refusal = 16 };
+        return refuse_tree(fault_at(16, 0));
     unsigned n = strip[0] & 15;
     if (n < 1 || n > 8)
-        return (ws2s_tree){ .refusal = 17 };
+        return refuse_tree(fault_at(17, 4));
     struct walk w = { .strip = strip, .length = length, .at = 8, .variables = n };
     walk_tree(&w);
-    if (!w.refusal) {
-        size_t whole = (w.at + 7) / 8;
-        if (field(strip, w.at, (unsigned)(whole * 8 - w.at)) != 0 || length != whole)
-            w.refusal = 21;
-    }
-    if (w.refusal)
-        return (ws2s_tree){ .refusal = w.refusal };
+    if (w.fault.refusal)
+        return refuse_tree(w.fault);
+    /* a set padding bit, or else the first byte left over */
+    size_t whole = (w.at + 7) / 8, left_over = first_set(strip, w.at, 8 * whole);
+    if (left_over < 8 * whole || length != whole)
+        return refuse_tree(fault_at(21, left_over));
     return (ws2s_tree){ .variables = n, .positions = w.positions };
 }
 
@@ -477,9 +515,9 @@ static size_t put_tree(uint8_t *out, size_t at, unsigned variables, const struct
 ws2s_rule oracle_check_rule(const uint8_t *rule, size_t rule_len)
 {
     struct rule r;
-    unsigned refusal = read_rule(&r, rule, rule_len);
-    if (refusal)
-        return (ws2s_rule){ .refusal = refusal };
+    struct fault fault = read_rule(&r, rule, rule_len);
+    if (fault.refusal)
+        return (ws2s_rule){ .refusal = fault.refusal, .place = fault.place };
     return (ws2s_rule){ .variables = r.variables, .records = r.records };
 }
 
@@ -488,9 +526,9 @@ ws2s_tree oracle_check_tree(const uint8_t *tree, size_t tree_len)
     return read_tree(tree, tree_len);
 }
 
-static ws2s_judgement refuse_tree(unsigned refusal)
+static ws2s_judgement refuse_to_judge(unsigned refusal, uint64_t place)
 {
-    return (ws2s_judgement){ .kind = REFUSED, .refusal = refusal };
+    return (ws2s_judgement){ .kind = REFUSED, .refusal = refusal, .place = place };
 }
 
 ws2s_judgement oracle_judge(const uint8_t *rule, size_t rule_len, uint64_t c,
@@ -498,19 +536,19 @@ ws2s_judgement oracle_judge(const uint8_t *rule, size_t rule_len, uint64_t c,
                             const uint8_t *tree, size_t tree_len)
 {
     struct build b;
-    unsigned refusal = read_rule(&b.rule, rule, rule_len);
-    if (refusal)
-        return refuse_tree(refusal);
+    struct fault fault = read_rule(&b.rule, rule, rule_len);
+    if (fault.refusal)
+        return refuse_to_judge(fault.refusal, fault.place);
     if (c < 1 || c > MOST_STATES)
-        return refuse_tree(11);
+        return refuse_to_judge(11, 0);
     size_t asked = size_up(&b, c);
     if (workspace_len < asked)
-        return refuse_tree(12);
+        return refuse_to_judge(12, 0);
     ws2s_tree checked = read_tree(tree, tree_len);
     if (checked.refusal)
-        return refuse_tree((unsigned)checked.refusal);
+        return refuse_to_judge((unsigned)checked.refusal, checked.place);
     if (checked.variables != b.rule.variables)
-        return refuse_tree(22);
+        return refuse_to_judge(22, 0);
     unsigned over = build_all(&b, workspace);
     ws2s_judgement answer = { .kind = REFUSED, .refusal = 14, .record = over };
     if (over == b.rule.records) {
@@ -523,9 +561,9 @@ ws2s_judgement oracle_judge(const uint8_t *rule, size_t rule_len, uint64_t c,
     return answer;
 }
 
-static ws2s_verdict refuse(unsigned refusal)
+static ws2s_verdict refuse_to_decide(unsigned refusal, uint64_t place)
 {
-    return (ws2s_verdict){ .kind = REFUSED, .refusal = refusal };
+    return (ws2s_verdict){ .kind = REFUSED, .refusal = refusal, .place = place };
 }
 
 ws2s_verdict oracle_decide(const uint8_t *rule, size_t rule_len, uint64_t c, uint64_t p,
@@ -533,16 +571,16 @@ ws2s_verdict oracle_decide(const uint8_t *rule, size_t rule_len, uint64_t c, uin
                            uint8_t *out, size_t out_len)
 {
     struct build b;
-    unsigned refusal = read_rule(&b.rule, rule, rule_len);
-    if (refusal)
-        return refuse(refusal);
+    struct fault fault = read_rule(&b.rule, rule, rule_len);
+    if (fault.refusal)
+        return refuse_to_decide(fault.refusal, fault.place);
     if (c < 1 || c > MOST_STATES || p > MOST_POSITIONS)
-        return refuse(11);
+        return refuse_to_decide(11, 0);
     size_t asked = size_up(&b, c);
     if (workspace_len < asked)
-        return refuse(12);
+        return refuse_to_decide(12, 0);
     if (out_len < (8 + p * (b.rule.variables + 1) + p + 1 + 7) / 8)
-        return refuse(13);
+        return refuse_to_decide(13, 0);
     unsigned over = build_all(&b, workspace);
     ws2s_verdict answer = { .kind = REFUSED, .refusal = 14, .record = over };
     if (over == b.rule.records) {
