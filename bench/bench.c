@@ -43,7 +43,7 @@ struct request {
 
 /* The result of a request, as numbers, and the strip in out. */
 struct answer {
-    uint64_t field[6];
+    uint64_t field[sizeof(ws2s_verdict) / sizeof(uint64_t)];
     uint8_t out[400];
 };
 

@@ -8,7 +8,8 @@
  * bytes in and around them; their results and all these bytes must agree after
  * the call, and whatever is shown must check and be judged as satisfying the
  * rule. The same seed makes the same requests. Differences are printed as vector
- * lines; the status is then 1. */
+ * lines; the status is then 1. How often each answer came is printed too, and at
+ * how many places a strip was refused; of many calls none of them may be missing. */
 #define _DEFAULT_SOURCE
 #include "lent.h"
 #include "oracle.h"
@@ -17,7 +18,7 @@
 
 #include <inttypes.h>
 
-enum { MOST_OUT = 1024, MOST_SECONDS = 120, MOST_DIFFERENCES = 10 };
+enum { MOST_OUT = 1024, MOST_SECONDS = 120, MOST_DIFFERENCES = 10, MANY_CALLS = 100000 };
 enum { SMALL_SPACE = 1 << 16, MIDDLE_SPACE = 1 << 21, LARGE_SPACE = 1 << 24 };
 
 /* ---- Chance ---- */
@@ -333,8 +334,13 @@ union result {
     ws2s_tree tree;
     ws2s_judgement judgement;
     ws2s_verdict verdict;
-    uint64_t field[6];
+    uint64_t field[sizeof(ws2s_verdict) / sizeof(uint64_t)];
 };
+
+/* How many numbers a result has; the last is the place. */
+static const unsigned result_fields[KINDS] = {
+    [CHECK_RULE] = sizeof(ws2s_rule) / sizeof(uint64_t), [CHECK_TREE] = sizeof(ws2s_tree) / sizeof(uint64_t),
+    [DECIDE] = sizeof(ws2s_verdict) / sizeof(uint64_t), [JUDGE] = sizeof(ws2s_judgement) / sizeof(uint64_t) };
 
 static void open_all(struct lents *l)
 {
@@ -383,9 +389,9 @@ static const char *differs(const struct request *r, const union result *one, con
 {
     const struct lent *mine[] = { &ours.workspace, &ours.out };
     const struct lent *other[] = { &theirs.workspace, &theirs.out };
-    for (int i = 0; i < 6; i++)
+    for (unsigned i = 0; i < result_fields[r->kind]; i++)
         if (one->field[i] != two->field[i])
-            return "another result";
+            return i + 1 == result_fields[r->kind] ? "another place" : "another result";
     for (int i = 0; i < 2; i++) {
         size_t length = (size_t)(mine[i]->guarded_end - mine[i]->guarded);
         if (memcmp(mine[i]->guarded, other[i]->guarded, length) != 0)
@@ -441,23 +447,35 @@ static void say(const struct request *r, const char *what, const union result *o
         say_bytes(&r->tree);
     for (int who = 0; who < 2; who++) {
         printf("\n  %s", who ? "oracle " : "library");
-        for (int i = 0; i < (r->kind == DECIDE ? 6 : 3); i++)
+        for (unsigned i = 0; i < result_fields[r->kind]; i++)
             printf(" %" PRIu64, (who ? two : one)->field[i]);
     }
     printf("\n");
 }
 
 /* How often each answer came: 0 for a check that accepts; 0 to 2 for the kinds
- * of decide and judge; refusals from 3 on. */
-static unsigned long answers[KINDS][3 + 23];
+ * of decide and judge; refusals from 3 on. And where strips were refused. */
+enum { REFUSALS = 23, MOST_PLACE = 8 * MOST_STRIP };
+static unsigned long answers[KINDS][3 + REFUSALS];
+static bool refused_at[KINDS][REFUSALS][MOST_PLACE + 1];
 
 static void count_answer(const struct request *r, const union result *o)
 {
     bool check = r->kind < DECIDE;
-    uint64_t refusal = check ? o->field[0] : o->field[1];
+    uint64_t refusal = check ? o->field[0] : o->field[1], place = o->field[result_fields[r->kind] - 1];
     uint64_t at = refusal ? 3 + refusal : check ? 0 : o->field[0];
-    if (at < 3 + 23)
+    if (at < 3 + REFUSALS)
         answers[r->kind][at]++;
+    if (refusal < REFUSALS && place <= MOST_PLACE)
+        refused_at[r->kind][refusal][place] = true;
+}
+
+static unsigned places_of(int kind, int refusal)
+{
+    unsigned places = 0;
+    for (unsigned at = 0; at <= MOST_PLACE; at++)
+        places += refused_at[kind][refusal][at];
+    return places;
 }
 
 static void say_answers(void)
@@ -467,13 +485,47 @@ static void say_answers(void)
         { "decide", "shown", "none", "larger" }, { "judge", "no", "yes", "" } };
     for (int kind = 0; kind < KINDS; kind++) {
         printf("%s:", names[kind][0]);
-        for (int i = 0; i < 3 + 23; i++)
-            if (answers[kind][i] && i < 3)
+        for (int i = 0; i < 3; i++)
+            if (answers[kind][i])
                 printf(" %s %lu", names[kind][1 + i], answers[kind][i]);
-            else if (answers[kind][i])
-                printf(" %d: %lu", i - 3, answers[kind][i]);
+        for (int refusal = 1; refusal < REFUSALS; refusal++) {
+            unsigned places = places_of(kind, refusal);
+            if (answers[kind][3 + refusal])
+                printf(" %d: %lu", refusal, answers[kind][3 + refusal]);
+            if (places > 1)
+                printf(" at %u places", places);
+        }
         printf("\n");
     }
+}
+
+/* Whether an operation can give a refusal. */
+static bool has_refusal(int kind, int refusal)
+{
+    bool of_rule = refusal <= 10, of_tree = refusal >= 15 && refusal <= 21;
+    switch (kind) {
+    case CHECK_RULE:
+        return of_rule;
+    case CHECK_TREE:
+        return of_tree;
+    case DECIDE:
+        return refusal <= 14;
+    default:
+        return refusal != 13;
+    }
+}
+
+/* Whether the strips above still reach every refusal. */
+static bool all_met(void)
+{
+    bool all = true;
+    for (int kind = 0; kind < KINDS; kind++)
+        for (int refusal = 1; refusal < REFUSALS; refusal++)
+            if (has_refusal(kind, refusal) && answers[kind][3 + refusal] == 0) {
+                printf("refusal %d of operation %d was never met\n", refusal, kind);
+                all = false;
+            }
+    return all;
 }
 
 int main(int argc, char **argv)
@@ -500,6 +552,8 @@ int main(int argc, char **argv)
         count_answer(&r, &two);
     }
     say_answers();
+    if (done >= MANY_CALLS && !all_met())
+        failed++;
     printf("seed %" PRIu64 ": %lu passed, %lu failed\n", seed, done - failed, failed);
     return failed || !done;
 }

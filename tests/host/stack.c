@@ -73,9 +73,9 @@ static bool tell(const struct request *r, const union result *result, char *text
 {
     switch (r->kind) {
     case CHECK_RULE:
-        return tell_check(text, result->rule.refusal, result->rule.variables, result->rule.records);
+        return tell_check(text, result->rule.refusal, result->rule.variables, result->rule.records, result->rule.place);
     case CHECK_TREE:
-        return tell_check(text, result->tree.refusal, result->tree.variables, result->tree.positions);
+        return tell_check(text, result->tree.refusal, result->tree.variables, result->tree.positions, result->tree.place);
     case JUDGE:
         return tell_judgement(text, &result->judgement);
     default:
@@ -218,6 +218,9 @@ enum shape { BY_FIRST, BY_SECOND, BY_TURNS, BROAD, SHAPES };
 static const char *const shape_names[] = { "a chain by the first branch", "a chain by the second branch",
                                            "a chain by turns", "a broad tree" };
 
+/* Where the node bit of the last node stands. */
+static size_t last_node;
+
 /* Labels have all their bits, but the last one has none if it is to be bare. */
 static void put_tree(struct strip *s, size_t *at, unsigned n, unsigned nodes, enum shape shape, bool bare)
 {
@@ -230,6 +233,7 @@ static void put_tree(struct strip *s, size_t *at, unsigned n, unsigned nodes, en
         first = 0;
     else if (shape == BROAD)
         first = rest / 2;
+    last_node = *at;
     put(s, at, 1, 1);
     put(s, at, n, bare && nodes == 1 ? 0 : (1u << n) - 1);
     put_tree(s, at, n, first, shape, bare && first == rest);
@@ -256,18 +260,18 @@ static void try_rules(void)
         struct record last;
         const char *stated;
     } bad[] = {
-        { { 9, 0, 0 }, "refused 7" }, { { 15, 127, 127 }, "refused 7" }, { { 0, 8, 0 }, "refused 8" },
-        { { 3, 0, 127 }, "refused 8" }, { { 8, 8, 0 }, "refused 8" }, { { 6, 127, 0 }, "refused 9" },
-        { { 7, 0, 127 }, "refused 9" }, { { 8, 0, 127 }, "refused 9" }, { { 1, 0, 1 }, "refused 10" },
-        { { 5, 0, 127 }, "refused 10" } };
+        { { 9, 0, 0 }, "refused 7 2302" }, { { 15, 127, 127 }, "refused 7 2302" }, { { 0, 8, 0 }, "refused 8 2306" },
+        { { 3, 0, 127 }, "refused 8 2313" }, { { 8, 8, 0 }, "refused 8 2306" }, { { 6, 127, 0 }, "refused 9 2306" },
+        { { 7, 0, 127 }, "refused 9 2313" }, { { 8, 0, 127 }, "refused 9 2313" }, { { 1, 0, 1 }, "refused 10 2313" },
+        { { 5, 0, 127 }, "refused 10 2313" } };
     static const struct {
         uint8_t heading, records;
         size_t length;
         const char *stated;
     } heads[] = {
-        { 0x18, 128, 0, "refused 1" }, { 0x18, 128, 1, "refused 1" }, { 0x28, 128, 290, "refused 2" },
-        { 0x10, 128, 290, "refused 3" }, { 0x19, 128, 290, "refused 3" }, { 0x18, 0, 290, "refused 4" },
-        { 0x18, 129, 290, "refused 4" }, { 0x18, 128, 289, "refused 5" }, { 0x18, 128, 291, "refused 5" } };
+        { 0x18, 128, 0, "refused 1 0" }, { 0x18, 128, 1, "refused 1 8" }, { 0x28, 128, 290, "refused 2 0" },
+        { 0x10, 128, 290, "refused 3 4" }, { 0x19, 128, 290, "refused 3 4" }, { 0x18, 0, 290, "refused 4 8" },
+        { 0x18, 129, 290, "refused 4 8" }, { 0x18, 128, 289, "refused 5 2312" }, { 0x18, 128, 291, "refused 5 2328" } };
     made.kind = CHECK_RULE;
     for (unsigned op = 0; op <= 8; op++) {
         make_rule(&made.rule, 8, 128, op, NULL);
@@ -292,31 +296,45 @@ static void try_rules(void)
     }
     size_t end = make_rule(&made.rule, 8, 127, 7, NULL);
     put(&made.rule, &end, 1, 1);
-    try_both(&made, "127 records and a padding bit", "refused 6");
+    try_both(&made, "127 records and a padding bit", "refused 6 2302");
 }
 
 /* Trees of as many nodes as there may be, and what is refused only after them. */
 enum { WHOLE, LEFT_OVER, PADDED, BARE, TOO_MANY, CUT, CUT_DEEP, TREES };
 static const struct {
-    const char *how, *refusal;
+    const char *how;
+    unsigned refusal;
 } trees[TREES] = {
-    [WHOLE] = { "whole", NULL }, [LEFT_OVER] = { "and a byte left over", "refused 21" },
-    [PADDED] = { "and a padding bit", "refused 21" }, [BARE] = { "with a bare last node", "refused 19" },
-    [TOO_MANY] = { "of 256 nodes", "refused 20" }, [CUT] = { "without its last byte", "refused 18" },
-    [CUT_DEEP] = { "cut where a chain is deepest", "refused 18" } };
+    [WHOLE] = { "whole", 0 }, [LEFT_OVER] = { "and a byte left over", 21 }, [PADDED] = { "and a padding bit", 21 },
+    [BARE] = { "with a bare last node", 19 }, [TOO_MANY] = { "of 256 nodes", 20 },
+    [CUT] = { "without its last byte", 18 }, [CUT_DEEP] = { "cut where a chain is deepest", 18 } };
 
-static void make_deep(unsigned n, enum shape shape, int which)
+/* Returns the place of its refusal. */
+static size_t make_deep(unsigned n, enum shape shape, int which)
 {
     struct strip *t = &made.tree;
-    size_t end = make_tree(t, n, which == TOO_MANY ? NODES + 1 : NODES, shape, which == BARE);
-    if (which == LEFT_OVER)
+    size_t end = make_tree(t, n, which == TOO_MANY ? NODES + 1 : NODES, shape, which == BARE), place = end;
+    switch (which) {
+    case LEFT_OVER:
+        place = 8 * t->length;
         t->byte[t->length++] = 0;
-    else if (which == PADDED)
+        break;
+    case PADDED:
         put(t, &end, 1, 1); /* neither with 1 nor with 8 variables does a tree fill its last byte */
-    else if (which == CUT)
-        t->length--;
-    else if (which == CUT_DEEP)
+        break;
+    case BARE:
+    case TOO_MANY:
+        place = last_node;
+        break;
+    case CUT:
+        place = 8 * --t->length;
+        break;
+    case CUT_DEEP:
         t->length = (8 + NODES * ((size_t)n + 1)) / 8;
+        place = 8 * t->length;
+        break;
+    }
+    return place;
 }
 
 /* Lends what a rule needs, if the state ceiling is within range. */
@@ -339,26 +357,27 @@ enum { RULES = sizeof rules / sizeof rules[0] };
 
 static void try_trees(unsigned n)
 {
-    char ok[40];
+    char ok[40], refused[60];
     snprintf(ok, sizeof ok, "ok %u %d", n, NODES);
     for (enum shape shape = BY_FIRST; shape < SHAPES; shape++)
         for (int which = WHOLE; which < TREES; which++) {
-            make_deep(n, shape, which);
+            size_t place = make_deep(n, shape, which);
+            snprintf(refused, sizeof refused, "refused %u %zu", trees[which].refusal, place);
             int used = snprintf(what, sizeof what, "n = %u, %s %s", n, shape_names[shape], trees[which].how);
             made.kind = CHECK_TREE;
-            try_both(&made, what, which == WHOLE ? ok : trees[which].refusal);
+            try_both(&made, what, which == WHOLE ? ok : refused);
             made.kind = JUDGE;
             for (int i = 0; i < RULES; i++) {
                 make_rule(&made.rule, n, rules[i].records, rules[i].op, NULL);
                 set_ceilings(rules[i].c);
                 snprintf(what + used, sizeof what - (size_t)used, ", records %u, op %u, c = %d",
                          rules[i].records, rules[i].op, (int)rules[i].c);
-                try_both(&made, what, which == WHOLE ? rules[i].answer : trees[which].refusal);
+                try_both(&made, what, which == WHOLE ? rules[i].answer : refused);
             }
             make_rule(&made.rule, 9 - n, 128, 0, NULL);
             set_ceilings(1);
             snprintf(what + used, sizeof what - (size_t)used, ", a rule of another n");
-            try_both(&made, what, which == WHOLE ? "refused 22" : trees[which].refusal);
+            try_both(&made, what, which == WHOLE ? "refused 22" : refused);
         }
 }
 

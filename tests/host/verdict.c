@@ -311,7 +311,7 @@ static void try_records(unsigned records, size_t more, const char *line)
 
 static void try_no_input(void)
 {
-    static const char line[] = "refused 1";
+    static const char line[] = "refused 1 0";
     int out[2];
     open_pipe(out);
     run_program(CLOSED, out, CLOSED, NULL, 0, AT_ONCE);
@@ -365,14 +365,16 @@ int main(int argc, char **argv)
         printf("no line of the verdict program\n");
         return 1;
     }
-    try_long(0x12, 1, "refused 5");
-    try_long(0x22, 1, "refused 2");
-    try_long(0x10, 1, "refused 3");
-    try_long(0x12, 0, "refused 4");
+    try_long(0x12, 1, "refused 5 2400"); /* the bits of the 300 bytes that it reads */
+    try_long(0x22, 1, "refused 2 0");
+    try_long(0x10, 1, "refused 3 4");
+    try_long(0x12, 0, "refused 4 8");
     try_records(64, 0, "shown 0 1 1100"); /* the longest that fits the workspace */
     try_records(128, 0, "refused 12"); /* the longest strip there is */
-    try_records(128, VERDICT_INPUT - 290, "refused 5");
-    try_records(128, VERDICT_INPUT + 1 - 290, "refused 5");
+    try_records(128, 1, "refused 5 2328");
+    try_records(128, VERDICT_INPUT - 1 - 290, "refused 5 2392");
+    try_records(128, VERDICT_INPUT - 290, "refused 5 2400");
+    try_records(128, VERDICT_INPUT + 1 - 290, "refused 5 2400");
     try_no_input();
     try_no_output();
     printf("verdict program: %lu passed, %lu failed\n", passed, failed);
