@@ -3,7 +3,8 @@
  *
  * - the sizes: with that many bytes a call is not refused for its buffer, with one
  *   less it is, for every number of variables and records and every ceiling;
- * - the names of kinds and refusals: a request that has just this answer;
+ * - the names of kinds and refusals: a request that has just this answer, at the
+ *   place that the header states;
  * - the texts: one for every refusal, no two alike;
  * - the limits: accepted, and one more refused;
  * - the walk: over all small trees, and over large ones of many shapes, it tells
@@ -28,6 +29,7 @@ static void count(bool right, const char *what, unsigned long a, unsigned long b
         printf("header: %s (%lu, %lu)\n", what, a, b);
 }
 
+static struct lent lent;
 static uint64_t chance = 1;
 
 static unsigned below(unsigned bound)
@@ -89,7 +91,7 @@ static void try_sizes(uint8_t *workspace)
     count(most == WS2S_MAX_WORKSPACE && most_out == WS2S_MAX_TREE_BYTES, "largest sizes", most, most_out);
     count(rule.length == 5 && (make_rule(&rule, 8, WS2S_MAX_RECORDS), rule.length == WS2S_MAX_RULE_BYTES),
           "longest rule", rule.length, 0);
-    ws2s_rule refused = ws2s_check_rule(rule.byte, 1), odd = { 0, 64, 1 }, many = { 0, 1, UINT64_MAX };
+    ws2s_rule refused = ws2s_check_rule(rule.byte, 1), odd = { 0, 64, 1, 0 }, many = { 0, 1, UINT64_MAX, 0 };
     count(ws2s_workspace_size(refused, 1) == 0 && ws2s_out_size(refused, 1) == 0, "sizes of a refused rule", 0, 0);
     count(ws2s_workspace_size(odd, 1) == 0 && ws2s_out_size(odd, 1) == 0 && ws2s_workspace_size(many, 1) == 0,
           "sizes of what is no check's result", 0, 0);
@@ -97,36 +99,39 @@ static void try_sizes(uint8_t *workspace)
 
 /* ---- Names ---- */
 
-/* A request that has this refusal. "more" bytes follow the strip as it is written, all zero. */
+/* A request that has this refusal, and where. "more" bytes follow the strip as it is written, all zero. */
 static const struct {
-    uint64_t refusal;
+    uint64_t refusal, place;
     const char *rule, *tree; /* hex; a tree is judged */
     size_t more;
     uint64_t c, p;
     size_t workspace, out;
 } refusals[] = {
-    { WS2S_REFUSED_RULE_SHORT, "12", NULL, 0, 64, 255, 1 << 16, 320 },
-    { WS2S_REFUSED_RULE_VERSION, "2201200040", NULL, 0, 64, 255, 1 << 16, 320 },
-    { WS2S_REFUSED_RULE_VARIABLES, "1901200040", NULL, 0, 64, 255, 1 << 16, 320 },
-    { WS2S_REFUSED_RULE_RECORDS, "1200200040", NULL, 0, 64, 255, 1 << 16, 320 },
-    { WS2S_REFUSED_RULE_LENGTH, "1201200040", NULL, 1, 64, 255, 1 << 16, 320 },
-    { WS2S_REFUSED_RULE_PADDING, "1201200041", NULL, 0, 64, 255, 1 << 16, 320 },
-    { WS2S_REFUSED_OP, "1201900000", NULL, 0, 64, 255, 1 << 16, 320 },
-    { WS2S_REFUSED_VARIABLE, "1201200080", NULL, 0, 64, 255, 1 << 16, 320 },
-    { WS2S_REFUSED_RECORD, "1201500000", NULL, 0, 64, 255, 1 << 16, 320 },
-    { WS2S_REFUSED_UNUSED, "1201100040", NULL, 0, 64, 255, 1 << 16, 320 },
-    { WS2S_REFUSED_CEILING, "1201200040", NULL, 0, WS2S_MAX_STATES + 1, 255, 1 << 16, 320 },
-    { WS2S_REFUSED_CEILING, "1201200040", NULL, 0, 64, WS2S_MAX_POSITIONS + 1, 1 << 16, 320 },
-    { WS2S_REFUSED_WORKSPACE, "1201200040", NULL, 0, 64, 255, 1 << 10, 320 },
-    { WS2S_REFUSED_OUT, "1201200040", NULL, 0, 64, 255, 1 << 16, 2 },
-    { WS2S_REFUSED_STATES, "1201200040", NULL, 0, 3, 255, 1 << 16, 320 },
-    { WS2S_REFUSED_TREE_SHORT, "1201200040", "", 0, 64, 255, 1 << 16, 0 },
-    { WS2S_REFUSED_TREE_VERSION, "1201200040", "22B800", 0, 64, 255, 1 << 16, 0 },
-    { WS2S_REFUSED_TREE_VARIABLES, "1201200040", "19B800", 0, 64, 255, 1 << 16, 0 },
-    { WS2S_REFUSED_TREE_CUT, "1201200040", "12B8", 0, 64, 255, 1 << 16, 0 },
-    { WS2S_REFUSED_TREE_BARE, "1201200040", "1280", 0, 64, 255, 1 << 16, 0 },
-    { WS2S_REFUSED_TREE_LEFT_OVER, "1201200040", "12B80000", 0, 64, 255, 1 << 16, 0 },
-    { WS2S_REFUSED_TREE_OTHER, "1201200040", "11C0", 0, 64, 255, 1 << 16, 0 },
+    { WS2S_REFUSED_RULE_SHORT, 8, "12", NULL, 0, 64, 255, 1 << 16, 320 },
+    { WS2S_REFUSED_RULE_VERSION, 0, "2201200040", NULL, 0, 64, 255, 1 << 16, 320 },
+    { WS2S_REFUSED_RULE_VARIABLES, 4, "1901200040", NULL, 0, 64, 255, 1 << 16, 320 },
+    { WS2S_REFUSED_RULE_RECORDS, 8, "1200200040", NULL, 0, 64, 255, 1 << 16, 320 },
+    { WS2S_REFUSED_RULE_LENGTH, 48, "1201200040", NULL, 1, 64, 255, 1 << 16, 320 },
+    { WS2S_REFUSED_RULE_PADDING, 39, "1201200041", NULL, 0, 64, 255, 1 << 16, 320 },
+    { WS2S_REFUSED_OP, 16, "1201900000", NULL, 0, 64, 255, 1 << 16, 320 },
+    { WS2S_REFUSED_VARIABLE, 27, "1201200080", NULL, 0, 64, 255, 1 << 16, 320 },
+    { WS2S_REFUSED_VARIABLE, 20, "1201204080", NULL, 0, 64, 255, 1 << 16, 320 },
+    { WS2S_REFUSED_RECORD, 20, "1201500000", NULL, 0, 64, 255, 1 << 16, 320 },
+    { WS2S_REFUSED_UNUSED, 27, "1201100040", NULL, 0, 64, 255, 1 << 16, 320 },
+    { WS2S_REFUSED_CEILING, 0, "1201200040", NULL, 0, WS2S_MAX_STATES + 1, 255, 1 << 16, 320 },
+    { WS2S_REFUSED_CEILING, 0, "1201200040", NULL, 0, 64, WS2S_MAX_POSITIONS + 1, 1 << 16, 320 },
+    { WS2S_REFUSED_WORKSPACE, 0, "1201200040", NULL, 0, 64, 255, 1 << 10, 320 },
+    { WS2S_REFUSED_OUT, 0, "1201200040", NULL, 0, 64, 255, 1 << 16, 2 },
+    { WS2S_REFUSED_STATES, 0, "1201200040", NULL, 0, 3, 255, 1 << 16, 320 },
+    { WS2S_REFUSED_TREE_SHORT, 0, "1201200040", "", 0, 64, 255, 1 << 16, 0 },
+    { WS2S_REFUSED_TREE_VERSION, 0, "1201200040", "22B800", 0, 64, 255, 1 << 16, 0 },
+    { WS2S_REFUSED_TREE_VARIABLES, 4, "1201200040", "19B800", 0, 64, 255, 1 << 16, 0 },
+    { WS2S_REFUSED_TREE_CUT, 16, "1201200040", "12B8", 0, 64, 255, 1 << 16, 0 },
+    { WS2S_REFUSED_TREE_BARE, 8, "1201200040", "1280", 0, 64, 255, 1 << 16, 0 },
+    { WS2S_REFUSED_TREE_BARE, 11, "1201200040", "12B000", 0, 64, 255, 1 << 16, 0 },
+    { WS2S_REFUSED_TREE_LEFT_OVER, 24, "1201200040", "12B80000", 0, 64, 255, 1 << 16, 0 },
+    { WS2S_REFUSED_TREE_LEFT_OVER, 22, "1201200040", "12B80200", 0, 64, 255, 1 << 16, 0 },
+    { WS2S_REFUSED_TREE_OTHER, 0, "1201200040", "11C0", 0, 64, 255, 1 << 16, 0 },
 };
 
 static void read_hex(struct strip *s, const char *hex, size_t more)
@@ -138,31 +143,66 @@ static void read_hex(struct strip *s, const char *hex, size_t more)
         s->byte[s->length++] = 0;
 }
 
+/* What is refused of a strip is told by its check too, with the same place. */
+static void try_check(const struct strip *rule, const struct strip *tree, uint64_t refusal, uint64_t place)
+{
+    ws2s_rule r = ws2s_check_rule(rule->byte, rule->length);
+    bool of_rule = refusal <= WS2S_REFUSED_UNUSED;
+    count(r.refusal == (of_rule ? refusal : 0) && r.place == (of_rule ? place : 0), "place of a rule's check", refusal, r.place);
+    if (tree) {
+        ws2s_tree t = ws2s_check_tree(tree->byte, tree->length);
+        bool of_tree = refusal >= WS2S_REFUSED_TREE_SHORT && refusal <= WS2S_REFUSED_TREE_LEFT_OVER;
+        count(t.refusal == (of_tree ? refusal : 0) && t.place == (of_tree ? place : 0), "place of a tree's check", refusal, t.place);
+    }
+}
+
+/* Lengths whose bits are more than a number of 64 bits can tell. There is no such
+ * memory: the heading is all that a rule of the wrong length is asked for. */
+static void try_lengths(void)
+{
+    static const uint8_t heading[] = { 0x12, 0x01 };
+    static const size_t lengths[] = { 3, 291, SIZE_MAX / 8, SIZE_MAX / 8 + 1, SIZE_MAX / 2, SIZE_MAX };
+    for (size_t i = 0; i < sizeof lengths / sizeof lengths[0]; i++) {
+        size_t length = lengths[i];
+        uint64_t bits = length > SIZE_MAX / 8 ? UINT64_MAX : 8 * (uint64_t)length;
+        lend_bytes(&lent, heading, sizeof heading, LENT_AT_END);
+        ws2s_rule r = ws2s_check_rule(lent.at, length);
+        ws2s_verdict v = ws2s_decide(lent.at, length, 1, 0, NULL, 0, NULL, 0);
+        ws2s_judgement j = ws2s_judge(lent.at, length, 1, NULL, 0, NULL, 0);
+        count(r.refusal == WS2S_REFUSED_RULE_LENGTH && v.refusal == r.refusal && j.refusal == r.refusal, "refusal of a length",
+              length, r.refusal);
+        count(r.place == bits && v.place == bits && j.place == bits, "place of a length", length, r.place);
+    }
+}
+
 static void try_names(uint8_t *workspace)
 {
     static struct strip rule, tree;
     uint8_t out[WS2S_MAX_TREE_BYTES];
     for (size_t i = 0; i < sizeof refusals / sizeof refusals[0]; i++) {
-        uint64_t kind, refusal;
+        uint64_t kind, refusal, place;
         read_hex(&rule, refusals[i].rule, refusals[i].more);
         if (refusals[i].tree) {
             read_hex(&tree, refusals[i].tree, 0);
             ws2s_judgement j = ws2s_judge(rule.byte, rule.length, refusals[i].c, workspace, refusals[i].workspace,
                                           tree.byte, tree.length);
-            kind = j.kind, refusal = j.refusal;
+            kind = j.kind, refusal = j.refusal, place = j.place;
         } else {
             ws2s_verdict v = ws2s_decide(rule.byte, rule.length, refusals[i].c, refusals[i].p, workspace,
                                          refusals[i].workspace, out, refusals[i].out);
-            kind = v.kind, refusal = v.refusal;
+            kind = v.kind, refusal = v.refusal, place = v.place;
         }
         count(kind == WS2S_REFUSED && refusal == refusals[i].refusal, "name of a refusal", refusals[i].refusal, refusal);
+        count(place == refusals[i].place, "place of a refusal", refusals[i].refusal, place);
+        try_check(&rule, refusals[i].tree ? &tree : NULL, refusal, place);
     }
     size_t at = 0; /* 20: a chain of one node too many */
     put(&tree, &at, 4, 1);
     put(&tree, &at, 4, 1);
     for (int i = 0; i <= WS2S_MAX_POSITIONS; i++)
         put(&tree, &at, 2, 3);
-    count(ws2s_check_tree(tree.byte, tree.length).refusal == WS2S_REFUSED_TREE_POSITIONS, "name of a refusal", 20, 0);
+    ws2s_tree many = ws2s_check_tree(tree.byte, tree.length);
+    count(many.refusal == WS2S_REFUSED_TREE_POSITIONS && many.place == at - 2, "name of a refusal", 20, many.place);
 
     static const struct {
         const char *rule;
@@ -201,7 +241,6 @@ struct node {
 };
 static struct node made[WS2S_MAX_POSITIONS];
 static unsigned nodes;
-static struct lent lent;
 
 /* Puts a tree of so many nodes at the place that the path leads to, labels at
  * random. bias: 0 a chain by the second branch, 1 one by the first, 2 any shape. */
@@ -290,6 +329,7 @@ int main(void)
     snprintf(lent_doing, sizeof lent_doing, "header");
     try_sizes(workspace);
     try_names(workspace);
+    try_lengths();
     try_texts();
     for (unsigned n = 1; n <= WS2S_MAX_VARIABLES; n++) {
         for (unsigned left = 0; left <= WS2S_MAX_POSITIONS; left++)
