@@ -1,15 +1,16 @@
 #include "words.h"
 
-#include <string.h>
+#include <inttypes.h>
+#include <stdbool.h>
 
-enum { HEADING = 16, RECORD = 18 }; /* bits */
+enum { HEADING = 16, RECORD = 18, FIRST_FIELD = 4, SECOND_FIELD = 11 }; /* bits; a record's fields from its start */
 enum op { SUBSET, SING, FIRST_BRANCH, SECOND_BRANCH, ROOT, NOT, OR, AND, EXISTS };
 
-static unsigned bits_at(const struct rule *rule, size_t at, unsigned count)
+static unsigned bits_at(const struct strip *strip, size_t at, unsigned count)
 {
     unsigned value = 0;
     for (; count > 0; count--, at++)
-        value = 2 * value + (rule->strip[at / 8] >> (7 - at % 8) & 1u);
+        value = 2 * value + (strip->byte[at / 8] >> (7 - at % 8) & 1u);
     return value;
 }
 
@@ -31,12 +32,13 @@ void put_name(FILE *to, const struct names *names, unsigned variable)
         fprintf(to, "X%u", variable);
 }
 
-void put_record(FILE *to, const struct rule *rule, unsigned record, const struct names *names)
+void put_record(FILE *to, const struct strip *rule, unsigned record, const struct names *names)
 {
     size_t at = end_of(record) - RECORD;
     if (end_of(record) > 8 * rule->length)
         return;
-    unsigned op = bits_at(rule, at, 4), first = bits_at(rule, at + 4, 7), second = bits_at(rule, at + 11, 7);
+    unsigned op = bits_at(rule, at, 4), first = bits_at(rule, at + FIRST_FIELD, 7);
+    unsigned second = bits_at(rule, at + SECOND_FIELD, 7);
     switch (op) {
     case SUBSET:
         put_name(to, names, first);
@@ -79,90 +81,143 @@ void put_record(FILE *to, const struct rule *rule, unsigned record, const struct
         fprintf(to, ", unused field %u", second);
 }
 
-/* Whether the library accepts the first records, up to this one, as a strip of
- * their own. A record is good or bad whatever follows it. */
-static int good_up_to(const struct rule *rule, unsigned record)
+static bool of_a_record(const struct refusal *r)
 {
-    uint8_t front[WS2S_MAX_RULE_BYTES] = { 0 };
-    size_t bits = end_of(record), length = (bits + 7) / 8;
-    if (length > rule->length || length > sizeof front)
-        return 0;
-    memcpy(front, rule->strip, length);
-    front[1] = (uint8_t)(record + 1);
-    if (bits % 8 != 0)
-        front[length - 1] &= (uint8_t)(0xFF << (8 - bits % 8));
-    return ws2s_check_rule(front, length).refusal == 0;
+    return r->number >= WS2S_REFUSED_OP && r->number <= WS2S_REFUSED_UNUSED;
 }
 
-unsigned first_bad_record(const struct rule *rule)
+/* The record that a place is in, and what starts there. */
+static unsigned record_at(uint64_t place)
 {
-    unsigned record = 0;
-    while (record < WS2S_MAX_RECORDS - 1 && good_up_to(rule, record))
-        record++;
-    return record;
+    return (unsigned)((place - HEADING) / RECORD);
 }
 
-static int of_a_record(uint64_t refusal)
+static const char *part_at(uint64_t place)
 {
-    return refusal >= WS2S_REFUSED_OP && refusal <= WS2S_REFUSED_UNUSED;
+    switch ((place - HEADING) % RECORD) {
+    case FIRST_FIELD: return "first field";
+    case SECOND_FIELD: return "second field";
+    default: return "op";
+    }
 }
 
-void put_rule(FILE *to, const struct rule *rule, uint64_t refusal, const struct names *names)
+void put_rule(FILE *to, const struct strip *rule, const struct refusal *refusal, const struct names *names)
 {
-    if (refusal >= WS2S_REFUSED_RULE_SHORT && refusal <= WS2S_REFUSED_RULE_RECORDS)
+    if (refusal->number >= WS2S_REFUSED_RULE_SHORT && refusal->number <= WS2S_REFUSED_RULE_RECORDS)
         return;
-    unsigned bad = of_a_record(refusal) ? first_bad_record(rule) : WS2S_MAX_RECORDS;
+    unsigned records = rule->byte[1], bad = of_a_record(refusal) ? record_at(refusal->place) : records;
     fprintf(to, "n=%u\n", bits_at(rule, 4, 4));
-    for (unsigned record = 0; record < rule->strip[1] && end_of(record) <= 8 * rule->length; record++) {
+    for (unsigned record = 0; record < records && end_of(record) <= 8 * rule->length; record++) {
         fprintf(to, "%u: ", record);
         put_record(to, rule, record, names);
         if (record == bad)
-            fprintf(to, "   <- refused %u", (unsigned)refusal);
+            fprintf(to, "   <- refused %" PRIu64 " at bit %" PRIu64 " (%s)", refusal->number, refusal->place,
+                    part_at(refusal->place));
         fputs("\n", to);
     }
 }
 
-/* What was found, in brackets, of refusals for which that says more. */
-static void put_found(FILE *to, uint64_t refusal, uint64_t record, const struct rule *rule,
-                      const struct names *names)
+/* Whether the bit length told may be that of a beginning alone. Trees that long are
+ * not refused for their length: 255 nodes end before. */
+static bool may_go_on(const struct refusal *r, const struct strip *strip)
 {
-    switch (refusal) {
-    case WS2S_REFUSED_RULE_VERSION:
-        fprintf(to, " (it is %u)", bits_at(rule, 0, 4));
-        break;
-    case WS2S_REFUSED_RULE_VARIABLES:
-        fprintf(to, " (it says %u)", bits_at(rule, 4, 4));
-        break;
-    case WS2S_REFUSED_RULE_RECORDS:
-        fprintf(to, " (it says %u)", rule->strip[1]);
+    return r->number == WS2S_REFUSED_RULE_LENGTH && strip->length > WS2S_MAX_RULE_BYTES;
+}
+
+static void put_place(FILE *to, const struct refusal *r, const struct strip *strip)
+{
+    bool of_rule = r->number <= WS2S_REFUSED_UNUSED;
+    if (of_rule || (r->number >= WS2S_REFUSED_TREE_SHORT && r->number <= WS2S_REFUSED_TREE_LEFT_OVER))
+        fprintf(to, " at bit %" PRIu64 "%s", r->place, may_go_on(r, strip) ? " or later" : "");
+}
+
+/* A place for a reader of bytes in hexadecimal. */
+static void put_byte_and_bit(FILE *to, uint64_t place)
+{
+    fprintf(to, "byte %" PRIu64 ", bit %" PRIu64 ", counted from 0 and from the left", place / 8, place % 8);
+}
+
+static void put_lengths(FILE *to, const struct refusal *r, const struct strip *rule)
+{
+    unsigned records = rule->byte[1];
+    fprintf(to, "%u record%s take%s %u bytes, and there are ", records, plural(records), records == 1 ? "s" : "",
+            (unsigned)((end_of(records) - RECORD + 7) / 8));
+    if (may_go_on(r, rule))
+        fprintf(to, "more than %d", WS2S_MAX_RULE_BYTES);
+    else
+        fprintf(to, "%u", (unsigned)rule->length);
+}
+
+static void put_numbered(FILE *to, const struct strip *rule, unsigned record, const char *part, const struct names *names)
+{
+    fprintf(to, "record %u%s%s: ", record, *part ? ", " : "", part);
+    put_record(to, rule, record, names);
+}
+
+/* Where it is, in words, and what was found there. */
+static void put_found(FILE *to, const struct refusal *r, const struct strip *strip, const struct names *names)
+{
+    switch (r->number) {
+    case WS2S_REFUSED_RULE_SHORT:
+        fputs(strip->length == 0 ? "there is none" : "there is 1", to);
         break;
     case WS2S_REFUSED_RULE_LENGTH:
-        fprintf(to, " (%u record%s take%s %u bytes, and there are ", rule->strip[1], plural(rule->strip[1]),
-                rule->strip[1] == 1 ? "s" : "", (unsigned)((end_of(rule->strip[1]) - RECORD + 7) / 8));
-        if (rule->length > WS2S_MAX_RULE_BYTES)
-            fputs("more)", to); /* no more than that is read */
-        else
-            fprintf(to, "%u)", (unsigned)rule->length);
+        put_lengths(to, r, strip);
+        break;
+    case WS2S_REFUSED_TREE_CUT:
+        fprintf(to, "after %u byte%s", (unsigned)strip->length, plural(strip->length));
+        break;
+    case WS2S_REFUSED_RULE_VERSION:
+    case WS2S_REFUSED_TREE_VERSION:
+        put_byte_and_bit(to, r->place);
+        fprintf(to, ": it is %u", bits_at(strip, r->place, 4));
+        break;
+    case WS2S_REFUSED_RULE_VARIABLES:
+    case WS2S_REFUSED_TREE_VARIABLES:
+        put_byte_and_bit(to, r->place);
+        fprintf(to, ": it says %u", bits_at(strip, r->place, 4));
+        break;
+    case WS2S_REFUSED_RULE_RECORDS:
+        put_byte_and_bit(to, r->place);
+        fprintf(to, ": it says %u", bits_at(strip, r->place, 8));
         break;
     case WS2S_REFUSED_OP:
+        put_numbered(to, strip, record_at(r->place), "", names);
+        break;
     case WS2S_REFUSED_VARIABLE:
     case WS2S_REFUSED_RECORD:
     case WS2S_REFUSED_UNUSED:
-        record = first_bad_record(rule); /* fall through */
+        put_numbered(to, strip, record_at(r->place), part_at(r->place), names);
+        break;
     case WS2S_REFUSED_STATES:
-        fprintf(to, " (record %u: ", (unsigned)record);
-        put_record(to, rule, (unsigned)record, names);
-        fputs(")", to);
+        put_numbered(to, strip, (unsigned)r->record, "", names);
         break;
+    case WS2S_REFUSED_TREE_LEFT_OVER: /* padding never starts a byte */
+        if (r->place % 8 == 0) {
+            fprintf(to, "byte %" PRIu64 ", counted from 0, is the first left over", r->place / 8);
+            break;
+        } /* fall through */
     default:
-        break;
+        put_byte_and_bit(to, r->place);
     }
 }
 
-void put_refusal(FILE *to, uint64_t refusal, uint64_t record, const struct rule *rule,
-                 const struct names *names)
+/* Of these the number says it all. */
+static bool nothing_to_find(uint64_t number)
 {
-    fprintf(to, "refused %u: %s", (unsigned)refusal, ws2s_refusal_text(refusal));
-    put_found(to, refusal, record, rule, names);
-    fprintf(to, "; %s\n", ws2s_refusal_help(refusal));
+    return (number >= WS2S_REFUSED_CEILING && number <= WS2S_REFUSED_OUT) || number == WS2S_REFUSED_TREE_SHORT
+        || number == WS2S_REFUSED_TREE_OTHER;
+}
+
+void put_refusal(FILE *to, const struct refusal *refusal, const struct strip *strip, const struct names *names)
+{
+    fprintf(to, "refused %" PRIu64, refusal->number);
+    put_place(to, refusal, strip);
+    fprintf(to, ": %s", ws2s_refusal_text(refusal->number));
+    if (!nothing_to_find(refusal->number)) {
+        fputs(" (", to);
+        put_found(to, refusal, strip, names);
+        fputs(")", to);
+    }
+    fprintf(to, "; %s\n", ws2s_refusal_help(refusal->number));
 }

@@ -1,4 +1,4 @@
-/* What a rule strip says and why one is refused, in words. */
+/* What a rule strip says, and why and where a strip is refused, in words. */
 #ifndef WORDS_H
 #define WORDS_H
 
@@ -17,26 +17,29 @@ struct names {
 
 void put_name(FILE *to, const struct names *names, unsigned variable);
 
-/* A rule strip of any bytes. */
-struct rule {
-    const uint8_t *strip;
+/* A strip of any bytes. */
+struct strip {
+    const uint8_t *byte;
     size_t length;
 };
 
-/* A record in words, if it lies within the strip. */
-void put_record(FILE *to, const struct rule *rule, unsigned record, const struct names *names);
+/* What a strip is refused for: the number, with 14 the record, and where the
+ * number has one the place. */
+struct refusal {
+    uint64_t number, record, place;
+};
 
-/* The record that a strip is refused for with 7 to 10. */
-unsigned first_bad_record(const struct rule *rule);
+/* A record in words, if it lies within the rule. */
+void put_record(FILE *to, const struct strip *rule, unsigned record, const struct names *names);
 
 /* The number of variables and each record on a line of its own, as far as the
- * bytes go, the first bad one marked. Of a strip that is refused for its heading
- * nothing is told. */
-void put_rule(FILE *to, const struct rule *rule, uint64_t refusal, const struct names *names);
+ * bytes go, the first bad one marked with the place. Of a rule that is refused for
+ * its heading nothing is told. */
+void put_rule(FILE *to, const struct strip *rule, const struct refusal *refusal, const struct names *names);
 
-/* A refusal as a sentence: its number, why, what was found, what helps. The rule
- * is asked for where the refusal, or with 14 the record, is one of the rule's. */
-void put_refusal(FILE *to, uint64_t refusal, uint64_t record, const struct rule *rule,
-                 const struct names *names);
+/* A refusal as a sentence: its number and place, why, where in words and what was
+ * found there, what helps. The strip is the one that is refused, with 14 the rule;
+ * where it has more bytes than the longest, there may be more that were not read. */
+void put_refusal(FILE *to, const struct refusal *refusal, const struct strip *strip, const struct names *names);
 
 #endif

@@ -70,11 +70,10 @@ static enum status trouble(const char *with)
     return say(TROUBLE, "%s: %s", with, strerror(errno));
 }
 
-static enum status refuse(const char *file, uint64_t refusal, uint64_t record, const struct rule *rule,
-                          const struct names *names)
+static enum status refuse(const char *file, struct refusal refusal, const struct strip *strip, const struct names *names)
 {
     fprintf(stderr, "ws2s: %s: ", title(file));
-    put_refusal(stderr, refusal, record, rule, names);
+    put_refusal(stderr, &refusal, strip, names);
     return REFUSED;
 }
 
@@ -195,43 +194,41 @@ static enum status too_many_names(const struct names *names, uint64_t variables)
 
 /* ---- Files ---- */
 
-enum { MOST_BYTES = WS2S_MAX_TREE_BYTES + 1 };
-struct bytes {
-    uint8_t byte[MOST_BYTES];
-    size_t length;
-};
-
 /* Reads a strip that may have so many bytes. Of a longer one a byte more is read,
  * which is enough for its refusal. */
-static enum status read_strip(const char *file, size_t most, struct bytes *b)
+static enum status read_strip(const char *file, size_t most, uint8_t *bytes, struct strip *strip)
 {
     FILE *from = strcmp(file, "-") == 0 ? stdin : fopen(file, "rb");
     if (!from)
         return trouble(file);
-    b->length = fread(b->byte, 1, most + 1, from);
+    *strip = (struct strip){ bytes, fread(bytes, 1, most + 1, from) };
     enum status status = ferror(from) ? trouble(title(file)) : GOOD;
     if (from != stdin)
         fclose(from);
     return status;
 }
 
-static enum status read_rule(const char *file, struct bytes *b, struct rule *rule)
+static enum status read_rule(const char *file, struct strip *rule)
 {
-    enum status status = read_strip(file, WS2S_MAX_RULE_BYTES, b);
-    *rule = (struct rule){ b->byte, b->length };
-    return status;
+    static uint8_t bytes[WS2S_MAX_RULE_BYTES + 1];
+    return read_strip(file, WS2S_MAX_RULE_BYTES, bytes, rule);
+}
+
+static enum status read_tree(const char *file, struct strip *tree)
+{
+    static uint8_t bytes[WS2S_MAX_TREE_BYTES + 1];
+    return read_strip(file, WS2S_MAX_TREE_BYTES, bytes, tree);
 }
 
 /* ---- The subcommands ---- */
 
 /* A rule and what its variables are called, from the words RULE [NAME...]. */
-static enum status read_named_rule(const struct arguments *a, struct rule *rule, struct names *names, ws2s_rule *checked)
+static enum status read_named_rule(const struct arguments *a, struct strip *rule, struct names *names, ws2s_rule *checked)
 {
-    static struct bytes bytes;
     enum status status;
-    if ((status = read_names(a, 1, names)) || (status = read_rule(a->operand[0], &bytes, rule)))
+    if ((status = read_names(a, 1, names)) || (status = read_rule(a->operand[0], rule)))
         return status;
-    *checked = ws2s_check_rule(rule->strip, rule->length);
+    *checked = ws2s_check_rule(rule->byte, rule->length);
     return checked->refusal == 0 ? too_many_names(names, checked->variables) : GOOD;
 }
 
@@ -261,7 +258,7 @@ static enum status decide(const struct arguments *a)
 {
     uint8_t out[WS2S_MAX_TREE_BYTES];
     FILE *words = a->form == OUTLINE ? stdout : stderr; /* in other forms standard output has trees alone */
-    struct rule rule;
+    struct strip rule;
     struct names names;
     ws2s_rule checked;
     enum status status;
@@ -271,7 +268,7 @@ static enum status decide(const struct arguments *a)
     uint8_t *workspace = malloc(size > 0 ? size : 1);
     if (!workspace)
         return trouble("workspace");
-    ws2s_verdict v = ws2s_decide(rule.strip, rule.length, a->c, a->p, workspace, size, out, sizeof out);
+    ws2s_verdict v = ws2s_decide(rule.byte, rule.length, a->c, a->p, workspace, size, out, sizeof out);
     free(workspace);
     switch (v.kind) {
     case WS2S_SHOWN:
@@ -288,26 +285,25 @@ static enum status decide(const struct arguments *a)
                 plural(a->p));
         return LARGER;
     default:
-        return refuse(a->operand[0], v.refusal, v.record, &rule, &names);
+        return refuse(a->operand[0], (struct refusal){ v.refusal, v.record, v.place }, &rule, &names);
     }
 }
 
 static enum status judge(const struct arguments *a)
 {
-    static struct bytes bytes, report;
     static const struct names names;
-    struct rule rule;
+    struct strip rule, report;
     enum status status;
     if (strcmp(a->operand[0], "-") == 0 && strcmp(a->operand[1], "-") == 0)
         return usage("rule and tree cannot both be standard input");
-    if ((status = read_rule(a->operand[0], &bytes, &rule))
-        || (status = read_strip(a->operand[1], WS2S_MAX_TREE_BYTES, &report)))
+    if ((status = read_rule(a->operand[0], &rule)) || (status = read_tree(a->operand[1], &report)))
         return status;
-    size_t size = ws2s_workspace_size(ws2s_check_rule(rule.strip, rule.length), a->c);
+    size_t size = ws2s_workspace_size(ws2s_check_rule(rule.byte, rule.length), a->c);
     uint8_t *workspace = malloc(size > 0 ? size : 1);
     if (!workspace)
         return trouble("workspace");
-    ws2s_judgement j = ws2s_judge(rule.strip, rule.length, a->c, workspace, size, report.byte, report.length);
+    ws2s_judgement j = ws2s_judge(rule.byte, rule.length, a->c, workspace, size, report.byte, report.length);
+    bool of_tree = j.refusal >= WS2S_REFUSED_TREE_SHORT;
     free(workspace);
     switch (j.kind) {
     case WS2S_YES:
@@ -317,62 +313,65 @@ static enum status judge(const struct arguments *a)
         printf("no: the tree does not satisfy the rule\n");
         return BAD;
     default:
-        return refuse(a->operand[j.refusal >= WS2S_REFUSED_TREE_SHORT], j.refusal, j.record, &rule, &names);
+        return refuse(a->operand[of_tree], (struct refusal){ j.refusal, j.record, j.place }, of_tree ? &report : &rule,
+                      &names);
     }
 }
 
 static enum status check(const struct arguments *a)
 {
-    static struct bytes bytes;
     static const struct names names;
-    struct rule rule = { NULL, 0 };
+    struct strip strip;
+    struct refusal refusal = { 0, 0, 0 };
     enum status status;
-    uint64_t refusal;
     if (strcmp(a->operand[0], "rule") == 0) {
-        if ((status = read_rule(a->operand[1], &bytes, &rule)))
+        if ((status = read_rule(a->operand[1], &strip)))
             return status;
-        ws2s_rule r = ws2s_check_rule(rule.strip, rule.length);
-        if ((refusal = r.refusal) == 0)
+        ws2s_rule r = ws2s_check_rule(strip.byte, strip.length);
+        refusal.number = r.refusal, refusal.place = r.place;
+        if (r.refusal == 0)
             printf("accepted: %u variable%s, %u record%s\n", (unsigned)r.variables, plural(r.variables),
                    (unsigned)r.records, plural(r.records));
     } else if (strcmp(a->operand[0], "tree") == 0) {
-        if ((status = read_strip(a->operand[1], WS2S_MAX_TREE_BYTES, &bytes)))
+        if ((status = read_tree(a->operand[1], &strip)))
             return status;
-        ws2s_tree t = ws2s_check_tree(bytes.byte, bytes.length);
-        if ((refusal = t.refusal) == 0)
+        ws2s_tree t = ws2s_check_tree(strip.byte, strip.length);
+        refusal.number = t.refusal, refusal.place = t.place;
+        if (t.refusal == 0)
             printf("accepted: %u variable%s, %u place%s\n", (unsigned)t.variables, plural(t.variables),
                    (unsigned)t.positions, plural(t.positions));
     } else {
         return usage("check is of a rule or of a tree");
     }
-    return refusal == 0 ? GOOD : refuse(a->operand[1], refusal, 0, &rule, &names);
+    return refusal.number == 0 ? GOOD : refuse(a->operand[1], refusal, &strip, &names);
 }
 
 static enum status print(const struct arguments *a)
 {
-    struct rule rule;
+    struct strip rule;
     struct names names;
     ws2s_rule checked;
     enum status status;
     if ((status = read_named_rule(a, &rule, &names, &checked)))
         return status;
-    put_rule(stdout, &rule, checked.refusal, &names);
-    return checked.refusal == 0 ? GOOD : refuse(a->operand[0], checked.refusal, 0, &rule, &names);
+    struct refusal refusal = { checked.refusal, 0, checked.place };
+    put_rule(stdout, &rule, &refusal, &names);
+    return refusal.number == 0 ? GOOD : refuse(a->operand[0], refusal, &rule, &names);
 }
 
 static enum status tree(const struct arguments *a)
 {
-    static struct bytes bytes;
+    struct strip strip;
     struct names names;
     enum status status;
-    if ((status = read_names(a, 1, &names)) || (status = read_strip(a->operand[0], WS2S_MAX_TREE_BYTES, &bytes)))
+    if ((status = read_names(a, 1, &names)) || (status = read_tree(a->operand[0], &strip)))
         return status;
-    ws2s_tree checked = ws2s_check_tree(bytes.byte, bytes.length);
+    ws2s_tree checked = ws2s_check_tree(strip.byte, strip.length);
     if (checked.refusal != 0)
-        return refuse(a->operand[0], checked.refusal, 0, NULL, &names);
+        return refuse(a->operand[0], (struct refusal){ checked.refusal, 0, checked.place }, &strip, &names);
     if ((status = too_many_names(&names, checked.variables)))
         return status;
-    put_tree(bytes.byte, bytes.length, a->form, &names);
+    put_tree(strip.byte, strip.length, a->form, &names);
     return GOOD;
 }
 

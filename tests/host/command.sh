@@ -105,7 +105,7 @@ expect 1 'none: no finite sets satisfy the rule' '' decide $samples/kinds_in_a_c
 expect 1 '' 'none: no finite sets satisfy the rule' decide --svg $samples/kinds_in_a_circle.rul
 expect 2 'larger: finite sets satisfy the rule, but all of them take more than 1 place' '' decide -p 1 $samples/first_inside.rul
 expect 2 '' 'larger: finite sets satisfy the rule, but all of them take more than 1 place' decide -p 1 --hex $samples/first_inside.rul
-expect 3 '' 'ws2s: samples/cut_short.rul: refused 5: the rule'\''s length does not fit its records (1 record takes 5 bytes, and there are 4); it was cut, or has bytes left over' \
+expect 3 '' 'ws2s: samples/cut_short.rul: refused 5 at bit 32: the rule'\''s length does not fit its records (1 record takes 5 bytes, and there are 4); it was cut, or has bytes left over' \
     decide $samples/cut_short.rul
 expect 3 '' 'ws2s: samples/belt_in_every_seat.rul: refused 14: a record needs more than c states (record 7: exists other: 6); raise c, at most to 64, or simplify that record' \
     decide -c 16 $samples/belt_in_every_seat.rul seat belt other
@@ -170,15 +170,43 @@ expect 1 'no: the tree does not satisfy the rule' '' judge $samples/one_part.rul
 expect 3 '' "ws2s: $room/empty: refused 22: tree and rule have different numbers of variables; give the tree the rule's number" \
     judge $samples/crash_report.rul "$room/empty"
 refuses 3 'samples/one_part.rul: refused 14: a record needs more than c states (record 0: Sing(X0))' judge -c 2 $samples/one_part.rul "$room/empty"
-refuses 3 'samples/cut_short.rul: refused 5' judge $samples/cut_short.rul "$room/empty"
+refuses 3 'samples/cut_short.rul: refused 5 at bit 32: ' judge $samples/cut_short.rul "$room/empty"
 strip bare 022 200
-expect 3 '' "ws2s: $room/bare: refused 19: a node with label 0 has no branches; leave such nodes out" tree "$room/bare"
-refuses 3 "$room/bare: refused 19" judge $samples/first_inside.rul "$room/bare"
-refuses 3 "$room/bare: refused 19" check tree "$room/bare"
+expect 3 '' "ws2s: $room/bare: refused 19 at bit 8: a node with label 0 has no branches (byte 1, bit 0, counted from 0 and from the left); leave such nodes out" tree "$room/bare"
+refuses 3 "$room/bare: refused 19 at bit 8: " judge $samples/first_inside.rul "$room/bare"
+refuses 3 "$room/bare: refused 19 at bit 8: " check tree "$room/bare"
+strip bare 022 260 000
+refuses 3 'refused 19 at bit 11: a node with label 0 has no branches (byte 1, bit 3, counted' check tree "$room/bare"
 strip nothing
-refuses 3 "$room/nothing: refused 15" tree "$room/nothing"
-refuses 3 'standard input: refused 15' check tree -
-refuses 3 'standard input: refused 1: the rule has fewer than two bytes; was the whole file read?' check rule -
+refuses 3 "$room/nothing: refused 15 at bit 0: the tree has no bytes; was the whole file read?" tree "$room/nothing"
+refuses 3 'standard input: refused 15 at bit 0: ' check tree -
+refuses 3 'standard input: refused 1 at bit 0: the rule has fewer than two bytes (there is none); was the whole file read?' check rule -
+strip bad 021
+refuses 3 'refused 1 at bit 8: the rule has fewer than two bytes (there is 1); was the whole file read?' check rule "$room/bad"
+refuses 3 "refused 18 at bit 8: the tree's bits end early (after 1 byte); the strip was cut" check tree "$room/bad"
+strip bad 042 270 000
+refuses 3 "refused 16 at bit 0: the tree's version is not 1 (byte 0, bit 0, counted from 0 and from the left: it is 2); write" check tree "$room/bad"
+strip bad 031 270 000
+refuses 3 'refused 17 at bit 4: the tree has no variable or more than 8 (byte 0, bit 4, counted from 0 and from the left: it says 9); use' tree "$room/bad"
+strip bad 022 270
+refuses 3 "refused 18 at bit 16: the tree's bits end early (after 2 bytes); the strip was cut" tree "$room/bad"
+strip bad 022 270 002
+refuses 3 'refused 21 at bit 22: a padding bit of the tree is set, or bytes are left over (byte 2, bit 6, counted from 0 and from the left); cut' tree "$room/bad"
+strip bad 022 270 002 000
+refuses 3 'refused 21 at bit 22: a padding bit of the tree is set, or bytes are left over (byte 2, bit 6, counted from 0 and from the left); cut' check tree "$room/bad"
+strip bad 022 270 000 000
+refuses 3 'refused 21 at bit 24: a padding bit of the tree is set, or bytes are left over (byte 3, counted from 0, is the first left over); cut the strip at its end' \
+    judge $samples/first_inside.rul "$room/bad"
+{ printf '\021' && head -c 100 /dev/zero | tr '\000' '\377'; } >"$room/bad"
+refuses 3 'refused 20 at bit 518: the tree has more than 255 positions (byte 64, bit 6, counted from 0 and from the left); judge' check tree "$room/bad"
+{ cat "$room/bad" && cat /dev/zero; } 2>/dev/null | "$command" check tree - >"$room/out" 2>"$room/err"
+status=$?
+grep -qF 'standard input: refused 20 at bit 518: ' "$room/err" && [ $status -eq 3 ] && right=yes || right=no
+verdict $right 'check of an endless tree with too many nodes'
+{ printf '\022\270' && cat /dev/zero; } 2>/dev/null | "$command" tree - >"$room/out" 2>"$room/err"
+status=$?
+grep -qF 'standard input: refused 21 at bit 24: ' "$room/err" && [ $status -eq 3 ] && right=yes || right=no
+verdict $right 'an endless tree'
 
 # ---- check and print
 expect 0 'accepted: 3 variables, 11 records' '' check rule $samples/belt_in_every_seat.rul
@@ -209,44 +237,59 @@ expect 0 'n=8
 rule bad 2 '0 0 1' '5 2 0' '9 96 2' '1 9 5' '4 0 3' '5 0 7'
 expect 3 'n=2
 0: X0 ⊆ a
-1: not 2   <- refused 9
+1: not 2   <- refused 9 at bit 38 (first field)
 2: op 9, fields 96 and 2
 3: Sing(X9), unused field 5
 4: X0 = ε, unused field 3
-5: not 0, unused field 7' "ws2s: $room/bad: refused 9: a record names itself or a later record (record 1: not 2); put the record that it uses before it" \
+5: not 0, unused field 7' "ws2s: $room/bad: refused 9 at bit 38: a record names itself or a later record (record 1, first field: not 2); put the record that it uses before it" \
     print "$room/bad" X0 a
 rule bad 1 '0 0 0' '0 0 0' '2 0 1'
 expect 3 'n=1
 0: X0 ⊆ X0
 1: X0 ⊆ X0
-2: X0 = X1 1   <- refused 8' "ws2s: $room/bad: refused 8: a record names a variable that there is not (record 2: X0 = X1 1); correct the record, or the number of variables" \
+2: X0 = X1 1   <- refused 8 at bit 63 (second field)' "ws2s: $room/bad: refused 8 at bit 63: a record names a variable that there is not (record 2, second field: X0 = X1 1); correct the record, or the number of variables" \
     print "$room/bad"
-refuses 3 'refused 8: a record names a variable that there is not (record 2: X0 = X1 1); correct' decide "$room/bad"
+refuses 3 'refused 8 at bit 63: a record names a variable that there is not (record 2, second field: X0 = X1 1); correct' decide "$room/bad"
+refuses 3 'refused 8 at bit 63: a record names a variable that there is not (record 2, second field: X0 = X1 1); correct' judge "$room/bad" "$room/bare"
+rule bad 1 '0 0 0' '2 1 1'
+refuses 3 'refused 8 at bit 38: a record names a variable that there is not (record 1, first field: X1 = X1 1); correct' check rule "$room/bad"
+rule bad 1 '0 0 0' '7 0 1'
+refuses 3 'refused 9 at bit 45: a record names itself or a later record (record 1, second field: 0 and 1); put' check rule "$room/bad"
 rule bad 1 '1 0 1'
-refuses 3 'refused 10: an unused field is not 0 (record 0: Sing(X0), unused field 1); set it to 0' check rule "$room/bad"
+refuses 3 'refused 10 at bit 27: an unused field is not 0 (record 0, second field: Sing(X0), unused field 1); set it to 0' check rule "$room/bad"
 rule bad 1 '0 0 0' '10 1 0'
-refuses 3 'refused 7: a record has an unknown op (record 1: op 10, fields 1 and 0); the file is' check rule "$room/bad"
+refuses 3 'refused 7 at bit 34: a record has an unknown op (record 1: op 10, fields 1 and 0); the file is' check rule "$room/bad"
+expect 3 'n=1
+0: X0 ⊆ X0
+1: op 10, fields 1 and 0   <- refused 7 at bit 34 (op)' "ws2s: $room/bad: refused 7 at bit 34: a record has an unknown op (record 1: op 10, fields 1 and 0); the file is damaged or too new" \
+    print "$room/bad"
 strip bad 042 001 040 000 100
-refuses 3 "refused 2: the rule's version is not 1 (it is 2); write" print "$room/bad"
+refuses 3 "refused 2 at bit 0: the rule's version is not 1 (byte 0, bit 0, counted from 0 and from the left: it is 2); write" print "$room/bad"
 strip bad 031 001 040 000 100
-refuses 3 'refused 3: the rule has no variable or more than 8 (it says 9); use' print "$room/bad"
+refuses 3 'refused 3 at bit 4: the rule has no variable or more than 8 (byte 0, bit 4, counted from 0 and from the left: it says 9); use' print "$room/bad"
 strip bad 022 201 040 000 100
-refuses 3 'refused 4: the rule has no record or more than 128 (it says 129); split it' print "$room/bad"
-expect 3 'n=2' "ws2s: samples/cut_short.rul: refused 5: the rule's length does not fit its records (1 record takes 5 bytes, and there are 4); it was cut, or has bytes left over" \
+refuses 3 'refused 4 at bit 8: the rule has no record or more than 128 (byte 1, bit 0, counted from 0 and from the left: it says 129); split it' print "$room/bad"
+expect 3 'n=2' "ws2s: samples/cut_short.rul: refused 5 at bit 32: the rule's length does not fit its records (1 record takes 5 bytes, and there are 4); it was cut, or has bytes left over" \
     print $samples/cut_short.rul
 input=/dev/zero
-refuses 3 "standard input: refused 2: the rule's version is not 1 (it is 0); write" decide -
-refuses 3 "standard input: refused 16" tree -
+refuses 3 "standard input: refused 2 at bit 0: the rule's version is not 1 (byte 0, bit 0, counted from 0 and from the left: it is 0); write" decide -
+refuses 3 'standard input: refused 16 at bit 0: ' tree -
 input=
 { printf '\022\001\040\000\100' && cat /dev/zero; } 2>/dev/null | "$command" print - >"$room/out" 2>"$room/err"
 status=$?
-grep -qF 'refused 5: the rule'\''s length does not fit its records (1 record takes 5 bytes, and there are more)' "$room/err" && [ $status -eq 3 ] &&
+grep -qF 'refused 5 at bit 2328 or later: the rule'\''s length does not fit its records (1 record takes 5 bytes, and there are more than 290)' "$room/err" && [ $status -eq 3 ] &&
     [ "$(cat "$room/out")" = 'n=2
 0: X0 = X1 1' ] && right=yes || right=no
 verdict $right 'print of an endless strip'
+{ printf '\022\001\040\000\100' && head -c 285 /dev/zero; } >"$room/bad"
+refuses 3 "refused 5 at bit 2320: the rule's length does not fit its records (1 record takes 5 bytes, and there are 290); it" check rule "$room/bad"
+printf '\000' >>"$room/bad"
+refuses 3 "refused 5 at bit 2328 or later: the rule's length does not fit its records (1 record takes 5 bytes, and there are more than 290); it" check rule "$room/bad"
 strip bad 022 001 040 000 101
 expect 3 'n=2
-0: X0 = X1 1' "ws2s: $room/bad: refused 6: a padding bit of the rule is set; the file is damaged" print "$room/bad"
+0: X0 = X1 1' "ws2s: $room/bad: refused 6 at bit 39: a padding bit of the rule is set (byte 4, bit 7, counted from 0 and from the left); the file is damaged" print "$room/bad"
+strip bad 022 001 040 000 124
+refuses 3 'refused 6 at bit 35: a padding bit of the rule is set (byte 4, bit 3, counted from 0 and from the left); the file is damaged' check rule "$room/bad"
 
 # ---- standard input
 input=$samples/first_inside.rul
@@ -255,7 +298,7 @@ expect 0 'n=2
 0: X0 = X1 1' '' print -
 printf '\022\270' >"$room/other" && printf '\022\270\000' >"$room/fits"
 expect 0 'yes: the tree satisfies the rule' '' judge - "$room/fits"
-refuses 3 "$room/other: refused 18" judge - "$room/other"
+refuses 3 "$room/other: refused 18 at bit 16: " judge - "$room/other"
 input=
 
 # ---- a wrong command line
