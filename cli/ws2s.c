@@ -356,6 +356,7 @@ static enum status print(const struct arguments *a)
         return status;
     struct refusal refusal = { checked.refusal, 0, checked.place };
     put_rule(stdout, &rule, &refusal, &names);
+    fflush(stdout); /* the records come before the sentence where both go to one file; main tells if this fails */
     return refusal.number == 0 ? GOOD : refuse(a->operand[0], refusal, &rule, &names);
 }
 

@@ -50,6 +50,8 @@ int main(int argc, char **argv)
         printf("refused %d: %s; %s\n", (int)v.refusal, ws2s_refusal_text(v.refusal), ws2s_refusal_help(v.refusal));
         if (v.refusal == WS2S_REFUSED_STATES)
             printf("the record is number %d\n", (int)v.record);
+        if (v.refusal <= WS2S_REFUSED_UNUSED) /* the strip itself is at fault */
+            printf("at bit %d of what was read, counted from 0\n", (int)v.place);
         return 3;
     }
 }

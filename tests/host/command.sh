@@ -291,6 +291,14 @@ expect 3 'n=2
 strip bad 022 001 040 000 124
 refuses 3 'refused 6 at bit 35: a padding bit of the rule is set (byte 4, bit 3, counted from 0 and from the left); the file is damaged' check rule "$room/bad"
 
+# the records come first where both outputs are one
+"$command" print $samples/out_of_order.rul >"$room/out" 2>&1
+status=$?
+: >"$room/err"
+[ $status -eq 3 ] && [ "$(sed -n '1p; $p' "$room/out" | cut -c1-20)" = 'n=2
+ws2s: samples/out_of' ] && right=yes || right=no
+verdict $right 'print to one file'
+
 # ---- standard input
 input=$samples/first_inside.rul
 expect 0 12B800 '' decide --hex -

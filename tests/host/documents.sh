@@ -6,9 +6,9 @@
 # from the top of the repository.
 # - Every command that README.md, samples/README.md and the manual pages show after
 #   a prompt is run, and must write what they show after it.
-# - The README's C program is the example host; its table of refusals and that of
-#   ws2s(3) have the header's names and texts; the manual's example prints what it
-#   says.
+# - The README's C program is the example host; its table of refusals and those of
+#   ws2s(3) have the header's names, texts and places; the manual's structures are
+#   the header's; the manual's example prints what it says.
 # - Every sample has a row in samples/README.md, with its records as the command
 #   prints them and the verdict program's verdict.
 # - The picture is the one that the command draws.
@@ -76,8 +76,26 @@ ${CC:-cc} -std=c99 -Iinclude "$room/refusals.c" -o "$room/refusals"
 # shellcheck disable=SC2046 # a word for each name, in the order of their numbers
 "$room/refusals" $(sed -n 's/^ *WS2S_REFUSED_\([A-Z_]*\) = \([0-9]*\).*/\2 \1/p' include/ws2s.h | sort -n | cut -d' ' -f2) >"$room/refused"
 [ "$(wc -l <"$room/refused")" -eq 22 ] || { echo 'the header does not have 22 refusals'; failed=1; }
-differs 'README, refusals' "$(sed -n 's/^| \([0-9]*\) | `\([A-Z_]*\)` | \(.*\) | \(.*\) |$/\1|\2|\3|\4/p' README.md)" "$(cat "$room/refused")"
-differs 'ws2s(3), refusals' "$(sed -n 's/^ *\([0-9][0-9]*\)  \([A-Z][A-Z_]*\)  *\([a-z].*\)$/\1|\2|\3/p' man/ws2s.3)" "$(cut -d'|' -f1-3 "$room/refused")"
+# the places stand in brackets after the header's words for a refusal, at times on the next line
+awk '/^ *WS2S_REFUSED_[A-Z_]* = / { name = $1; sub(/^WS2S_REFUSED_/, "", name); number = $3 + 0 }
+    /^};/ { name = "" }
+    name && match($0, /\[[^]]*\]/) { print number "|" name "|" substr($0, RSTART + 1, RLENGTH - 2) }' include/ws2s.h >"$room/places"
+[ "$(wc -l <"$room/places")" -eq 17 ] || { echo 'the header does not have 17 places'; failed=1; }
+awk -F'|' 'NR == FNR { place[$1] = $3; next } { print $0 "|" place[$1] }' "$room/places" "$room/refused" >"$room/rows"
+differs 'README, refusals' "$(sed -n 's/^| \([0-9]*\) | `\([A-Z_]*\)` | \(.*\) | \(.*\) | *\(.*\)|$/\1|\2|\3|\4|\5/p' README.md | sed 's/ $//')" "$(cat "$room/rows")"
+table() { # SECTION: the numbered rows of a table of ws2s(3)
+    awk -v section=".SH $1" '/^\.SH / { inside = $0 == section } inside' man/ws2s.3 |
+        sed -n 's/^ *\([0-9][0-9]*\)  \([A-Z][A-Z_]*\)  *\([a-z0-9].*\)$/\1|\2|\3/p'
+}
+differs 'ws2s(3), refusals' "$(table REFUSALS)" "$(cut -d'|' -f1-3 "$room/refused")"
+differs 'ws2s(3), places' "$(table PLACES)" "$(cat "$room/places")"
+structures() { # FILE...: the results' fields, with their names
+    sed 's/^\.B "*//; s/"$//' "$@" | awk '/^typedef struct \{/ { fields = ""; next } /^ *uint64_t [a-z, ]*;$/ { sub(/^ */, ""); fields = $0; next }
+        /^\} ws2s_[a-z]*;/ { if (fields) print $2, fields; fields = "" }' | sort
+}
+structures include/ws2s.h >"$room/structures"
+[ "$(wc -l <"$room/structures")" -eq 4 ] || { echo 'the header does not have 4 results'; failed=1; }
+differs 'manual pages, structures' "$(structures man/ws2s_check_rule.3 man/ws2s_check_tree.3 man/ws2s_judge.3 man/ws2s_decide.3)" "$(cat "$room/structures")"
 
 # ---- The samples: `file` in the first column, records in the last but one, `verdict` in the last
 
@@ -87,7 +105,7 @@ for rule in samples/*.rul; do
     differs "$rule" "$(printf '%s\n' "$row" | sed 's/.*| `\([^`]*\)` |$/\1/')" "$("$verdict" <"$rule")"
     rows=$((rows + 1))
     case $row in *', cut |'* | *' to 16: '*) continue ;; esac
-    differs "$rule" "$(printf '%s\n' "$row" | sed 's/ | `[^`]*` |$//; s/.* | //')" "$("$command" print "$rule" | sed ':a; N; $!ba; s/\n/; /g')"
+    differs "$rule" "$(printf '%s\n' "$row" | sed 's/ | `[^`]*` |$//; s/.* | //')" "$("$command" print "$rule" 2>/dev/null | sed ':a; N; $!ba; s/\n/; /g')"
     printed=$((printed + 1))
 done
 [ "$rows" -eq "$(grep -c '^| `.*\.rul` |' samples/README.md)" ] || { echo 'samples/README.md has rows without a sample'; failed=1; }

@@ -18,7 +18,7 @@ int uses(ws2s_rule rule, const uint8_t *tree, size_t length, uint64_t number);
 int uses(ws2s_rule rule, const uint8_t *tree, size_t length, uint64_t number)
 {
     ws2s_walk walk;
-    int members = 0;
+    int members = rule.place == ws2s_check_tree(tree, length).place;
     ws2s_walk_begin(&walk, tree, length);
     while (ws2s_walk_next(&walk))
         members += ws2s_walk_has(&walk, 0);
@@ -47,6 +47,9 @@ run_example() { # COMPILER STANDARD SOURCE UNIT
     [ "$said" = 'shown, places: 2
 - seat
   - belt' ] || { echo "header.sh: the example says, as $2: $said"; exit 1; }
+    said=$("$room/host" samples/cut_short.rul) || [ $? -eq 3 ] || exit 1
+    [ "$said" = 'refused 5: the rule'\''s length does not fit its records; it was cut, or has bytes left over
+at bit 32 of what was read, counted from 0' ] || { echo "header.sh: the example says, as $2, of a strip that was cut: $said"; exit 1; }
 }
 run_example "${CC:-cc}" c99 examples/host.c "$room/uses.c"
 run_example "${CXX:-c++}" c++11 "$room/host.cc" "$room/uses.cc"
