@@ -306,7 +306,7 @@ expect 0 'n=2
 0: X0 = X1 1' '' print -
 printf '\022\270' >"$room/other" && printf '\022\270\000' >"$room/fits"
 expect 0 'yes: the tree satisfies the rule' '' judge - "$room/fits"
-refuses 3 "$room/other: refused 18 at bit 16: " judge - "$room/other"
+refuses 3 "$room/other: refused 18 at bit 16: the tree's bits end early (after 2 bytes); the strip was cut" judge - "$room/other"
 input=
 
 # ---- a wrong command line
