@@ -117,8 +117,8 @@ void put_rule(FILE *to, const struct strip *rule, const struct refusal *refusal,
     }
 }
 
-/* Whether the bit length told may be that of a beginning alone. Trees that long are
- * not refused for their length: 255 nodes end before. */
+/* Whether the bit length told may be that of a beginning alone. Of trees it never
+ * is: in as many bytes as are read every tree has ended, or has too many nodes. */
 static bool may_go_on(const struct refusal *r, const struct strip *strip)
 {
     return r->number == WS2S_REFUSED_RULE_LENGTH && strip->length > WS2S_MAX_RULE_BYTES;
@@ -169,17 +169,11 @@ static void put_found(FILE *to, const struct refusal *r, const struct strip *str
         break;
     case WS2S_REFUSED_RULE_VERSION:
     case WS2S_REFUSED_TREE_VERSION:
-        put_byte_and_bit(to, r->place);
-        fprintf(to, ": it is %u", bits_at(strip, r->place, 4));
-        break;
     case WS2S_REFUSED_RULE_VARIABLES:
     case WS2S_REFUSED_TREE_VARIABLES:
-        put_byte_and_bit(to, r->place);
-        fprintf(to, ": it says %u", bits_at(strip, r->place, 4));
-        break;
     case WS2S_REFUSED_RULE_RECORDS:
         put_byte_and_bit(to, r->place);
-        fprintf(to, ": it says %u", bits_at(strip, r->place, 8));
+        fprintf(to, ": it says %u", bits_at(strip, r->place, r->number == WS2S_REFUSED_RULE_RECORDS ? 8 : 4));
         break;
     case WS2S_REFUSED_OP:
         put_numbered(to, strip, record_at(r->place), "", names);

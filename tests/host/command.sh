@@ -185,7 +185,7 @@ strip bad 021
 refuses 3 'refused 1 at bit 8: the rule has fewer than two bytes (there is 1); was the whole file read?' check rule "$room/bad"
 refuses 3 "refused 18 at bit 8: the tree's bits end early (after 1 byte); the strip was cut" check tree "$room/bad"
 strip bad 042 270 000
-refuses 3 "refused 16 at bit 0: the tree's version is not 1 (byte 0, bit 0, counted from 0 and from the left: it is 2); write" check tree "$room/bad"
+refuses 3 "refused 16 at bit 0: the tree's version is not 1 (byte 0, bit 0, counted from 0 and from the left: it says 2); write" check tree "$room/bad"
 strip bad 031 270 000
 refuses 3 'refused 17 at bit 4: the tree has no variable or more than 8 (byte 0, bit 4, counted from 0 and from the left: it says 9); use' tree "$room/bad"
 strip bad 022 270
@@ -264,7 +264,7 @@ expect 3 'n=1
 1: op 10, fields 1 and 0   <- refused 7 at bit 34 (op)' "ws2s: $room/bad: refused 7 at bit 34: a record has an unknown op (record 1: op 10, fields 1 and 0); the file is damaged or too new" \
     print "$room/bad"
 strip bad 042 001 040 000 100
-refuses 3 "refused 2 at bit 0: the rule's version is not 1 (byte 0, bit 0, counted from 0 and from the left: it is 2); write" print "$room/bad"
+refuses 3 "refused 2 at bit 0: the rule's version is not 1 (byte 0, bit 0, counted from 0 and from the left: it says 2); write" print "$room/bad"
 strip bad 031 001 040 000 100
 refuses 3 'refused 3 at bit 4: the rule has no variable or more than 8 (byte 0, bit 4, counted from 0 and from the left: it says 9); use' print "$room/bad"
 strip bad 022 201 040 000 100
@@ -272,7 +272,7 @@ refuses 3 'refused 4 at bit 8: the rule has no record or more than 128 (byte 1, 
 expect 3 'n=2' "ws2s: samples/cut_short.rul: refused 5 at bit 32: the rule's length does not fit its records (1 record takes 5 bytes, and there are 4); it was cut, or has bytes left over" \
     print $samples/cut_short.rul
 input=/dev/zero
-refuses 3 "standard input: refused 2 at bit 0: the rule's version is not 1 (byte 0, bit 0, counted from 0 and from the left: it is 0); write" decide -
+refuses 3 "standard input: refused 2 at bit 0: the rule's version is not 1 (byte 0, bit 0, counted from 0 and from the left: it says 0); write" decide -
 refuses 3 'standard input: refused 16 at bit 0: ' tree -
 input=
 { printf '\022\001\040\000\100' && cat /dev/zero; } 2>/dev/null | "$command" print - >"$room/out" 2>"$room/err"
