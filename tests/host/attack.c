@@ -432,11 +432,12 @@ static void say_bytes(const struct strip *s)
         printf("%02X", s->byte[i]);
 }
 
+static const char *const operations[KINDS] = { "check_rule", "check_tree", "decide", "judge" };
+
 static void say(const struct request *r, const char *what, const union result *one,
                 const union result *two)
 {
-    static const char *const names[] = { "check_rule", "check_tree", "decide", "judge" };
-    printf("%s: %s\n  %s", lent_doing, what, names[r->kind]);
+    printf("%s: %s\n  %s", lent_doing, what, operations[r->kind]);
     if (r->kind != CHECK_TREE)
         say_bytes(&r->rule);
     if (r->kind == DECIDE)
@@ -480,14 +481,13 @@ static unsigned places_of(int kind, int refusal)
 
 static void say_answers(void)
 {
-    static const char *const names[KINDS][4] = {
-        { "check_rule", "ok", "", "" }, { "check_tree", "ok", "", "" },
-        { "decide", "shown", "none", "larger" }, { "judge", "no", "yes", "" } };
+    static const char *const names[KINDS][3] = {
+        { "ok", "", "" }, { "ok", "", "" }, { "shown", "none", "larger" }, { "no", "yes", "" } };
     for (int kind = 0; kind < KINDS; kind++) {
-        printf("%s:", names[kind][0]);
+        printf("%s:", operations[kind]);
         for (int i = 0; i < 3; i++)
             if (answers[kind][i])
-                printf(" %s %lu", names[kind][1 + i], answers[kind][i]);
+                printf(" %s %lu", names[kind][i], answers[kind][i]);
         for (int refusal = 1; refusal < REFUSALS; refusal++) {
             unsigned places = places_of(kind, refusal);
             if (answers[kind][3 + refusal])
@@ -522,7 +522,7 @@ static bool all_met(void)
     for (int kind = 0; kind < KINDS; kind++)
         for (int refusal = 1; refusal < REFUSALS; refusal++)
             if (has_refusal(kind, refusal) && answers[kind][3 + refusal] == 0) {
-                printf("refusal %d of operation %d was never met\n", refusal, kind);
+                printf("%s was never refused with %d\n", operations[kind], refusal);
                 all = false;
             }
     return all;
