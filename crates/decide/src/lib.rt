@@ -23,7 +23,10 @@ pub enum Verdict {
     },
     None(u64),
     Larger(u64),
-    RefusedAt { number: u64, place: u64 },
+    RefusedAt {
+        number: u64,
+        place: u64,
+    },
     Refused(u64),
     TooManyStates(u64),
 }
