@@ -1,2 +1,3 @@
 pub mod Decided
 pub mod Printed
+pub mod Places
