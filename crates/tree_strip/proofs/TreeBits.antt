@@ -1,14 +1,14 @@
 -- Trees of two branches as bits: how many, and the number that a label's bits are; and the last bits of a strip. Assumes nothing.
 use Prim.Native.Nat.{ℕ, zero, suc, _+_, _-_, _*_, _/_, _%_, _^_, _≤_, _<_}
 use mathlib.Core.Path.{_≡_, refl, sym, ap, ap₂, subst, _∙_}
-use mathlib.Core.List.{List, [], _∷_, _++_}
+use mathlib.Core.List.{List, [], _∷_, _++_, append-assoc}
 use native.Mathlib.Nat.{mod-eq-of-lt, add-zero, add-mul, suc-mul, pow-suc, mul-assoc, mul-comm}
 use native.Mathlib.Omega.{arith}
 use lib.Arith.{digits-lt, digits-mod}
 use lib.Dec.{lit<}
 use lib.ListN.{length, getD, take, drop, length-append, length-drop, take-append-drop}
 use lib.Pow.{high}
-use lib.Seq.{getD-drop, drop-drop, drop-append-seam}
+use lib.Seq.{getD-drop, drop-drop, drop-at, drop-append-seam}
 use Rattle.logic.specs.Meaning.{Branch}
 use Rattle.logic.specs.Tree.{Tree, empty, node, downFrom, sumOf, positions}
 use Rattle.logic.specs.Two.{one, two, pairOf}
@@ -90,6 +90,21 @@ bit-is s at b bs e = (
   ap (λ (k : ℕ). getD (bits s) k 0) (sym (add-zero at)) ∙ sym (getD-drop at (bits s) 0 0) ∙ ap (λ (l : List ℕ). getD l 0 0) e,
   sym (drop-drop 1 at (bits s)) ∙ ap (drop 1) e,
 )
+
+-- ---- a node stands at a place of the strip s
+module _ (s : List ℕ) (n at l : ℕ) (f : Branch 2 → Tree 2) (rest : List ℕ) (stands : drop at (bits s) ≡ treeBits n (node l f) ++ rest) where
+  -- what stands after its label
+  abbrev after : List ℕ
+  after = treeBits n (f one) ++ (treeBits n (f two) ++ rest)
+
+  pub node-from : (at < 8 * length s) × (getD (bits s) at 0 ≡ 1) × (drop (at + 1) (bits s) ≡ digits n l ++ after)
+  unfolding treeBits
+  node-from =
+      let e : (digits n l ++ (treeBits n (f one) ++ treeBits n (f two))) ++ rest ≡ digits n l ++ after = simp append-assoc in
+      bit-is s at 1 (digits n l ++ after) (stands ∙ ap (λ (r : List ℕ). 1 ∷ r) e)
+
+  pub after-label : drop (at + 1 + n) (bits s) ≡ after
+  after-label = sym (drop-drop n (at + 1) (bits s)) ∙ ap (drop n) (node-from .2) ∙ drop-at (digits n l) after n (length-digits n l)
 
 -- ---- bs are the last bits of the strip s: they stand at the place that their number gives
 abbrev pub Last : List ℕ → List ℕ → Type 0

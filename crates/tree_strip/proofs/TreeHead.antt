@@ -139,7 +139,7 @@ module _ (s : List ℕ) (n : ℕ) where
   told-tree (parsed t m′ rest) m mid e = let q : m′ ≡ m = cc in (t, rest, ap (λ (k : ℕ). parsed t k rest) q, cc)
 
   -- what was read from a place ends at another
-  pub ending : (met next m mid : ℕ) (t : Tree 2) (rest : List ℕ) → next ≤ 8 * length s → Reading n met (drop next (bits s)) t m rest
+  pub ending : (met next m mid : ℕ) (t : Tree 2) (rest : List ℕ) → next ≤ 8 * length s → Reading s n met (drop next (bits s)) t m rest
       → mid ≡ placeOf s rest
       → (drop mid (bits s) ≡ rest) × (mid ≡ next + length (treeBits n t)) × (mid ≤ 8 * length s)
   ending met next m mid t rest h g e =
@@ -152,8 +152,8 @@ module _ (s : List ℕ) (n : ℕ) where
         omega arith,
       )
 
-  pub reading-at : (met at m : ℕ) (t : Tree 2) (rest : List ℕ) → met ≤ 255 → treeAt met at ≡ parsed t m rest → Reading n met (drop at (bits s)) t m rest
-  reading-at met at m t rest h e = parse-reading s n (suc (8 * length s)) met (drop at (bits s)) t m rest h (last-from s at) e
+  pub reading-at : (met at m : ℕ) (t : Tree 2) (rest : List ℕ) → met ≤ 255 → treeAt met at ≡ parsed t m rest → Reading s n met (drop at (bits s)) t m rest
+  reading-at met at m t rest h e = parse-reading s n (suc (8 * length s)) met (drop at (bits s)) t m rest (omega (arith, length-from s at)) h (last-from s at) e
 
   pub room : (N : ℕ) → n ≤ 8 → N * (n + 1) ≤ N * 9
   room N h = mul-le-mul-left N (omega arith)
@@ -221,5 +221,5 @@ module _ (s : List ℕ) (n : ℕ) where
           ∙ one-less m mid (g .few) (omega arith) (f .2) in
           ap (closed at l (met + 1)) e
           ∙ join-closed at l met m (q .0) (drop mid (bits s)) (treeAt m mid) (g .counted)
-          (parse-good s n (suc (8 * length s)) m (drop mid (bits s)) (g .few) (last-from s mid))
+          (parse-good s n (suc (8 * length s)) m (drop mid (bits s)) (omega (arith, length-from s mid)) (g .few) (last-from s mid))
           ∙ sym (ap (told s) (c ∙ ap (join at l (q .0)) d))

@@ -124,7 +124,7 @@ tree-accepted s t m rest e =
     let c = passed (not (between 1 8 n)) 17 4 _ t m rest (b .1) in
     let i = both (leb 1 n) (leb n 8) (not-false (between 1 8 n) (c .0)) in
     let d = ended-is s (parse s (suc (8 * length s)) n 0 (drop 8 (bits s))) t m rest (c .1) in
-    let g = parse-reading s n (suc (8 * length s)) 0 (drop 8 (bits s)) t m rest (omega arith) (last-from s 8) (d .0) in
+    let g = parse-reading s n (suc (8 * length s)) 0 (drop 8 (bits s)) t m rest (omega (arith, length-from s 8)) (omega arith) (last-from s 8) (d .0) in
     let h : 0 < length s = (let z = eqb-false (length s) 0 (a .0) in omega arith) in
     let v = eqb-true (field s 0 4) 1 (not-false (eqb (field s 0 4) 1) (b .0)) in (
       omega arith,

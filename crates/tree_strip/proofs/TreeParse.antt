@@ -1,13 +1,13 @@
 -- What a tree that is read from bits is, where one is refused, and that a written tree is read back. Assumes nothing.
-use Prim.Native.Nat.{ℕ, zero, suc, _+_, _^_, _≤_, _<_}
+use Prim.Native.Nat.{ℕ, zero, suc, _+_, _*_, _^_, _≤_, _<_}
 use mathlib.Core.Path.{_≡_, refl, sym, ap, subst, _∙_}
 use mathlib.Core.Bool.{Bool, true, false, cond, not, _&&_}
 use mathlib.Core.List.{List, [], _∷_, _++_, append-assoc}
 use native.Mathlib.Nat.{not-suc-le-zero, add-zero}
 use native.Mathlib.Omega.{arith}
-use borrow.Author.Tests.{lt-leb, le-ltb, leb-false, ltb-false}
+use borrow.Author.Tests.{lt-leb, le-ltb, leb-true, leb-false, ltb-true, ltb-false}
 use lib.Dec.{T, T-not, eqb, leb, ltb, eqb·suc-zero}
-use lib.ListN.{length, take, drop, length-append, length-drop, take-append-drop}
+use lib.ListN.{length, getD, take, drop, length-append, length-drop, take-append-drop}
 use lib.Seq.{length-take-le, take-at, drop-at}
 use Rattle.logic.specs.Machine.{allOf}
 use Rattle.logic.specs.Meaning.{Branch}
@@ -15,26 +15,27 @@ use Rattle.logic.specs.Tree.{Tree, empty, node, downFrom, positions, Proper}
 use Rattle.logic.specs.Trim.{isEmpty, bare, Trimmed}
 use Rattle.logic.specs.Two.{one, two, pairOf}
 use Rattle.logic.proofs.Places.{true→T, not-T}
-use Rattle.bits.specs.Bits.{digits, number, bitLength}
-use Rattle.tree_strip.specs.TreeStrip.{Parsed, parsed, refused, placeOf, join, andThen, parse, treeBits}
-use Rattle.tree_strip.specs.TreePlaces.{Offends, early-end, bare-node, node-bit}
+use Rattle.bits.specs.Bits.{digits, bits, number, bitLength}
+use Rattle.tree_strip.specs.TreeStrip.{Parsed, parsed, refused, placeOf, join, andThen, parse, treeBits, Stands}
+use Rattle.tree_strip.specs.TreePlaces.{Comes, begin, past-empty, past-label, Offends, early-end, bare-node, node-bit}
 use Rattle.bits.proofs.Fields.{length-digits}
 use Rattle.logic.proofs.Two.{two-branches}
-use Rattle.tree_strip.proofs.TreeBits.{positions-pair, positions-node, AreBits, bits-take, number-of, number-lt, digits-number}
-use Rattle.tree_strip.proofs.TreeBits.{bit-is, Last, last-bits, last-second, last-drop}
+use Rattle.tree_strip.proofs.TreeBits.{positions-pair, positions-node, treeBits-length, AreBits, bits-take, number-of, number-lt, digits-number}
+use Rattle.tree_strip.proofs.TreeBits.{length-from, bit-is, node-from, after-label, Last, last-few, last-bits, last-second, last-drop}
 
--- t is at the front of bs, and m positions are met after it
-pub record Reading (n met : ℕ) (bs : List ℕ) (t : Tree 2) (m : ℕ) (rest : List ℕ) : Type 0 where
+-- t is at the front of bs, and m positions are met after it; reading the strip s goes on from bs to rest
+pub record Reading (s : List ℕ) (n met : ℕ) (bs : List ℕ) (t : Tree 2) (m : ℕ) (rest : List ℕ) : Type 0 where
   pub written : bs ≡ treeBits n t ++ rest
   pub counted : m ≡ met + positions t
   pub few : m ≤ 255
   pub proper : Proper n t
   pub trimmed : Trimmed t
+  pub onward : (o : ℕ) → Comes s n met (placeOf s bs) (suc o) → Comes s n m (placeOf s rest) o
 
--- of the strip s: what was read, or why nothing was
+-- of the strip s, whose reading comes to bs: what was read, or why nothing was
 abbrev pub Good : List ℕ → ℕ → ℕ → List ℕ → Parsed → Type 0
-Good s n met bs (refused k p) = Offends s n k p
-Good s n met bs (parsed t m rest) = Reading n met bs t m rest
+Good s n met bs (refused k p) = (o : ℕ) → Comes s n met (placeOf s bs) (suc o) → Offends s n k p
+Good s n met bs (parsed t m rest) = Reading s n met bs t m rest
 
 -- what holds of both trees holds of each branch
 each : (P : Tree 2 → Type 0) (t u : Tree 2) → P t → P u → (v : Bool) → P (cond v t u)
@@ -68,72 +69,135 @@ module _ (n : ℕ) where
       ∙ rw (← d, p, q) (ap (λ (x : List ℕ). digits n l ++ x) (sym (append-assoc (treeBits n t) (treeBits n u) rest))
       ∙ sym (append-assoc (digits n l) (treeBits n t ++ treeBits n u) rest)))
 
-  node-reading : (met l m m′ : ℕ) (bs mid rest : List ℕ) (t u : Tree 2) → l < 2 ^ n → digits n l ≡ take n bs
-      → Reading n (suc met) (drop n bs) t m mid → Reading n m mid u m′ rest → (eqb l 0 && (isEmpty t && isEmpty u)) ≡ false
-      → Reading n met (1 ∷ bs) (node l (pairOf t u)) m′ rest
-  unfolding Proper Trimmed
-  node-reading met l m m′ bs mid rest t u h d p q e = record {
-    written = written-node l t u bs mid rest d (p .written) (q .written);
-    counted = let a = p .counted in let b = q .counted in let c = positions-pair l t u in omega arith;
-    few = q .few;
-    proper = (h, λ b. each (Proper n) t u (p .proper) (q .proper) (eqb (b .number) 0));
-    trimmed = (true→T (ap not (bare-pair l t u ∙ e)), λ b. each Trimmed t u (p .trimmed) (q .trimmed) (eqb (b .number) 0));
-  }
-
   pub label-digits : (bs : List ℕ) → AreBits bs → n ≤ length bs → digits n (number 0 (take n bs)) ≡ take n bs
   label-digits bs a h = ap (λ (k : ℕ). digits k (number 0 (take n bs))) (sym (length-take-le n bs h)) ∙ digits-number 0 (take n bs) (bits-take n bs a)
 
   pub label-lt : (bs : List ℕ) → AreBits bs → n ≤ length bs → number 0 (take n bs) < 2 ^ n
   label-lt bs a h = subst (λ (k : ℕ). number 0 (take n bs) < 2 ^ k) (length-take-le n bs h) (number-lt (take n bs) (bits-take n bs a))
 
+-- so many trees stand one after the other at the front of some bits
+abbrev Owed : ℕ → ℕ → List ℕ → Type 0
+Owed n zero bs = Unit {0}
+Owed n (suc o) bs = (t : Tree 2) × (rest : List ℕ) × (bs ≡ treeBits n t ++ rest) × Owed n o rest
+
+-- ---- if a tree stands at bit place 8, then wherever its reading comes, the trees that it owes stand
+module _ (s : List ℕ) (n : ℕ) where
+  owed-empty : (o p : ℕ) (t : Tree 2) (rest : List ℕ) → drop p (bits s) ≡ treeBits n t ++ rest → Owed n o rest → getD (bits s) p 0 ≡ 0
+      → Owed n o (drop (p + 1) (bits s))
+  unfolding treeBits
+  owed-empty o p empty rest e r z = subst (Owed n o) (sym (bit-is s p 0 rest e .2)) r
+  owed-empty o p (node l f) rest e r z = let b = node-from s n p l f rest e .1 in absurd (omega arith)
+
+  owed-node : (o p : ℕ) (t : Tree 2) (rest : List ℕ) → drop p (bits s) ≡ treeBits n t ++ rest → Owed n o rest → getD (bits s) p 0 ≡ 1
+      → Owed n (suc (suc o)) (drop (p + 1 + n) (bits s))
+  unfolding treeBits
+  owed-node o p empty rest e r z = let b = bit-is s p 0 rest e .1 in absurd (omega arith)
+  owed-node o p (node l f) rest e r z = (f one, treeBits n (f two) ++ rest, after-label s n p l f rest e, (f two, rest, refl, r))
+
+  owed : {m p o : ℕ} (t : Tree 2) → Stands s n 8 t → Comes s n m p o → Owed n o (drop p (bits s))
+  owed t a begin = (t, a .0, a .1, tt)
+  owed t a (past-empty {p = p} {o = o} w e) = let q = owed t a w in owed-empty o p (q .0) (q .1) (q .2) (q .3) e
+  owed t a (past-label {p = p} {o = o} w e) = let q = owed t a w in owed-node o p (q .0) (q .1) (q .2) (q .3) e
+
+  -- so none does if a tree is still owed at the end of the bits
+  no-tree : {m p o : ℕ} → Comes s n m p (suc o) → 8 * length s ≤ p → (t : Tree 2) → Stands s n 8 t → ⊥
+  no-tree {p = p} w h t a =
+      let q = owed t a w in
+      let e = ap length (q .2) ∙ length-append (treeBits n (q .0)) (q .1) in
+      let l = length-from s p in
+      let b = treeBits-length n (q .0) in
+      omega arith
+
 -- ---- the bits are the last ones of the strip s
 module _ (s : List ℕ) (n : ℕ) where
   -- once a first branch is read, what is left are still its last bits
-  after-first : {met m : ℕ} {bs mid : List ℕ} {t : Tree 2} → Reading n met bs t m mid → Last s bs → Last s mid
+  after-first : {met m : ℕ} {bs mid : List ℕ} {t : Tree 2} → Reading s n met bs t m mid → Last s bs → Last s mid
   after-first {mid = mid} {t = t} p a = last-second s (treeBits n t) mid (subst (Last s) (p .written) a)
 
-  join-good : (met l m : ℕ) (bs mid : List ℕ) (t : Tree 2) (P : Parsed) → l < 2 ^ n → digits n l ≡ take n bs → Last s (1 ∷ bs)
-      → Reading n (suc met) (drop n bs) t m mid → Good s n m mid P → Good s n met (1 ∷ bs) (join (placeOf s (1 ∷ bs)) l t P)
-  unfolding join
-  join-good met l m bs mid t (refused k p) h d a r q = q
-  join-good met l m bs mid t (parsed u m′ rest) h d a r q = go (eqb l 0 && (isEmpty t && isEmpty u)) refl
+  shorter : (met : ℕ) (bs : List ℕ) (t : Tree 2) (m : ℕ) (rest : List ℕ) → Reading s n met bs t m rest → length rest ≤ length bs
+  shorter met bs t m rest p = let e = ap length (p .written) ∙ length-append (treeBits n t) rest in omega arith
+
+  -- reading goes on past an empty tree's bit, and past a node's label
+  past-zero : (met o : ℕ) (bs : List ℕ) → Last s (0 ∷ bs) → Comes s n met (placeOf s (0 ∷ bs)) (suc o) → Comes s n met (placeOf s bs) o
+  past-zero met o bs a w =
+      let l = last-few s (0 ∷ bs) a in
+      let e : placeOf s (0 ∷ bs) + 1 ≡ placeOf s bs = omega arith in
+      subst (λ (k : ℕ). Comes s n met k o) e (past-empty w (bit-is s (placeOf s (0 ∷ bs)) 0 bs a .1))
+
+  past-one : (met o : ℕ) (bs : List ℕ) → n ≤ length bs → Last s (1 ∷ bs) → Comes s n met (placeOf s (1 ∷ bs)) (suc o)
+      → Comes s n (suc met) (placeOf s (drop n bs)) (suc (suc o))
+  past-one met o bs h a w =
+      let l = last-few s (1 ∷ bs) a in
+      let d = length-drop n bs in
+      let e : placeOf s (1 ∷ bs) + 1 + n ≡ placeOf s (drop n bs) = omega arith in
+      subst (λ (k : ℕ). Comes s n (suc met) k (suc (suc o))) e (past-label w (bit-is s (placeOf s (1 ∷ bs)) 1 bs a .1))
+
+  join-good : (met m : ℕ) (bs mid : List ℕ) (t : Tree 2) (P : Parsed) → n ≤ length bs → Last s (1 ∷ bs)
+      → Reading s n (suc met) (drop n bs) t m mid → Good s n m mid P
+      → Good s n met (1 ∷ bs) (join (placeOf s (1 ∷ bs)) (number 0 (take n bs)) t P)
+  unfolding join Proper Trimmed
+  join-good met m bs mid t (refused k p) h a r q = λ o w. q o (r .onward (suc o) (past-one met o bs h a w))
+  join-good met m bs mid t (parsed u m′ rest) h a r q = go (eqb l 0 && (isEmpty t && isEmpty u)) refl
     where
+      l : ℕ
+      l = number 0 (take n bs)
+
+      label : AreBits bs
+      label = last-bits s bs (last-second s (1 ∷ []) bs a)
+
+      whole : 1 ∷ bs ≡ treeBits n (node l (pairOf t u)) ++ rest
+      whole = written-node n l t u bs mid rest (label-digits n bs label h) (r .written) (q .written)
+
       go : (v : Bool) → (eqb l 0 && (isEmpty t && isEmpty u)) ≡ v
           → Good s n met (1 ∷ bs) (cond v (refused 19 (placeOf s (1 ∷ bs))) (parsed (node l (pairOf t u)) m′ rest))
-      go true e =
-          bare-node (rest, a ∙ written-node n l t u bs mid rest d (r .written) (q .written) ∙ ap (λ (v : Tree 2). treeBits n v ++ rest) (bare-is l t u e))
-      go false e = node-reading n met l m m′ bs mid rest t u h d r q e
+      go true e = λ o w. bare-node (rest, a ∙ whole ∙ ap (λ (v : Tree 2). treeBits n v ++ rest) (bare-is l t u e))
+      go false e = record {
+        written = whole;
+        counted = let e = r .counted in let f = q .counted in omega (arith, positions-pair l t u);
+        few = q .few;
+        proper = (label-lt n bs label h, λ b. each (Proper n) t u (r .proper) (q .proper) (eqb (b .number) 0));
+        trimmed = (true→T (ap not (bare-pair l t u ∙ e)), λ b. each Trimmed t u (r .trimmed) (q .trimmed) (eqb (b .number) 0));
+        onward = λ o w. q .onward o (r .onward (suc o) (past-one met o bs h a w));
+      }
 
-  then-good : (met l : ℕ) (bs : List ℕ) (P : Parsed) (go : ℕ → List ℕ → Parsed) → l < 2 ^ n → digits n l ≡ take n bs → Last s (1 ∷ bs)
-      → Good s n (suc met) (drop n bs) P → ((m : ℕ) (mid : List ℕ) → m ≤ 255 → Last s mid → Good s n m mid (go m mid))
-      → Good s n met (1 ∷ bs) (andThen (placeOf s (1 ∷ bs)) l P go)
+  then-good : (met : ℕ) (bs : List ℕ) (P : Parsed) (go : ℕ → List ℕ → Parsed) → n ≤ length bs → Last s (1 ∷ bs)
+      → Good s n (suc met) (drop n bs) P → ((m : ℕ) (mid : List ℕ) → length mid ≤ length bs → m ≤ 255 → Last s mid → Good s n m mid (go m mid))
+      → Good s n met (1 ∷ bs) (andThen (placeOf s (1 ∷ bs)) (number 0 (take n bs)) P go)
   unfolding andThen
-  then-good met l bs (refused k p) go h d a r next = r
-  then-good met l bs (parsed t m mid) go h d a r next =
-      join-good met l m bs mid t (go m mid) h d a r (next m mid (r .few) (after-first r (last-drop s n bs (last-second s (1 ∷ []) bs a))))
+  then-good met bs (refused k p) go h a r next = λ o w. r (suc o) (past-one met o bs h a w)
+  then-good met bs (parsed t m mid) go h a r next =
+      let z = shorter (suc met) (drop n bs) t m mid r in
+      let d = length-drop n bs in
+      join-good met m bs mid t (go m mid) h a r
+      (next m mid (omega arith) (r .few) (after-first r (last-drop s n bs (last-second s (1 ∷ []) bs a))))
 
-  pub parse-good : (d met : ℕ) (bs : List ℕ) → met ≤ 255 → Last s bs → Good s n met bs (parse s d n met bs)
+  pub parse-good : (d met : ℕ) (bs : List ℕ) → length bs < d → met ≤ 255 → Last s bs → Good s n met bs (parse s d n met bs)
   unfolding parse treeBits positions Proper Trimmed
-  parse-good zero met bs h a = early-end
-  parse-good (suc d) met [] h a = early-end
-  parse-good (suc d) met (zero ∷ bs) h a = record { written = refl; counted = sym (add-zero met); few = h; proper = tt; trimmed = tt }
-  parse-good (suc d) met (suc (suc b) ∷ bs) h a = let z = last-bits s (suc (suc b) ∷ bs) a 0 in absurd (omega arith)
-  parse-good (suc d) met (suc zero ∷ bs) h a =
-      go (leb 255 met) refl (ltb (length bs) n) refl
-      (λ e. parse-good d (suc met) (drop n bs) (let f = leb-false 255 met e in omega arith) (last-drop s n bs (last-second s (1 ∷ []) bs a)))
-      (λ m mid g c. parse-good d m mid g c)
+  parse-good zero met bs i h a = absurd (not-suc-le-zero i)
+  parse-good (suc d) met [] i h a = λ o w. early-end (no-tree s n w (omega arith))
+  parse-good (suc d) met (zero ∷ bs) i h a =
+      record { written = refl; counted = sym (add-zero met); few = h; proper = tt; trimmed = tt; onward = λ o w. past-zero met o bs a w }
+  parse-good (suc d) met (suc (suc b) ∷ bs) i h a = let z = last-bits s (suc (suc b) ∷ bs) a 0 in absurd (omega arith)
+  parse-good (suc d) met (suc zero ∷ bs) i h a =
+      go (leb 255 met) refl (ltb (length bs) n) refl (λ m mid j g c. parse-good d m mid (omega arith) g c)
     where
       go : (v : Bool) → leb 255 met ≡ v → (w : Bool) → ltb (length bs) n ≡ w
-          → (leb 255 met ≡ false → Good s n (suc met) (drop n bs) (parse s d n (suc met) (drop n bs)))
-          → ((m : ℕ) (mid : List ℕ) → m ≤ 255 → Last s mid → Good s n m mid (parse s d n m mid))
+          → ((m : ℕ) (mid : List ℕ) → length mid ≤ length bs → m ≤ 255 → Last s mid → Good s n m mid (parse s d n m mid))
           → Good s n met (1 ∷ bs) (cond v (refused 20 (placeOf s (1 ∷ bs))) (cond w (refused 18 (bitLength s))
           (andThen (placeOf s (1 ∷ bs)) (number 0 (take n bs)) (parse s d n (suc met) (drop n bs)) (parse s d n))))
-      go true e w f p k = let z = bit-is s (placeOf s (1 ∷ bs)) 1 bs a in node-bit (z .0) (z .1)
-      go false e true f p k = early-end
-      go false e false f p k =
-          let c = last-bits s bs (last-second s (1 ∷ []) bs a) in
-          let i = ltb-false (length bs) n f in
-          then-good met (number 0 (take n bs)) bs (parse s d n (suc met) (drop n bs)) (parse s d n) (label-lt n bs c i) (label-digits n bs c i) a (p e) k
+      go true e w f k =
+          let z = bit-is s (placeOf s (1 ∷ bs)) 1 bs a in
+          let m : met ≡ 255 = (let l = leb-true 255 met e in omega arith) in
+          λ o c. node-bit (subst (λ (k : ℕ). Comes s n k (placeOf s (1 ∷ bs)) (suc o)) m c) (z .0) (z .1)
+      go false e true f k =
+          let l = last-few s (1 ∷ bs) a in
+          let j = ltb-true (length bs) n f in
+          λ o c. early-end (no-tree s n (past-label c (bit-is s (placeOf s (1 ∷ bs)) 1 bs a .1)) (omega arith))
+      go false e false f k =
+          let m = leb-false 255 met e in
+          let l = length-drop n bs in
+          then-good met bs (parse s d n (suc met) (drop n bs)) (parse s d n) (ltb-false (length bs) n f) a
+          (k (suc met) (drop n bs) (omega arith) (omega arith) (last-drop s n bs (last-second s (1 ∷ []) bs a))) k
 
   -- ---- as much as there are bits is enough
   then-same : (at l : ℕ) (P Q : Parsed) (go go′ : ℕ → List ℕ → Parsed) → P ≡ Q
@@ -142,12 +206,9 @@ module _ (s : List ℕ) (n : ℕ) where
   then-same at l P (refused k p) go go′ e f = rw e refl
   then-same at l P (parsed t m mid) go go′ e f = rw e (ap (join at l t) (f t m mid refl))
 
-  pub parse-reading : (d met : ℕ) (bs : List ℕ) (t : Tree 2) (m : ℕ) (rest : List ℕ) → met ≤ 255 → Last s bs → parse s d n met bs ≡ parsed t m rest
-      → Reading n met bs t m rest
-  parse-reading d met bs t m rest h a e = subst (Good s n met bs) e (parse-good d met bs h a)
-
-  shorter : (met : ℕ) (bs : List ℕ) (t : Tree 2) (m : ℕ) (rest : List ℕ) → Reading n met bs t m rest → length rest ≤ length bs
-  shorter met bs t m rest p = let e = ap length (p .written) ∙ length-append (treeBits n t) rest in omega arith
+  pub parse-reading : (d met : ℕ) (bs : List ℕ) (t : Tree 2) (m : ℕ) (rest : List ℕ) → length bs < d → met ≤ 255 → Last s bs
+      → parse s d n met bs ≡ parsed t m rest → Reading s n met bs t m rest
+  parse-reading d met bs t m rest i h a e = subst (Good s n met bs) e (parse-good d met bs i h a)
 
   pub parse-enough : (d e met : ℕ) (bs : List ℕ) → length bs < d → length bs < e → met ≤ 255 → Last s bs → parse s d n met bs ≡ parse s e n met bs
   unfolding parse
@@ -172,7 +233,7 @@ module _ (s : List ℕ) (n : ℕ) where
           (then-same (placeOf s (suc b ∷ bs)) (number 0 (take n bs)) (parse s d n (suc met) (drop n bs)) (parse s e n (suc met) (drop n bs))
           (parse s d n) (parse s e n)
           (k (suc met) (drop n bs) (omega arith) (omega arith) c)
-          (λ t m mid w. let g = parse-reading e (suc met) (drop n bs) t m mid (omega arith) c w in
+          (λ t m mid w. let g = parse-reading e (suc met) (drop n bs) t m mid (omega arith) (omega arith) c w in
           let z = shorter (suc met) (drop n bs) t m mid g in
           k m mid (omega arith) (g .few) (after-first g c)))
 

@@ -13,11 +13,11 @@ use Rattle.bits.specs.Bits.{bits, field, anySet, firstSet, bitLength, between}
 use Rattle.bits.specs.declared.Fault.{Fault}
 use Rattle.bits.specs.declared.Fault.the-variants.{Sound, At}
 use Rattle.tree_strip.specs.TreeStrip.{Parsed, parsed, refused, placeOf, parse, padding, endFault, unless, ended, readTree, faultIn, treeFault, Stands}
-use Rattle.tree_strip.specs.TreePlaces.{treeEnd, wholeByte, Unset, Offends, OffendsAt, no-bytes, version, variables, padding-bit, byte-left}
+use Rattle.tree_strip.specs.TreePlaces.{treeEnd, wholeByte, Unset, Comes, begin, Offends, OffendsAt, no-bytes, version, variables, padding-bit, byte-left}
 use Rattle.bits.proofs.Places.{any-first, first-set, first-before}
 use Rattle.tree_strip.proofs.TreeBits.{length-from, bits-bits, last-from}
 use Rattle.tree_strip.proofs.TreeParse.{Good, parse-good}
-use Rattle.tree_strip.proofs.TreeHead.{ending}
+use Rattle.tree_strip.proofs.TreeHead.{place, ending}
 use Rattle.tree_strip.proofs.TreeEnd.{padding-length}
 use Rattle.tree_strip.proofs.TreeWalk.{stands-within}
 
@@ -81,7 +81,7 @@ module _ (s : List ℕ) (n : ℕ) where
 
   ended-told : (P : Parsed) → 0 < length s → Good s n 0 (drop 8 (bits s)) P → Told s n (faultIn (ended s P))
   unfolding ended
-  ended-told (refused k p) h g = g
+  ended-told (refused k p) h g = g 0 (subst (λ (q : ℕ). Comes s n 0 q 1) (sym (place s n 8 (omega arith))) begin)
   ended-told (parsed t m rest) h g =
       let f = ending s n 0 8 m (placeOf s rest) t rest (omega arith) g refl in
       unless-told (endFault (placeOf s rest) rest) (parsed t m rest)
@@ -96,7 +96,7 @@ fault-told s =
     test-told s n (not (eqb (field s 0 4) 1)) 16 0 _ (λ f. version (eqb-false (field s 0 4) 1 (not-true _ f))) (λ f.
     test-told s n (not (between 1 8 n)) 17 4 _ (λ g. variables (outside g)) (λ g.
     ended-told s n (parse s (suc (8 * length s)) n 0 (drop 8 (bits s))) some
-    (parse-good s n (suc (8 * length s)) 0 (drop 8 (bits s)) (omega arith) (last-from s 8)))))
+    (parse-good s n (suc (8 * length s)) 0 (drop 8 (bits s)) (omega (arith, length-from s 8)) (omega arith) (last-from s 8)))))
   where
     outside : not (between 1 8 (field s 4 4)) ≡ true → (1 ≤ field s 4 4) × (field s 4 4 ≤ 8) → ⊥
     outside e w = let f = rw (le-leb 1 (field s 4 4) (w .0), le-leb (field s 4 4) 8 (w .1)) at e in let z : _≡_ {A = ℕ} 0 1 = cc in omega arith

@@ -1,17 +1,17 @@
 -- A walk over a tree in a strip: at a place where a tree stands, what its bits are and where its branches stand. Assumes nothing.
 use Prim.Native.Nat.{ℕ, _+_, _*_, _^_, _≤_, _<_}
 use mathlib.Core.Path.{_≡_, refl, sym, ap, _∙_}
-use mathlib.Core.List.{List, _∷_, _++_, append-assoc}
+use mathlib.Core.List.{List, _++_}
 use native.Mathlib.Omega.{arith}
 use lib.ListN.{length, getD, take, drop, length-append}
-use lib.Seq.{drop-drop, take-at, drop-at, drop-append-seam}
+use lib.Seq.{drop-drop, take-at, drop-append-seam}
 use Rattle.logic.specs.Meaning.{Branch}
 use Rattle.logic.specs.Tree.{Tree, empty, node}
 use Rattle.logic.specs.Two.{one, two}
 use Rattle.bits.specs.Bits.{digits, bits, number, field}
 use Rattle.tree_strip.specs.TreeStrip.{treeBits, Stands}
 use Rattle.bits.proofs.Fields.{length-digits}
-use Rattle.tree_strip.proofs.TreeBits.{treeBits-length, length-from, bit-is, number-of}
+use Rattle.tree_strip.proofs.TreeBits.{treeBits-length, length-from, bit-is, number-of, node-from, after-label}
 use Rattle.tree_strip.proofs.TreeLaws.{TreeFacts, facts-tree}
 
 pub facts-stand : (s : List ℕ) (n : ℕ) (t : Tree 2) → TreeFacts s n t → Stands s n 8 t
@@ -35,13 +35,7 @@ module _ (s : List ℕ) (n at : ℕ) where
     after = treeBits n (f one) ++ (treeBits n (f two) ++ p .0)
 
     pub node-bit : (at < 8 * length s) × (getD (bits s) at 0 ≡ 1) × (drop (at + 1) (bits s) ≡ digits n l ++ after)
-    unfolding treeBits
-    node-bit =
-        let e : (digits n l ++ (treeBits n (f one) ++ treeBits n (f two))) ++ p .0 ≡ digits n l ++ after = simp append-assoc in
-        bit-is s at 1 (digits n l ++ after) (p .1 ∙ ap (λ (r : List ℕ). 1 ∷ r) e)
-
-    after-label : drop (at + 1 + n) (bits s) ≡ after
-    after-label = sym (drop-drop n (at + 1) (bits s)) ∙ ap (drop n) (node-bit .2) ∙ drop-at (digits n l) after n (length-digits n l)
+    node-bit = node-from s n at l f (p .0) (p .1)
 
     pub label-in : at + 1 + n ≤ 8 * length s
     label-in =
@@ -55,11 +49,11 @@ module _ (s : List ℕ) (n at : ℕ) where
         ∙ number-of n l k
 
     pub stands-first : Stands s n (at + 1 + n) (f one)
-    stands-first = (treeBits n (f two) ++ p .0, after-label)
+    stands-first = (treeBits n (f two) ++ p .0, after-label s n at l f (p .0) (p .1))
 
     pub stands-second : Stands s n (at + 1 + n + length (treeBits n (f one))) (f two)
     stands-second = (
       p .0,
       sym (drop-drop (length (treeBits n (f one))) (at + 1 + n) (bits s))
-          ∙ ap (drop (length (treeBits n (f one)))) after-label ∙ drop-append-seam (treeBits n (f one)) (treeBits n (f two) ++ p .0),
+          ∙ ap (drop (length (treeBits n (f one)))) (after-label s n at l f (p .0) (p .1)) ∙ drop-append-seam (treeBits n (f one)) (treeBits n (f two) ++ p .0),
     )
