@@ -57,7 +57,8 @@ outputs =
 
 pub outputs-right : map verdictLine inputs ≡ outputs
 unfolding verdictLine inputs outputs lineOf decimal hex bits anySet firstSet bitLength recordAt recordsFrom recordsOf firstUse secondUse recordFault
-    recordsFault headFault ruleFault roomRefusal earlyRefusal tell outAfter verdictOf outOf low bit downFrom allOf anyOf sumOf positions successorAt kindOf setLow withBit run elem below
+    recordsFault headFault ruleFault roomRefusal earlyRefusal tell outAfter verdictOf outOf
+    low bit downFrom allOf anyOf sumOf positions successorAt kindOf setLow withBit run elem below
     flat select outcomes successors add closure reach position numbered wordOf members projection table codedProduct build productTable projectionTable
     complementTable tableOf admit buildAll settled view lighter choose consider loop tuples pick verdict next rounds anyBelow begin search report
     conclude decideOf digits pack treeBits treeStrip decLt

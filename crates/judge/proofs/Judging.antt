@@ -169,7 +169,8 @@ claim rule c ws tree {x} ex = record {
         let v = tested-free (otherVariables tree n) _ (d .1) in
         let r = sound-read tree (d .0) in
         let f : TreeFacts tree n (r .0) =
-        subst (λ (k : ℕ). TreeFacts tree k (r .0)) (same-variables n (eqb (field tree 4 4) n) refl (v .0)) (tree-accepted tree (r .0) (r .1) (r .2) (r .3) .1) in
+        subst (λ (k : ℕ). TreeFacts tree k (r .0)) (same-variables n (eqb (field tree 4 4) n) refl (v .0))
+        (tree-accepted tree (r .0) (r .1) (r .2) (r .3) .1) in
         record {
           tree = r .0;
           met = r .1;

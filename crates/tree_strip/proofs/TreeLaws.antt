@@ -255,14 +255,6 @@ checked-refused s k p e = go (readTree s) e
     go (refused k′ p′) q = cc
     go (parsed t m rest) q = absurd (let z : _≡_ {A = ℕ} 0 1 = cc in omega arith)
 
-pub checked-sound : (s : List ℕ) (n N : ℕ) → checkedTree s ≡ Accepted n N → treeFault s ≡ Sound
-unfolding treeFault
-checked-sound s n N e = go (readTree s) e
-  where
-    go : (P : Parsed) → answered s P ≡ Accepted n N → faultIn P ≡ Sound
-    go (refused k p) q = absurd (let z : _≡_ {A = ℕ} 0 1 = cc in omega arith)
-    go (parsed t m rest) q = refl
-
 -- a strip without a fault holds a tree
 pub sound-read : (s : List ℕ) → treeFault s ≡ Sound → (t : Tree 2) × (met : ℕ) × (rest : List ℕ) × (readTree s ≡ parsed t met rest)
 unfolding treeFault

@@ -21,7 +21,8 @@ returns : tie.Need-returns Inv-loop μ-loop
 returns c =
     let b = c .before .before .before in
     let a = b .before .before .args in
-    first-here (bits (a .s .now)) (b .loop .at) (a .end) (omega arith) (omega (arith, length-bits (a .s .now))) (λ e. c .if1 .taken (c .before .bit-at .ensures .0 ∙ e))
+    first-here (bits (a .s .now)) (b .loop .at) (a .end) (omega arith) (omega (arith, length-bits (a .s .now)))
+    (λ e. c .if1 .taken (c .before .bit-at .ensures .0 ∙ e))
     ∙ sym (b .loop .inv .1)
 
 loop-again : tie.Need-loop-again Inv-loop μ-loop
@@ -30,7 +31,8 @@ loop-again c =
     let a = b .before .before .args in (
       omega arith,
       b .loop .inv .1
-          ∙ first-later (bits (a .s .now)) (b .loop .at) (a .end) (omega arith) (omega (arith, length-bits (a .s .now))) (sym (c .before .bit-at .ensures .0) ∙ c .if1 .left),
+          ∙ first-later (bits (a .s .now)) (b .loop .at) (a .end) (omega arith) (omega (arith, length-bits (a .s .now)))
+          (sym (c .before .bit-at .ensures .0) ∙ c .if1 .left),
     )
 
 returns-2 : tie.Need-returns-2 Inv-loop μ-loop
