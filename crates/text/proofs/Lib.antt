@@ -1,0 +1,10 @@
+pub mod Decidable
+pub mod Scopes
+pub mod Meant
+pub mod Sayings
+pub mod Puts
+pub mod Written
+pub mod Texts
+pub mod Readers
+pub mod Steps
+pub mod Examples

@@ -1,0 +1,201 @@
+-- Reading tokens: request A2's grammar and refusals 23 to 25, with document 01's binding strengths. Tokens are taken one after the other, and
+-- each is judged as it is taken: so the refusal is "the earliest in the text, and at one token the lowest". Assumes nothing.
+use Prim.Native.Nat.{ℕ, zero, suc}
+use Prim.Native.String.{String}
+use mathlib.Core.Bool.{Bool, true, false, not, cond, _&&_, _||_}
+use mathlib.Core.List.{List, [], _∷_}
+use lib.Dec.{leb, eqb}
+use lib.ListN.{length}
+use Rattle.logic.specs.Two.{one, two}
+use Rattle.text.specs.Token.{Token, theEnd, spells, isName, sameBytes, tokensOf}
+use Rattle.text.specs.Syntax.{Name, Order, first, second, Spot, variable, branch, root, Atom, sub, member, equal, Sentence, atom, denied, both, either, implies, alike, forSome, forEvery, Declared, Scope, Text}
+
+-- what was read, with the tokens that are left; or a refusal, with the token at which it lies
+pub data Read (A : Type 0) : Type 0 where
+  got : A → List Token → Read A
+  refused : ℕ → Token → Read A
+
+abbrev pub andThen : {A B : Type 0} → Read A → (A → List Token → Read B) → Read B
+andThen (got a ts) go = go a ts
+andThen (refused r t) go = refused r t
+
+-- the token that stands next; a text's last token, its end, is never taken
+abbrev pub next : List Token → Token
+next [] = record { kind = theEnd; bytes = []; start = 0; stop = 0 }
+next (t ∷ ts) = t
+
+abbrev pub rest : List Token → List Token
+rest [] = []
+rest (t ∷ ts) = ts
+
+-- the next token is taken, unless the number r refuses it
+unfoldable pub accept : {A : Type 0} → ℕ → List Token → (Name → List Token → Read A) → Read A
+accept r ts go = elim (eqb r 0) [ true ↦ go (next ts .bytes) (rest ts) | false ↦ refused r (next ts) ]
+
+-- "23 when it leaves this grammar": the test says that it does not
+abbrev pub or23 : Bool → ℕ
+or23 b = cond b 0 23
+
+abbrev pub sameOrder : Order → Order → Bool
+sameOrder first first = true
+sameOrder first second = false
+sameOrder second first = false
+sameOrder second second = true
+
+-- the name is in use and, as the latest of that name, of that order: "an inner one hides an outer"
+unfoldable pub hasOrder : Scope → Order → Name → Bool
+hasOrder [] o x = false
+hasOrder (d ∷ sc) o x = cond (sameBytes x (d .name)) (sameOrder o (d .order)) (hasOrder sc o x)
+
+unfoldable pub inUse : Scope → Name → Bool
+inUse sc x = hasOrder sc first x || hasOrder sc second x
+
+-- a name that is used: 24 when it "is undeclared" or "of the wrong order"; the test says that it is neither
+abbrev pub usedRefusal : Bool → Token → ℕ
+usedRefusal good t = cond (not (isName t)) 23 (cond (not good) 24 0)
+
+-- a name that is declared or bound: 24 when it is "twice in the declarations"; "25 at a name that needs a ninth track"
+abbrev pub newRefusal : Bool → Scope → Token → ℕ
+newRefusal twice sc t = cond (not (isName t)) 23 (cond twice 24 (cond (leb 8 (length sc)) 25 0))
+
+-- a name of order o
+unfoldable pub used : {A : Type 0} → Order → Scope → List Token → (Name → List Token → Read A) → Read A
+used o sc ts go = accept (usedRefusal (hasOrder sc o (next ts .bytes)) (next ts)) ts go
+
+-- the word or mark between the two sides of an atom
+pub data Relation : Type 0 where
+  inclusion membership equality other : Relation
+
+unfoldable pub relationOf : Token → Relation
+relationOf t = cond (spells "sub" t) inclusion (cond (spells "in" t) membership (cond (spells "=" t) equality other))
+
+-- the order that it asks of the name before it: the fault lies at that name, though it shows only here
+unfoldable pub leftGood : Relation → Scope → Name → Bool
+leftGood inclusion sc x = hasOrder sc second x
+leftGood membership sc x = hasOrder sc first x
+leftGood equality sc x = hasOrder sc first x
+leftGood other sc x = inUse sc x
+
+-- "the right side is a place that is either a variable, its branch, or the root"; "`.0` is branch 1 and `.1` branch 2"
+unfoldable pub branchOf : Name → List Token → Read Spot
+branchOf y ts = elim (spells ".0" (next ts)) [
+  | true ↦ got (branch one y) (rest ts)
+  | false ↦ elim (spells ".1" (next ts)) [ true ↦ got (branch two y) (rest ts) | false ↦ got (variable y) ts ]
+]
+
+unfoldable pub spotOf : Scope → List Token → Read Spot
+spotOf sc ts = elim (spells "root" (next ts)) [ true ↦ got root (rest ts) | false ↦ used first sc ts branchOf ]
+
+-- the rest of an atom whose left name is x
+unfoldable pub related : Relation → Scope → Name → List Token → Read Sentence
+related inclusion sc x ts = used second sc (rest ts) (λ y us. got (atom (sub x y)) us)
+related membership sc x ts = used second sc (rest ts) (λ y us. got (atom (member x y)) us)
+related equality sc x ts = andThen (spotOf sc (rest ts)) (λ p us. got (atom (equal x p)) us)
+related other sc x ts = refused 23 (next ts)
+
+abbrev pub Reader : Type 0
+Reader = Scope → List Token → Read Sentence
+
+unfoldable pub atomOf : Reader
+atomOf sc ts =
+    let r = relationOf (next (rest ts)) in
+    accept (usedRefusal (leftGood r sc (next ts .bytes)) (next ts)) ts (λ x us. related r sc x us)
+
+-- the operands that an operator joins, after the first, f: "`=>` groups to the right, the others to the left"; d: at least the tokens left
+unfoldable pub more : ℕ → String → (Sentence → Sentence → Sentence) → Reader → Scope → Sentence → List Token → Read Sentence
+more zero w join read sc f ts = got f ts
+more (suc d) w join read sc f ts = elim (spells w (next ts)) [
+  | true ↦ andThen (read sc (rest ts)) (λ g us. more d w join read sc (join f g) us)
+  | false ↦ got f ts
+]
+
+unfoldable pub joined : String → (Sentence → Sentence → Sentence) → Reader → Reader
+joined w join read sc ts = andThen (read sc ts) (λ f us. more (length us) w join read sc f us)
+
+-- how an operand starts; a level "opening at its bracket, `~`, quantifier word", where there is none left, is too deep
+pub data Start : Type 0 where
+  negation bracket atomic tooDeep : Start
+  quantifier : (Order → Name → Sentence → Sentence) → Order → Start
+
+unfoldable pub opening : ℕ → Start → Start
+opening zero s = tooDeep
+opening (suc d) s = s
+
+-- the start of an operand, where d levels may still open
+unfoldable pub startOf : ℕ → Token → Start
+startOf d t =
+    cond (spells "~" t) (opening d negation)
+    (cond (spells "(" t) (opening d bracket)
+    (cond (spells "ex1" t) (opening d (quantifier forSome first))
+    (cond (spells "ex2" t) (opening d (quantifier forSome second))
+    (cond (spells "all1" t) (opening d (quantifier forEvery first))
+    (cond (spells "all2" t) (opening d (quantifier forEvery second)) atomic)))))
+
+-- the readers of one level that those above it call: an operand of `~`; the right side of `=>`; a whole formula, in brackets or behind a quantifier
+pub data Part : Type 0 where
+  operand consequent formula : Part
+
+-- an operand, from the readers a level deeper: "a quantifier binds one name" and "reaches as far right as it can"
+unfoldable pub operandOf : (Part → Reader) → Start → Reader
+operandOf deeper negation sc ts = andThen (deeper operand sc (rest ts)) (λ f us. got (denied f) us)
+operandOf deeper bracket sc ts = andThen (deeper formula sc (rest ts)) (λ f us. accept (or23 (spells ")" (next us))) us (λ _ vs. got f vs))
+operandOf deeper atomic sc ts = atomOf sc ts
+operandOf deeper tooDeep sc ts = refused 23 (next ts)
+operandOf deeper (quantifier make o) sc ts =
+    accept (newRefusal false sc (next (rest ts))) (rest ts) (λ x us.
+    accept (or23 (spells ":" (next us))) us (λ _ vs.
+    andThen (deeper formula (record { name = x; order = o } ∷ sc) vs) (λ f ws. got (make o x f) ws)))
+
+-- "`=>` groups to the right", and its right side is a level of its own; f: its left side
+unfoldable pub impliedBy : ℕ → (Part → Reader) → Scope → Sentence → List Token → Read Sentence
+impliedBy d deeper sc f ts = elim (spells "=>" (next ts)) [
+  | true ↦ elim (eqb d 0) [ true ↦ refused 23 (next ts) | false ↦ andThen (deeper consequent sc (rest ts)) (λ g us. got (implies f g) us) ]
+  | false ↦ got f ts
+]
+
+-- "Binding strength falls from `~` through `&`, `|`, `=>` to `<=>`": the readers of one level, where d more may open
+unfoldable pub operandAt : ℕ → (Part → Reader) → Reader
+operandAt d deeper sc ts = operandOf deeper (startOf d (next ts)) sc ts
+
+unfoldable pub consequentAt : ℕ → (Part → Reader) → Reader
+consequentAt d deeper sc ts = andThen (joined "|" either (joined "&" both (operandAt d deeper)) sc ts) (λ f us. impliedBy d deeper sc f us)
+
+unfoldable pub partAt : ℕ → (Part → Reader) → Part → Reader
+partAt d deeper operand sc ts = operandAt d deeper sc ts
+partAt d deeper consequent sc ts = consequentAt d deeper sc ts
+partAt d deeper formula sc ts = joined "<=>" alike (consequentAt d deeper) sc ts
+
+-- the readers where d levels may still open: "nest at most 32 deep"
+unfoldable pub reader : ℕ → Part → Reader
+reader zero p sc ts = partAt zero (λ q sd us. refused 23 (next us)) p sc ts
+reader (suc d) p sc ts = partAt (suc d) (λ q sd us. reader d q sd us) p sc ts
+
+-- "A declaration lists one or more names with commas and ends with a semicolon"; d: at least the tokens that are left
+unfoldable pub names : ℕ → Order → Scope → List Token → Read Scope
+names zero o sc ts = refused 23 (next ts)
+names (suc d) o sc ts = accept (newRefusal (inUse sc (next ts .bytes)) sc (next ts)) ts (λ x us.
+    elim (spells "," (next us)) [
+      | true ↦ names d o (record { name = x; order = o } ∷ sc) (rest us)
+      | false ↦ accept (or23 (spells ";" (next us))) us (λ _ vs. got (record { name = x; order = o } ∷ sc) vs)
+    ])
+
+-- "any number of `var1` and `var2` declarations"
+unfoldable pub declarations : ℕ → Scope → List Token → Read Scope
+declarations zero sc ts = got sc ts
+declarations (suc d) sc ts = elim (spells "var1" (next ts)) [
+  | true ↦ andThen (names d first sc (rest ts)) (declarations d)
+  | false ↦ elim (spells "var2" (next ts)) [ true ↦ andThen (names d second sc (rest ts)) (declarations d) | false ↦ got sc ts ]
+]
+
+-- "the heading `ws2s;`, any number of declarations, then one formula, ended by a semicolon"
+unfoldable pub textFrom : List Token → Read Text
+textFrom ts =
+    accept (or23 (spells "ws2s" (next ts))) ts (λ _ us.
+    accept (or23 (spells ";" (next us))) us (λ _ vs.
+    andThen (declarations (length vs) [] vs) (λ sc ws.
+    andThen (reader 32 formula sc ws) (λ f xs.
+    accept (or23 (spells ";" (next xs))) xs (λ _ ys.
+    accept (or23 (eqb (next ys .kind) theEnd)) ys (λ _ zs. got (record { declared = sc; sentence = f }) zs))))))
+
+unfoldable pub textOf : List ℕ → Read Text
+textOf s = textFrom (tokensOf s)

@@ -1,0 +1,41 @@
+-- Import: request A2. Assumes nothing.
+use Prim.Native.Nat.{ℕ, zero, suc}
+use mathlib.Core.Bool.{true, false}
+use mathlib.Core.List.{List, [], _∷_, _++_}
+use lib.Dec.{ltb, leb}
+use lib.ListN.{length}
+use lib.Seq.{sets}
+use Rattle.logic.specs.Rule.{Record}
+use Rattle.bits.specs.Bits.{digits, pack}
+use Rattle.text.specs.Syntax.{Text}
+use Rattle.text.specs.Grammar.{Read, got, textOf}
+use Rattle.text.specs.Grammar.{refused as leaves}
+use Rattle.text.specs.Records.{variablesIn, countIn, recordsIn}
+
+-- "op 4, first field 7, second field 7"
+unfoldable pub recordBits : List Record → List ℕ
+recordBits [] = []
+recordBits (r ∷ rs) = digits 4 (r .op) ++ (digits 7 (r .first) ++ (digits 7 (r .second) ++ recordBits rs))
+
+-- "version 4 bits (1), n 4 bits (1 to 8), record count m 8 bits (1 to 128), then m records": the rule strip that is written
+unfoldable pub ruleStrip : ℕ → List Record → List ℕ
+ruleStrip n rs = pack 0 8 (digits 4 1 ++ (digits 4 n ++ (digits 8 (length rs) ++ recordBits rs)))
+
+-- what import answers: n, m and the strip, or a refusal
+pub data Import : Type 0 where
+  written : (n m : ℕ) → List ℕ → Import
+  refused : ℕ → Import
+
+-- "last, 26 when the record counts add to more than 128"
+unfoldable pub ruleOf : Read Text → Import
+ruleOf (leaves r t) = refused r
+ruleOf (got t ts) = elim (leb (countIn t) 128) [ true ↦ written (variablesIn t) (countIn t) (ruleStrip (variablesIn t) (recordsIn t)) | false ↦ refused 26 ]
+
+-- "27, tested first, when the out buffer is under 290 bytes; then" 23 to 25, the earliest in the text; "last, 26"
+unfoldable pub import : List ℕ → ℕ → Import
+import s size = elim (ltb size 290) [ true ↦ refused 27 | false ↦ ruleOf (textOf s) ]
+
+-- "A strip that an operation writes stands at the front of its buffer; later bytes are unchanged."
+unfoldable pub outAfter : Import → List ℕ → List ℕ
+outAfter (written n m strip) out = sets out 0 strip
+outAfter (refused r) out = out

@@ -1,0 +1,115 @@
+-- The tokens of a text: document 01, "How trainers type a rule". Assumes nothing.
+use Prim.Native.Nat.{ℕ, zero, suc, _+_}
+use Prim.Native.Char.{Char, code}
+use Prim.Native.String as text
+use Prim.Native.String.{String}
+use mathlib.Core.Bool.{Bool, true, false, _&&_, _||_}
+use mathlib.Core.List.{List, [], _∷_, _++_}
+use lib.Dec.{eqb}
+use lib.Text.{eqt}
+use lib.ListN.{length, take, drop}
+use Rattle.bits.specs.Bits.{between}
+
+-- a token: its kind, its bytes, and the byte places where it starts and ends
+pub record Token : Type 0 where
+  pub kind : ℕ
+  pub bytes : List ℕ
+  pub start : ℕ
+  pub stop : ℕ
+
+-- the bytes of a quoted ASCII text
+unfoldable pub spell : String → List ℕ
+spell text.[] = []
+spell (text._∷_ c s) = code c ∷ spell s
+
+-- a name "is none of `ws2s`, `var1`, `var2`, `ex1`, `ex2`, `all1`, `all2`, `sub`, `in`, `root`"
+unfoldable pub words : List String
+words = "ws2s" ∷ "var1" ∷ "var2" ∷ "ex1" ∷ "ex2" ∷ "all1" ∷ "all2" ∷ "sub" ∷ "in" ∷ "root" ∷ []
+
+-- "`.0` and `.1` are single tokens; the longest token is taken": `=>` stands before `=`
+unfoldable pub marks : List String
+marks = ";" ∷ "," ∷ ":" ∷ "(" ∷ ")" ∷ "~" ∷ "&" ∷ "|" ∷ "=>" ∷ "<=>" ∷ "=" ∷ ".0" ∷ ".1" ∷ []
+
+-- kinds: 0 to 9 the words, 10 to 22 the marks, each in the order above; then a name, a byte that starts no token, and the end of the text
+abbrev pub aName : ℕ
+aName = 23
+
+abbrev pub aStray : ℕ
+aStray = 24
+
+abbrev pub theEnd : ℕ
+theEnd = 25
+
+-- the number of a spelling in a list whose first has number i; 26, which no token has, if it is not there
+unfoldable pub placeIn : ℕ → List String → String → ℕ
+placeIn i [] w = 26
+placeIn i (v ∷ vs) w = elim (eqt v w) [ true ↦ i | false ↦ placeIn (suc i) vs w ]
+
+-- the token is this word or mark
+unfoldable pub spells : String → Token → Bool
+spells w t = eqb (t .kind) (placeIn 0 (words ++ marks) w)
+
+abbrev pub isName : Token → Bool
+isName t = eqb (t .kind) aName
+
+unfoldable pub sameBytes : List ℕ → List ℕ → Bool
+sameBytes [] [] = true
+sameBytes [] (c ∷ s) = false
+sameBytes (b ∷ w) [] = false
+sameBytes (b ∷ w) (c ∷ s) = eqb b c && sameBytes w s
+
+unfoldable pub beginsWith : List ℕ → List ℕ → Bool
+beginsWith [] s = true
+beginsWith (b ∷ w) [] = false
+beginsWith (b ∷ w) (c ∷ s) = eqb b c && beginsWith w s
+
+-- "an ASCII letter"
+abbrev pub isLetter : ℕ → Bool
+isLetter b = between 65 90 b || between 97 122 b
+
+-- "ASCII letters or digits"
+abbrev pub isAlnum : ℕ → Bool
+isAlnum b = isLetter b || between 48 57 b
+
+-- "Spaces, tabs, CR and LF separate."
+abbrev pub isBlank : ℕ → Bool
+isBlank b = eqb b 32 || (eqb b 9 || (eqb b 13 || eqb b 10))
+
+-- how many letters or digits s begins with
+unfoldable pub run : List ℕ → ℕ
+run [] = 0
+run (b ∷ s) = elim (isAlnum b) [ true ↦ suc (run s) | false ↦ 0 ]
+
+-- the kind of the letters and digits w: the place of w among the words numbered from i, else a name
+unfoldable pub wordKind : ℕ → List String → List ℕ → ℕ
+wordKind i [] w = aName
+wordKind i (v ∷ vs) w = elim (sameBytes (spell v) w) [ true ↦ i | false ↦ wordKind (suc i) vs w ]
+
+-- the kind and size of a token
+pub record Piece : Type 0 where
+  pub kind : ℕ
+  pub size : ℕ
+
+-- the first of the marks numbered from i that s begins with; a stray is one byte
+unfoldable pub markPiece : ℕ → List String → List ℕ → Piece
+markPiece i [] s = record { kind = aStray; size = 1 }
+markPiece i (m ∷ ms) s = elim (beginsWith (spell m) s) [ true ↦ record { kind = i; size = length (spell m) } | false ↦ markPiece (suc i) ms s ]
+
+-- the token that the bytes b ∷ s begin with: "A name is an ASCII letter followed by any number of ASCII letters or digits"
+unfoldable pub piece : ℕ → List ℕ → Piece
+piece b s = elim (isLetter b) [ true ↦ record { kind = wordKind 0 words (b ∷ take (run s) s); size = suc (run s) } | false ↦ markPiece 10 marks (b ∷ s) ]
+
+-- the tokens of s, whose first byte has place at; the end of the text is the last. d: more than the bytes of s
+unfoldable pub tokens : ℕ → ℕ → List ℕ → List Token
+tokens zero at s = record { kind = theEnd; bytes = []; start = at; stop = at } ∷ []
+tokens (suc d) at [] = record { kind = theEnd; bytes = []; start = at; stop = at } ∷ []
+tokens (suc d) at (b ∷ s) = elim (isBlank b) [
+  | true ↦ tokens d (suc at) s
+  | false ↦
+      let p = piece b s in
+      let w = take (p .size) (b ∷ s) in
+      record { kind = p .kind; bytes = w; start = at; stop = at + p .size } ∷ tokens d (at + p .size) (drop (p .size) (b ∷ s))
+]
+
+unfoldable pub tokensOf : List ℕ → List Token
+tokensOf s = tokens (suc (length s)) 0 s
