@@ -1,10 +1,11 @@
 -- A list of bytes as a list of bits, and back: document 01, "Strips": "Fields are bit-packed, most significant first, then zero bits to
 -- a whole byte." Assumes nothing.
 use mathlib.Core.Bool.{Bool, false, not, _&&_, _||_, cond}
+use mathlib.Core.Path.{_≡_}
 use mathlib.Core.List.{List, [], _∷_, _++_}
-use Prim.Native.Nat.{ℕ, zero, suc, _+_, _-_, _*_, _/_, _%_, _^_, min}
+use Prim.Native.Nat.{ℕ, zero, suc, _+_, _-_, _*_, _/_, _%_, _^_, _≤_, min}
 use lib.Dec.{eqb, leb}
-use lib.ListN.{length, take, drop}
+use lib.ListN.{length, getD, take, drop}
 
 -- the b lowest binary digits of v, most significant first
 unfoldable pub digits : ℕ → ℕ → List ℕ
@@ -45,6 +46,10 @@ pack a zero [] = a ∷ []
 pack a zero (b ∷ bs) = a ∷ pack b 7 bs
 pack a (suc d) [] = (a * 2 ^ suc d) ∷ []
 pack a (suc d) (b ∷ bs) = pack (a * 2 + b) d bs
+
+-- nothing but zeros from a place on
+abbrev pub Clear : List ℕ → ℕ → Type 0
+Clear l at = (k : ℕ) → at ≤ k → getD l k 0 ≡ 0
 
 -- is v one of low to high
 abbrev pub between : ℕ → ℕ → ℕ → Bool

@@ -2,7 +2,6 @@ pub mod TreeBits
 pub mod TreeParse
 pub mod TreeHead
 pub mod TreeEnd
-pub mod TreePack
 pub mod TreeLaws
 pub mod TreeWalk
 pub mod TreePlaces

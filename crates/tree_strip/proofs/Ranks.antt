@@ -1,4 +1,4 @@
--- The bits of the tree of a rank, by those of its branches; and a run of stores at a place that holds zeros. Assumes nothing.
+-- The bits of the tree of a rank, by those of its branches, and how they are written. Assumes nothing.
 use mathlib.Core.Path.{_≡_, refl, sym, ap, ap₂, _∙_}
 use mathlib.Core.List.{List, [], _∷_, _++_}
 use Prim.Native.Nat.{ℕ, zero, suc, _+_, _-_, _*_, _≤_, _<_}
@@ -7,28 +7,16 @@ use lib.ListN.{length, getD, set, length-append, List·getD-append}
 use lib.Seq.{sets, set-getD, getD-append-seam}
 use Rattle.logic.specs.Tree.{Tree, empty}
 use Rattle.logic.specs.Search.{at}
-use Rattle.bits.specs.Bits.{bits, digits}
+use Rattle.bits.specs.Bits.{bits, digits, Clear}
 use Rattle.tree_strip.specs.TreeStrip.{treeBits}
-use Rattle.bits.proofs.Fields.{sets-after, length-digits}
+use Rattle.bits.proofs.Fields.{length-digits}
+use Rattle.bits.proofs.Writing.{clear-after, three}
 use Rattle.tree_strip.specs.Ranks.{treeAt, decode, Backs}
-use Rattle.tree_strip.specs.Ranks.{treeOfRank, Clear, Writable}
-
-pub sets-append : (l : List ℕ) (at : ℕ) (xs ys : List ℕ) → sets l at (xs ++ ys) ≡ sets (sets l at xs) (at + length xs) ys
-sets-append l at [] ys = let e : at + 0 ≡ at = omega arith in rw e refl
-sets-append l at (x ∷ xs) ys = let e : at + suc (length xs) ≡ suc at + length xs = omega arith in rw e (sets-append (set l at x) (suc at) xs ys)
-
-pub clear-after : (l l′ : List ℕ) (at m : ℕ) (vs : List ℕ) → l′ ≡ sets l at vs → Clear l at → m ≡ at + length vs → Clear l′ m
-clear-after l l′ at m vs e z q k h = rw e (sets-after l at vs k (omega arith) ∙ z k (omega arith))
+use Rattle.tree_strip.specs.Ranks.{treeOfRank, Writable}
 
 -- an empty tree is a 0 that stands there already
 pub empty-stands : (l : List ℕ) (at : ℕ) (vs : List ℕ) → vs ≡ 0 ∷ [] → Clear l at → (at + 1 ≡ at + length vs) × (l ≡ sets l at vs)
 empty-stands l at vs e z = rw e (refl, sym (ap (set l at) (sym (z at (omega arith))) ∙ set-getD l at 0))
-
--- the head of a node, and its two branches after it
-pub three : (l₀ l₁ l₂ l₃ : List ℕ) (at m a : ℕ) (xs ys zs : List ℕ)
-    → l₁ ≡ sets l₀ at xs → l₂ ≡ sets l₁ m ys → l₃ ≡ sets l₂ a zs → m ≡ at + length xs → a ≡ m + length ys → l₃ ≡ sets l₀ at (xs ++ (ys ++ zs))
-three l₀ l₁ l₂ l₃ at m a xs ys zs p q r e f =
-    r ∙ rw (f, q, e, p) (sym (sets-append l₀ at xs (ys ++ zs) ∙ sets-append (sets l₀ at xs) (at + length xs) ys zs))
 
 pub decode-length : (label first second : List ℕ) (n : ℕ) → length (decode label first second n) ≡ n
 unfolding decode

@@ -19,7 +19,8 @@ use Rattle.tree_strip.specs.declared.check.TreeRead.the-variants as read
 use Rattle.tree_strip.specs.declared.check.TreeCheck.the-variants as check
 use Rattle.bits.proofs.Fields.{length-bits}
 use Rattle.bits.proofs.Places.{slice-from, any-first}
-use Rattle.tree_strip.proofs.TreeBits.{length-from, treeBits-length}
+use Rattle.bits.proofs.Packing.{length-from}
+use Rattle.tree_strip.proofs.TreeBits.{treeBits-length}
 use Rattle.tree_strip.proofs.TreeHead.{treeAt, told-tree, place, reading-at, ending, room}
 
 -- ---- the bits from a place on: the padding fills up a byte

@@ -21,7 +21,8 @@ use Rattle.tree_strip.specs.declared.check.Head.the-variants as head
 use Rattle.tree_strip.specs.declared.check.TreeRead.{TreeRead}
 use Rattle.tree_strip.specs.declared.check.TreeRead.the-variants as read
 use Rattle.bits.proofs.Fields.{length-bits}
-use Rattle.tree_strip.proofs.TreeBits.{length-from, treeBits-length, last-from}
+use Rattle.bits.proofs.Packing.{length-from}
+use Rattle.tree_strip.proofs.TreeBits.{treeBits-length, last-from}
 use Rattle.tree_strip.proofs.TreeParse.{Reading, Good, parse-good, parse-reading, parse-enough}
 
 module _ (s : List ℕ) (n : ℕ) where

@@ -21,9 +21,9 @@ use Rattle.tree_strip.specs.TreeStrip.{treeBits, treeStrip, treeBytes}
 use Rattle.tree_strip.specs.TreeAnswers.{answered, checkedTree}
 use Rattle.tree_strip.specs.declared.check.TreeCheck.the-variants.{Accepted, Refused}
 use Rattle.bits.proofs.Fields.{length-digits, length-bits}
-use Rattle.tree_strip.proofs.TreeBits.{treeBits-length, length-from, number-of, bits-append, bits-drop, bits-bits, digits-bits, tree-bits, last-from}
+use Rattle.bits.proofs.Packing.{length-from, number-of, bits-append, bits-drop, bits-bits, digits-bits, Padded, pack-bits, strip-of-bits}
+use Rattle.tree_strip.proofs.TreeBits.{treeBits-length, tree-bits, last-from}
 use Rattle.tree_strip.proofs.TreeParse.{label-digits, parse-reading, parse-back}
-use Rattle.tree_strip.proofs.TreePack.{Padded, pack-bits, strip-of-bits}
 
 -- the bits that are written before the padding
 abbrev pub stripBits : ℕ → Tree 2 → List ℕ

@@ -20,8 +20,9 @@ use Rattle.tree_strip.specs.TreeStrip.{Parsed, parsed, refused, placeOf,
 use Rattle.tree_strip.specs.TreePlaces.{Comes, begin, past-empty, past-label, Offends, early-end, bare-node, node-bit}
 use Rattle.bits.proofs.Fields.{length-digits}
 use Rattle.logic.proofs.Two.{two-branches}
-use Rattle.tree_strip.proofs.TreeBits.{positions-pair, positions-node, treeBits-length, AreBits, bits-take, number-of, number-lt, digits-number}
-use Rattle.tree_strip.proofs.TreeBits.{length-from, bit-is, node-from, after-label, Last, last-few, last-bits, last-second, last-drop}
+use Rattle.bits.proofs.Packing.{AreBits, bits-take, number-of, number-lt, digits-number, length-from, bit-is}
+use Rattle.tree_strip.proofs.TreeBits.{positions-pair, positions-node, treeBits-length}
+use Rattle.tree_strip.proofs.TreeBits.{node-from, after-label, Last, last-few, last-bits, last-second, last-drop}
 
 -- t is at the front of bs, and m positions are met after it; reading the strip s goes on from bs to rest
 pub record Reading (s : List ℕ) (n met : ℕ) (bs : List ℕ) (t : Tree 2) (m : ℕ) (rest : List ℕ) : Type 0 where

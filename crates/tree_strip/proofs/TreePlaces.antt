@@ -15,7 +15,8 @@ use Rattle.bits.specs.declared.Fault.the-variants.{Sound, At}
 use Rattle.tree_strip.specs.TreeStrip.{Parsed, parsed, refused, placeOf, parse, padding, endFault, unless, ended, readTree, faultIn, treeFault, Stands}
 use Rattle.tree_strip.specs.TreePlaces.{treeEnd, wholeByte, Unset, Comes, begin, Offends, OffendsAt, no-bytes, version, variables, padding-bit, byte-left}
 use Rattle.bits.proofs.Places.{any-first, first-set, first-before}
-use Rattle.tree_strip.proofs.TreeBits.{length-from, bits-bits, last-from}
+use Rattle.bits.proofs.Packing.{length-from, bits-bits}
+use Rattle.tree_strip.proofs.TreeBits.{last-from}
 use Rattle.tree_strip.proofs.TreeParse.{Good, parse-good}
 use Rattle.tree_strip.proofs.TreeHead.{place, ending}
 use Rattle.tree_strip.proofs.TreeEnd.{padding-length}

@@ -11,7 +11,8 @@ use Rattle.logic.specs.Two.{one, two}
 use Rattle.bits.specs.Bits.{digits, bits, number, field}
 use Rattle.tree_strip.specs.TreeStrip.{treeBits, Stands}
 use Rattle.bits.proofs.Fields.{length-digits}
-use Rattle.tree_strip.proofs.TreeBits.{treeBits-length, length-from, bit-is, number-of, node-from, after-label}
+use Rattle.bits.proofs.Packing.{length-from, bit-is, number-of}
+use Rattle.tree_strip.proofs.TreeBits.{treeBits-length, node-from, after-label}
 use Rattle.tree_strip.proofs.TreeLaws.{TreeFacts, facts-tree}
 
 pub facts-stand : (s : List ℕ) (n : ℕ) (t : Tree 2) → TreeFacts s n t → Stands s n 8 t

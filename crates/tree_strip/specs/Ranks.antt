@@ -6,7 +6,7 @@ use mathlib.Core.List.{List, [], _∷_, _++_}
 use lib.ListN.{length, getD}
 use Rattle.logic.specs.Tree.{Tree, empty, positions}
 use Rattle.logic.specs.Search.{at, candidate}
-use Rattle.bits.specs.Bits.{bits}
+use Rattle.bits.specs.Bits.{bits, Clear}
 use Rattle.tree_strip.specs.TreeStrip.{treeBits, treeBytes}
 
 -- the tree of rank i, from its label and the ranks of its branches among the trees s before it: rank 0 is the empty tree
@@ -26,10 +26,6 @@ treeOfRank label first second count r = at (decode label first second count) r
 -- the branches of a rank have smaller ranks
 abbrev pub Backs : ℕ → List ℕ → List ℕ → Type 0
 Backs n first second = (i : ℕ) → 0 < i → i < n → (getD first i 0 < i) × (getD second i 0 < i)
-
--- nothing but zeros from a place on
-abbrev pub Clear : List ℕ → ℕ → Type 0
-Clear l at = (k : ℕ) → at ≤ k → getD l k 0 ≡ 0
 
 -- a node bit and a label of n bits have room in d from a place on, where zeros stand
 pub record NodeRoom (d : List ℕ) (at n : ℕ) : Type 0 where

@@ -7,8 +7,7 @@ use native.Mathlib.Omega.{arith}
 use borrow.Author.Needs.{needs}
 use lib.ListN.{getD, set}
 use lib.Seq.{getD-set-other, sets}
-use Rattle.bits.specs.Bits.{digits, bits}
-use Rattle.tree_strip.specs.Ranks.{Clear}
+use Rattle.bits.specs.Bits.{digits, bits, Clear}
 use Rattle.tree_strip.proofs.write.put_node.Statement.{statement}
 use Rattle.tree_strip.proofs.write.put_node.Tie as tie
 

@@ -4,7 +4,8 @@ use Prim.Native.Nat.{_+_}
 use native.Mathlib.Omega.{arith}
 use lib.ListN.{length}
 use Rattle.tree_strip.specs.Ranks.{treeOfRank}
-use Rattle.tree_strip.proofs.TreeWriting.{cleared, after-version, after-head, strip-size, strip-written}
+use Rattle.bits.proofs.Writing.{cleared}
+use Rattle.tree_strip.proofs.TreeWriting.{after-version, after-head, strip-size, strip-written}
 use borrow.Author.Needs.{needs}
 use Rattle.tree_strip.proofs.write.write_strip.Statement.{statement}
 use Rattle.tree_strip.proofs.write.write_strip.Tie as tie

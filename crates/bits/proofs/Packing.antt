@@ -1,17 +1,98 @@
--- Bits packed into bytes: packing is unpacked by `bits`, up to padding, and nothing else packs to the same. Assumes nothing.
-use Prim.Native.Nat.{ℕ, zero, suc, _+_, _-_, _*_, _^_, _≤_, _<_}
+-- Lists of bits: those of some bytes, of some digits; the number that they are; and bits packed into bytes, which `bits` unpacks, up to
+-- padding, and nothing else packs to the same. Assumes nothing.
+use Prim.Native.Nat.{ℕ, zero, suc, _+_, _-_, _*_, _/_, _%_, _^_, _≤_, _<_}
 use mathlib.Core.Path.{_≡_, refl, sym, ap, ap₂, _∙_}
 use mathlib.Core.Bool.{Bool, true, false}
 use mathlib.Core.List.{List, [], _∷_, _++_, append-assoc, append-nil}
-use native.Mathlib.Nat.{not-suc-le-zero, le-of-suc-le-suc, pow-suc, mul-one, mul-assoc, mul-comm}
+use native.Mathlib.Nat.{not-suc-le-zero, le-of-suc-le-suc, mod-eq-of-lt, add-zero, add-mul, pow-suc, mul-one, mul-assoc, mul-comm}
 use native.Mathlib.Omega.{arith}
 use borrow.Author.Tests.{ltb-true, ltb-false}
+use lib.Arith.{digits-lt, digits-mod}
 use lib.Dec.{ltb, lit<}
 use lib.ListN.{length, getD, take, drop, replicate, length-append, length-drop, length-replicate, take-append-drop}
-use lib.Seq.{length-take-le, take-append-le, drop-append-le, take-at, drop-at}
+use lib.Pow.{high}
+use lib.Seq.{getD-drop, drop-drop, length-take-le, take-append-le, drop-append-le, take-at, drop-at}
 use Rattle.bits.specs.Bits.{digits, bits, number, pack}
-use Rattle.bits.proofs.Fields.{length-digits, length-bits}
-use Rattle.tree_strip.proofs.TreeBits.{AreBits, bits-append, bits-drop, bits-take, number-of, digits-number}
+use Rattle.bits.proofs.Digits.{bit-lt}
+use Rattle.bits.proofs.Fields.{length-digits, length-bits, number-digits}
+
+-- ---- lists of bits
+
+abbrev pub AreBits : List ℕ → Type 0
+AreBits bs = (k : ℕ) → getD bs k 0 < 2
+
+pub bits-drop : (n : ℕ) (bs : List ℕ) → AreBits bs → AreBits (drop n bs)
+bits-drop n bs h k = rw (getD-drop n bs k 0) (h (n + k))
+
+pub bits-take : (n : ℕ) (bs : List ℕ) → AreBits bs → AreBits (take n bs)
+bits-take zero bs h k = lit< tt
+bits-take (suc n) [] h k = lit< tt
+bits-take (suc n) (x ∷ bs) h zero = h 0
+bits-take (suc n) (x ∷ bs) h (suc k) = bits-take n bs (λ j. h (suc j)) k
+
+pub bits-append : (xs ys : List ℕ) → AreBits xs → AreBits ys → AreBits (xs ++ ys)
+bits-append [] ys g h k = h k
+bits-append (x ∷ xs) ys g h zero = g 0
+bits-append (x ∷ xs) ys g h (suc k) = bits-append xs ys (λ j. g (suc j)) h k
+
+pub digits-bits : (b v : ℕ) → AreBits (digits b v)
+unfolding digits
+digits-bits zero v k = lit< tt
+digits-bits (suc b) v zero = bit-lt b v
+digits-bits (suc b) v (suc k) = digits-bits b v k
+
+pub bits-bits : (s : List ℕ) → AreBits (bits s)
+unfolding bits
+bits-bits [] k = lit< tt
+bits-bits (x ∷ s) k = bits-append (digits 8 x) (bits s) (digits-bits 8 x) (bits-bits s) k
+
+-- the bits from a place on
+pub length-from : (s : List ℕ) (at : ℕ) → length (drop at (bits s)) ≡ 8 * length s - at
+length-from s at = length-drop at (bits s) ∙ ap (λ (k : ℕ). k - at) (length-bits s)
+
+pub bit-is : (s : List ℕ) (at b : ℕ) (bs : List ℕ) → drop at (bits s) ≡ b ∷ bs
+    → (at < 8 * length s) × (getD (bits s) at 0 ≡ b) × (drop (at + 1) (bits s) ≡ bs)
+bit-is s at b bs e = (
+  let l = length-from s at in let k = ap length e in omega arith,
+  ap (λ (k : ℕ). getD (bits s) k 0) (sym (add-zero at)) ∙ sym (getD-drop at (bits s) 0 0) ∙ ap (λ (l : List ℕ). getD l 0 0) e,
+  sym (drop-drop 1 at (bits s)) ∙ ap (drop 1) e,
+)
+
+-- ---- a list of bits as a number
+-- a number of n bits, from its digits
+pub number-of : (n l : ℕ) → l < 2 ^ n → number 0 (digits n l) ≡ l
+number-of n l h = number-digits 0 n l ∙ ap (λ (v : ℕ). 0 * 2 ^ n + v) (mod-eq-of-lt h) ∙ omega arith
+
+number-from : (a : ℕ) (bs : List ℕ) → number a bs ≡ a * 2 ^ length bs + number 0 bs
+number-from a [] = sym (omega arith)
+number-from a (b ∷ bs) =
+    let e : (a * 2 + b) * 2 ^ length bs ≡ a * (2 * 2 ^ length bs) + b * 2 ^ length bs =
+    add-mul (a * 2) b (2 ^ length bs) ∙ ap (λ (k : ℕ). k + b * 2 ^ length bs) (mul-assoc a 2 (2 ^ length bs)) in
+    let f : 2 ^ suc (length bs) ≡ 2 * 2 ^ length bs = pow-suc 2 (length bs) ∙ mul-comm (2 ^ length bs) 2 in
+    let p = number-from (a * 2 + b) bs in
+    let q = number-from (0 * 2 + b) bs in
+    let z : (0 * 2 + b) ≡ b = omega arith in
+    let q′ : number (0 * 2 + b) bs ≡ b * 2 ^ length bs + number 0 bs = q ∙ ap (λ (k : ℕ). k * 2 ^ length bs + number 0 bs) z in
+    p ∙ rw (e, f) (omega arith)
+
+pub number-lt : (bs : List ℕ) → AreBits bs → number 0 bs < 2 ^ length bs
+number-lt [] h = lit< tt
+number-lt (b ∷ bs) h =
+    let f : 2 ^ suc (length bs) ≡ 2 * 2 ^ length bs = pow-suc 2 (length bs) ∙ mul-comm (2 ^ length bs) 2 in
+    let q : number (0 * 2 + b) bs ≡ b * 2 ^ length bs + number 0 bs = number-from (0 * 2 + b) bs
+    ∙ ap (λ (k : ℕ). k * 2 ^ length bs + number 0 bs) (omega arith) in
+    rw (f, q) (digits-lt (h 0) (number-lt bs (λ k. h (suc k))))
+
+-- the digits of the number that some bits are, are those bits
+pub digits-number : (a : ℕ) (bs : List ℕ) → AreBits bs → digits (length bs) (number a bs) ≡ bs
+unfolding digits
+digits-number a [] h = refl
+digits-number a (b ∷ bs) h =
+    ap₂ (λ (d : ℕ) (l : List ℕ). d ∷ l)
+    (ap (λ (k : ℕ). k / 2 ^ length bs % 2) (number-from (a * 2 + b) bs)
+    ∙ ap (λ (k : ℕ). k % 2) (high (a * 2 + b) (length bs) (number-lt bs (λ k. h (suc k))))
+    ∙ digits-mod a (h 0))
+    (digits-number (a * 2 + b) bs (λ k. h (suc k)))
 
 -- ---- the first byte, and the rest
 number-zeros : (a d : ℕ) → number a (replicate d 0) ≡ a * 2 ^ d

@@ -1,0 +1,62 @@
+-- Bits written one after the other onto zeros, and the bytes that they are then. Assumes nothing.
+use Prim.Native.Nat.{ℕ, zero, suc, _+_, _-_, _*_, _≤_, _<_}
+use mathlib.Core.Path.{_≡_, refl, sym, ap, _∙_}
+use mathlib.Core.List.{List, [], _∷_, _++_, append-nil}
+use native.Mathlib.Omega.{arith}
+use lib.ListN.{length, getD, set, drop, replicate, length-replicate, replicate-append-replicate}
+use lib.Seq.{sets, sets-eq, drop-length}
+use Rattle.bits.specs.Bits.{digits, bits, pack, Clear}
+use Rattle.bits.proofs.Fields.{sets-after}
+use Rattle.bits.proofs.Packing.{strip-of-bits}
+
+-- ---- runs of stores
+pub sets-append : (l : List ℕ) (at : ℕ) (xs ys : List ℕ) → sets l at (xs ++ ys) ≡ sets (sets l at xs) (at + length xs) ys
+sets-append l at [] ys = let e : at + 0 ≡ at = omega arith in rw e refl
+sets-append l at (x ∷ xs) ys = let e : at + suc (length xs) ≡ suc at + length xs = omega arith in rw e (sets-append (set l at x) (suc at) xs ys)
+
+pub clear-after : (l l′ : List ℕ) (at m : ℕ) (vs : List ℕ) → l′ ≡ sets l at vs → Clear l at → m ≡ at + length vs → Clear l′ m
+clear-after l l′ at m vs e z q k h = rw e (sets-after l at vs k (omega arith) ∙ z k (omega arith))
+
+-- three such runs, one after the other
+pub three : (l₀ l₁ l₂ l₃ : List ℕ) (at m a : ℕ) (xs ys zs : List ℕ)
+    → l₁ ≡ sets l₀ at xs → l₂ ≡ sets l₁ m ys → l₃ ≡ sets l₂ a zs → m ≡ at + length xs → a ≡ m + length ys → l₃ ≡ sets l₀ at (xs ++ (ys ++ zs))
+three l₀ l₁ l₂ l₃ at m a xs ys zs p q r e f =
+    r ∙ rw (f, q, e, p) (sym (sets-append l₀ at xs (ys ++ zs) ∙ sets-append (sets l₀ at xs) (at + length xs) ys zs))
+
+-- ---- zeros
+zeros-at : (m i : ℕ) → getD {A = ℕ} (replicate m 0) i 0 ≡ 0
+zeros-at zero i = refl
+zeros-at (suc m) zero = refl
+zeros-at (suc m) (suc i) = zeros-at m i
+
+drop-zeros : (k m : ℕ) → _≡_ {A = List ℕ} (drop k (replicate m 0)) (replicate (m - k) 0)
+drop-zeros zero m = let e : m - 0 ≡ m = omega arith in rw e refl
+drop-zeros (suc k) zero = let e : 0 - suc k ≡ 0 = omega arith in rw e refl
+drop-zeros (suc k) (suc m) = let e : suc m - suc k ≡ m - k = omega arith in rw e (drop-zeros k m)
+
+bits-zeros : (m : ℕ) → bits (replicate m 0) ≡ replicate (8 * m) 0
+unfolding bits digits
+bits-zeros zero = refl
+bits-zeros (suc m) =
+    let e : 8 * suc m ≡ 8 + 8 * m = omega arith in
+    rw e (ap (λ (l : List ℕ). replicate 8 0 ++ l) (bits-zeros m) ∙ replicate-append-replicate 8 (8 * m) 0)
+
+-- the bytes were made 0
+module _ (d out : List ℕ) (len : ℕ) (e : out ≡ replicate len 0 ++ drop len d) (l : length d ≡ len) where
+  all-zero : out ≡ replicate len 0
+  all-zero =
+      let gone : drop len d ≡ [] = ap (λ (k : ℕ). drop k d) (sym l) ∙ drop-length d in
+      e ∙ rw gone (append-nil (replicate len 0))
+
+  pub cleared : Clear (bits out) 0
+  cleared k h = rw (all-zero, bits-zeros len) (zeros-at (8 * len) k)
+
+  -- what was written from their start on is packed, if it ends in the last byte
+  pub packed : (vs f : List ℕ) → bits f ≡ sets (bits out) 0 vs → ((i : ℕ) → getD f i 0 < 256) → 0 < length vs → length vs ≤ 8 * len → 8 * len < length vs + 8
+      → f ≡ pack 0 8 vs
+  packed vs f w g some room full =
+      let o : bits out ≡ replicate (8 * len) 0 = ap bits all-zero ∙ bits-zeros len in
+      let m : length (bits out) ≡ 8 * len = ap length o ∙ length-replicate (8 * len) 0 in
+      let v : sets (bits out) 0 vs ≡ vs ++ drop (0 + length vs) (bits out) = sets-eq vs (bits out) 0 (omega arith) in
+      let u : drop (0 + length vs) (bits out) ≡ replicate (8 * len - (0 + length vs)) 0 = rw o (drop-zeros (0 + length vs) (8 * len)) in
+      strip-of-bits f vs (8 * len - (0 + length vs)) g (w ∙ v ∙ ap (λ (l : List ℕ). vs ++ l) u) (omega arith) some
