@@ -133,6 +133,10 @@ digits-take (suc b) k v =
     let e : v / 2 ^ (b + k) ≡ v / 2 ^ k / 2 ^ b = ap (λ (n : ℕ). v / 2 ^ n) (add-comm b k) ∙ sym (shr-shr v k b) in
     rw (suc-add b k) (ap₂ (λ (d : ℕ) (l : List ℕ). d ∷ l) (ap (λ (n : ℕ). n % 2) e) (digits-take b k v))
 
+pub digits-split : (b k v : ℕ) → digits (b + k) v ≡ digits b (v / 2 ^ k) ++ digits k v
+digits-split b k v =
+    sym (take-append-drop b (digits (b + k) v)) ∙ ap₂ (λ (x y : List ℕ). x ++ y) (digits-take b k v) (digits-drop b k v)
+
 pub digits-low : (b k v : ℕ) → digits b (v % 2 ^ (k + b)) ≡ digits b v
 unfolding digits
 digits-low zero k v = refl
@@ -155,9 +159,8 @@ inner b j xs ys h =
 -- two bytes as sixteen digits
 pair : (x y : ℕ) → y < 256 → digits 8 x ++ digits 8 y ≡ digits 16 (x * 256 + y)
 pair x y h =
-    sym (sym (take-append-drop 8 (digits 16 (x * 256 + y)))
-    ∙ ap₂ (λ (k l : List ℕ). k ++ l) (digits-take 8 8 (x * 256 + y) ∙ ap (digits 8) (high x 8 h))
-    (digits-drop 8 8 (x * 256 + y) ∙ sym (digits-low 8 0 (x * 256 + y)) ∙ ap (digits 8) (low x 8 h)))
+    sym (digits-split 8 8 (x * 256 + y)
+    ∙ ap₂ (λ (k l : List ℕ). k ++ l) (ap (digits 8) (high x 8 h)) (sym (digits-low 8 0 (x * 256 + y)) ∙ ap (digits 8) (low x 8 h)))
 
 field-in : (w j b : ℕ) → j + b ≤ 16 → take b (drop j (digits 16 w)) ≡ digits b (w / 2 ^ (16 - j - b))
 field-in w j b h =

@@ -4,15 +4,15 @@ use Prim.Native.Nat.{ℕ, zero, suc, _+_, _-_, _*_, _/_, _%_, _^_, _≤_, _<_}
 use mathlib.Core.Path.{_≡_, refl, sym, ap, ap₂, _∙_}
 use mathlib.Core.Bool.{Bool, true, false}
 use mathlib.Core.List.{List, [], _∷_, _++_, append-assoc, append-nil}
-use native.Mathlib.Nat.{not-suc-le-zero, le-of-suc-le-suc, mod-eq-of-lt, add-zero, add-mul, pow-suc, mul-one, mul-assoc, mul-comm}
+use native.Mathlib.Nat.{not-suc-le-zero, le-of-suc-le-suc, lt-of-lt-of-le, mod-eq-of-lt, add-zero, add-mul, pow-suc, mul-one, mul-assoc, mul-comm}
 use native.Mathlib.Omega.{arith}
 use borrow.Author.Tests.{ltb-true, ltb-false}
 use lib.Arith.{digits-lt, digits-mod}
 use lib.Dec.{ltb, lit<}
-use lib.ListN.{length, getD, take, drop, replicate, length-append, length-drop, length-replicate, take-append-drop}
-use lib.Pow.{high}
+use lib.ListN.{length, getD, take, drop, replicate, length-append, length-take, length-drop, length-replicate, take-append-drop}
+use lib.Pow.{high, pow-mono}
 use lib.Seq.{getD-drop, drop-drop, length-take-le, take-append-le, drop-append-le, take-at, drop-at}
-use Rattle.bits.specs.Bits.{digits, bits, number, pack}
+use Rattle.bits.specs.Bits.{digits, bits, number, field, pack}
 use Rattle.bits.proofs.Digits.{bit-lt}
 use Rattle.bits.proofs.Fields.{length-digits, length-bits, number-digits}
 
@@ -83,6 +83,12 @@ number-lt (b ∷ bs) h =
     ∙ ap (λ (k : ℕ). k * 2 ^ length bs + number 0 bs) (omega arith) in
     rw (f, q) (digits-lt (h 0) (number-lt bs (λ k. h (suc k))))
 
+-- a field of b bits is below 2 ^ b
+pub field-below : (s : List ℕ) (at b : ℕ) → field s at b < 2 ^ b
+field-below s at b =
+    let l = take b (drop at (bits s)) in
+    lt-of-lt-of-le (number-lt l (bits-take b _ (bits-drop at (bits s) (bits-bits s)))) (pow-mono (let k = length-take b (drop at (bits s)) in omega arith))
+
 -- the digits of the number that some bits are, are those bits
 pub digits-number : (a : ℕ) (bs : List ℕ) → AreBits bs → digits (length bs) (number a bs) ≡ bs
 unfolding digits
@@ -93,6 +99,19 @@ digits-number a (b ∷ bs) h =
     ∙ ap (λ (k : ℕ). k % 2) (high (a * 2 + b) (length bs) (number-lt bs (λ k. h (suc k))))
     ∙ digits-mod a (h 0))
     (digits-number (a * 2 + b) bs (λ k. h (suc k)))
+
+-- ---- a field among the bits
+module _ (s pre post : List ℕ) (at b v : ℕ) (stands : bits s ≡ pre ++ (digits b v ++ post)) (before : length pre ≡ at) where
+  -- one that was written is read
+  pub field-is : v < 2 ^ b → field s at b ≡ v
+  field-is h =
+      ap (λ (bs : List ℕ). number 0 (take b (drop at bs))) stands
+      ∙ ap (λ (bs : List ℕ). number 0 (take b bs)) (drop-at pre (digits b v ++ post) at before)
+      ∙ ap (number 0) (take-at (digits b v) post b (length-digits b v)) ∙ number-of b v h
+
+  -- what stands behind it
+  pub behind : (bits s ≡ (pre ++ digits b v) ++ post) × (length (pre ++ digits b v) ≡ at + b)
+  behind = (stands ∙ sym (append-assoc pre (digits b v) post), length-append pre (digits b v) ∙ (let d = length-digits b v in omega arith))
 
 -- ---- the first byte, and the rest
 number-zeros : (a d : ℕ) → number a (replicate d 0) ≡ a * 2 ^ d

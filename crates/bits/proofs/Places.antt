@@ -1,7 +1,7 @@
 -- The first set bit of a list of bits: where it stands, and how it is found. Assumes nothing.
 use mathlib.Core.Path.{_≡_, refl, sym, ap, _∙_}
 use mathlib.Core.Logic.{_⊎_, inl, inr, ⊎-elim}
-use mathlib.Core.Bool.{true}
+use mathlib.Core.Bool.{true, false}
 use mathlib.Core.List.{List, [], _∷_}
 use Prim.Native.Nat.{ℕ, zero, suc, _+_, _≤_, _<_}
 use native.Mathlib.Nat.{not-suc-le-zero}
@@ -9,7 +9,7 @@ use native.Mathlib.Numerals.{add-one}
 use native.Mathlib.Omega.{arith}
 use borrow.Author.Tests.{lt-ltb, ne-eqb}
 use lib.Dec.{ltb, leb·suc-suc, eqb·suc-zero}
-use lib.ListN.{length, getD, take, drop}
+use lib.ListN.{length, getD, take, drop, replicate}
 use lib.Seq.{slice, slice-empty, slice-cons, take-add, drop-at, length-take-le}
 use Rattle.bits.specs.Bits.{anySet, firstSet}
 
@@ -33,6 +33,12 @@ module _ (l : List ℕ) (at end : ℕ) where
   pub first-none : at ≡ end → at ≡ at + firstSet (slice at end l)
   unfolding firstSet
   first-none e = rw (e, slice-empty end l) (omega arith)
+
+-- no zero is set
+pub zeros-unset : (z : ℕ) → anySet (replicate z 0) ≡ false
+unfolding anySet
+zeros-unset zero = refl
+zeros-unset (suc z) = zeros-unset z
 
 -- the k bits from a place on, as a part of all
 pub slice-from : (l : List ℕ) (at k : ℕ) → at ≤ length l → slice at (at + k) l ≡ take k (drop at l)

@@ -1,3 +1,4 @@
 pub mod RuleChecks
 pub mod RuleLaws
 pub mod RulePlaces
+pub mod RuleWriting

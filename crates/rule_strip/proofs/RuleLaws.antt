@@ -3,17 +3,14 @@ use mathlib.Core.Path.{_≡_, refl, sym, ap, _∙_}
 use mathlib.Core.Logic.{_↔_}
 use mathlib.Core.Bool.{Bool, true, false, _&&_}
 use mathlib.Core.List.{List, [], _∷_}
-use Prim.Native.Nat.{ℕ, zero, suc, _+_, _-_, _*_, _/_, _%_, _^_, _≤_, _<_}
-use native.Mathlib.Decide.{decLt}
-use native.Mathlib.Nat.{not-suc-le-zero, le-of-suc-le-suc, lt-of-lt-of-le, le-mul-of-pos-right, mul-le-mul-right, mul-comm, mul-assoc, one-mul, pow-suc}
+use Prim.Native.Nat.{ℕ, zero, suc, _+_, _*_, _≤_, _<_}
+use native.Mathlib.Nat.{not-suc-le-zero, le-of-suc-le-suc}
 use native.Mathlib.Omega.{arith}
 use lib.Dec.{T, ltb, leb, eqb, lt→ltb, ltb→lt, eqb→eq}
-use lib.ListN.{length, getD, take, drop, List·getD-eq-default}
-use lib.Pow.{pow-pos}
-use lib.Seq.{getD-drop}
+use lib.ListN.{length, getD}
 use borrow.Author.Tests.{lt-leb, leb-false, le-ltb}
 use Rattle.logic.specs.Rule.{Record, noRecord, good, goodFrom, Accepted}
-use Rattle.bits.specs.Bits.{bits, number, field, anySet, firstSet}
+use Rattle.bits.specs.Bits.{anySet, firstSet}
 use Rattle.bits.specs.Faults.{orElse}
 use Rattle.bits.specs.declared.Fault.{Fault}
 use Rattle.bits.specs.declared.Fault.the-variants.{Sound, At}
@@ -24,8 +21,7 @@ use Rattle.rule_strip.specs.RulePlaces.{Keeps}
 use Rattle.rule_strip.specs.declared.Use.{Use}
 use Rattle.rule_strip.specs.declared.Use.the-variants.{Variable, Earlier, Unused}
 use Rattle.rule_strip.specs.declared.RuleCheck.the-variants.{Accepted as accepted, Refused as turnedDown}
-use Rattle.bits.proofs.Digits.{bit-lt}
-use Rattle.bits.proofs.Fields.{length-bits, bits-at}
+use Rattle.bits.proofs.Packing.{field-below}
 use Rattle.rule_strip.proofs.RuleChecks.{record-split, test-passed, head-facts}
 
 -- ---- one record
@@ -72,7 +68,7 @@ below-fits n i Variable v h = lt→ltb v n h
 below-fits n i Earlier v h = lt→ltb v i h
 below-fits n i Unused v h = let e : v ≡ 0 = omega arith in rw e tt
 
-both-of : (a b : Bool) → T (a && b) → T a × T b
+pub both-of : (a b : Bool) → T (a && b) → T a × T b
 both-of true b t = (tt, t)
 both-of false b t = absurd t
 
@@ -162,27 +158,6 @@ pub record RuleFacts (s : List ℕ) : Type 0 where
   pub size : length s ≡ ruleBytes (countOf s)
   pub records-accepted : Accepted 2 (variablesOf s) (recordsOf s)
   pub records-count : length (recordsOf s) ≡ countOf s
-
--- a field of b bits is below 2 ^ b
-number-below : (b n : ℕ) (l : List ℕ) → ((j : ℕ) → getD l j 0 < 2) → number n (take b l) < suc n * 2 ^ b
-number-below zero n l h = omega arith
-number-below (suc b) n [] h = le-mul-of-pos-right (suc n) (pow-pos (suc b))
-number-below (suc b) n (x ∷ l) h =
-    let f : suc n * 2 ^ suc b ≡ suc n * 2 * 2 ^ b = ap (λ (k : ℕ). suc n * k) (pow-suc 2 b ∙ mul-comm (2 ^ b) 2) ∙ sym (mul-assoc (suc n) 2 (2 ^ b)) in
-    let m : suc (n * 2 + x) ≤ suc n * 2 = (let g = h 0 in omega arith) in
-    rw f (lt-of-lt-of-le (number-below b (n * 2 + x) l (λ j. h (suc j))) (mul-le-mul-right (2 ^ b) m))
-
-pub bits-below : (s : List ℕ) (j : ℕ) → getD (bits s) j 0 < 2
-bits-below s j = elim (decLt j (8 * length s)) [
-  | yes h ↦
-      let e : 8 * (j / 8) + j % 8 ≡ j = omega arith in
-      rw (← e, bits-at s (j / 8) (j % 8) (omega arith) (omega arith)) (bit-lt (7 - j % 8) (getD s (j / 8) 0))
-  | no h ↦ rw (List·getD-eq-default (bits s) 0 {n = j} (let l = length-bits s in omega arith)) (omega arith)
-]
-
-pub field-below : (s : List ℕ) (at b : ℕ) → field s at b < 2 ^ b
-field-below s at b =
-    rw one-mul at (number-below b 0 (drop at (bits s)) (λ j. rw getD-drop (bits-below s (at + j))))
 
 -- the widths of an op and of the fields
 pub widths-at : (s : List ℕ) (at : ℕ) → (recordAt s at .op < 16) × (recordAt s at .first < 128) × (recordAt s at .second < 128)

@@ -14,6 +14,7 @@ use Rattle.bits.specs.Faults.{orElse}
 use Rattle.bits.specs.declared.Fault.{Fault}
 use Rattle.bits.specs.declared.Fault.the-variants.{Sound, At}
 use Rattle.bits.proofs.Fields.{length-bits}
+use Rattle.bits.proofs.Packing.{bits-bits}
 use Rattle.bits.proofs.Places.{any-first, first-set, first-before}
 use Rattle.rule_strip.specs.RuleStrip.{versionOf, variablesOf, countOf, ruleBytes, recordAt, recordsFrom, recordsOf, firstUse, secondUse}
 use Rattle.rule_strip.specs.RuleStrip.{recordFault, recordsFault, recordsEnd, padding, headFault, ruleFault}
@@ -23,7 +24,7 @@ use Rattle.rule_strip.specs.RulePlaces.{in-op, in-first, in-second}
 use Rattle.rule_strip.specs.RulePlaces.{too-short, other-length, other-version, bad-variables, bad-count, bit-set, bad-record}
 use Rattle.rule_strip.specs.declared.Use.{Use}
 use Rattle.rule_strip.proofs.RuleChecks.{record-split}
-use Rattle.rule_strip.proofs.RuleLaws.{field-passed, record-kept, bits-below}
+use Rattle.rule_strip.proofs.RuleLaws.{field-passed, record-kept}
 
 -- a fault of two tests is the first one's, or else the second's
 or-told : (f g : Fault) {k p : ℕ} → orElse f g ≡ At k p → (f ≡ At k p) ⊎ ((f ≡ Sound) × (g ≡ At k p))
@@ -113,7 +114,7 @@ module _ (s : List ℕ) where
       let z : getD (bits s) (recordsEnd s + firstSet (padding s)) 0 ≡ 0 → ⊥ =
       λ f. first-set (padding s) h (getD-drop (recordsEnd s) (bits s) (firstSet (padding s)) 0 ∙ f) in
       bit-set (recordsEnd s + firstSet (padding s)) (omega arith) (omega arith)
-      (let c = bits-below s (recordsEnd s + firstSet (padding s)) in one _ c z)
+      (let c = bits-bits s (recordsEnd s + firstSet (padding s)) in one _ c z)
       (λ q i j. clean q i j)
     where
       one : (b : ℕ) → b < 2 → (b ≡ 0 → ⊥) → b ≡ 1

@@ -1,3 +1,4 @@
 pub mod RuleAnswers
 pub mod RuleStrip
 pub mod RulePlaces
+pub mod RuleWriting
