@@ -6,5 +6,6 @@ pub mod Puts
 pub mod Written
 pub mod Texts
 pub mod Readers
+pub mod Claimed
 pub mod Steps
 pub mod Examples

@@ -1,25 +1,14 @@
 -- Import: request A2. Assumes nothing.
-use Prim.Native.Nat.{ℕ, zero, suc}
+use Prim.Native.Nat.{ℕ}
 use mathlib.Core.Bool.{true, false}
-use mathlib.Core.List.{List, [], _∷_, _++_}
+use mathlib.Core.List.{List}
 use lib.Dec.{ltb, leb}
-use lib.ListN.{length}
 use lib.Seq.{sets}
-use Rattle.logic.specs.Rule.{Record}
-use Rattle.bits.specs.Bits.{digits, pack}
+use Rattle.rule_strip.specs.RuleWriting.{ruleStrip}
 use Rattle.text.specs.Syntax.{Text}
 use Rattle.text.specs.Grammar.{Read, got, textOf}
 use Rattle.text.specs.Grammar.{refused as leaves}
 use Rattle.text.specs.Records.{variablesIn, countIn, recordsIn}
-
--- "op 4, first field 7, second field 7"
-unfoldable pub recordBits : List Record → List ℕ
-recordBits [] = []
-recordBits (r ∷ rs) = digits 4 (r .op) ++ (digits 7 (r .first) ++ (digits 7 (r .second) ++ recordBits rs))
-
--- "version 4 bits (1), n 4 bits (1 to 8), record count m 8 bits (1 to 128), then m records": the rule strip that is written
-unfoldable pub ruleStrip : ℕ → List Record → List ℕ
-ruleStrip n rs = pack 0 8 (digits 4 1 ++ (digits 4 n ++ (digits 8 (length rs) ++ recordBits rs)))
 
 -- what import answers: n, m and the strip, or a refusal
 pub data Import : Type 0 where
