@@ -6,22 +6,27 @@ use native.Mathlib.Omega.{arith}
 use lib.ListN.{length, getD, set, drop, replicate, length-replicate, replicate-append-replicate}
 use lib.Seq.{sets, sets-eq, drop-length}
 use Rattle.bits.specs.Bits.{digits, bits, pack, Clear}
-use Rattle.bits.proofs.Fields.{sets-after}
+use Rattle.bits.proofs.Fields.{length-digits, sets-after}
 use Rattle.bits.proofs.Packing.{strip-of-bits}
 
 -- ---- runs of stores
-pub sets-append : (l : List ℕ) (at : ℕ) (xs ys : List ℕ) → sets l at (xs ++ ys) ≡ sets (sets l at xs) (at + length xs) ys
+sets-append : (l : List ℕ) (at : ℕ) (xs ys : List ℕ) → sets l at (xs ++ ys) ≡ sets (sets l at xs) (at + length xs) ys
 sets-append l at [] ys = let e : at + 0 ≡ at = omega arith in rw e refl
 sets-append l at (x ∷ xs) ys = let e : at + suc (length xs) ≡ suc at + length xs = omega arith in rw e (sets-append (set l at x) (suc at) xs ys)
 
 pub clear-after : (l l′ : List ℕ) (at m : ℕ) (vs : List ℕ) → l′ ≡ sets l at vs → Clear l at → m ≡ at + length vs → Clear l′ m
 clear-after l l′ at m vs e z q k h = rw e (sets-after l at vs k (omega arith) ∙ z k (omega arith))
 
--- three such runs, one after the other
+pub field-after : (l l′ : List ℕ) (at b v : ℕ) → l′ ≡ sets l at (digits b v) → Clear l at → Clear l′ (at + b)
+field-after l l′ at b v e z = clear-after l l′ at (at + b) (digits b v) e z (let d = length-digits b v in omega arith)
+
+-- two such runs, and three, one after the other
+pub two : (l₀ l₁ l₂ : List ℕ) (at m : ℕ) (xs ys : List ℕ) → l₁ ≡ sets l₀ at xs → l₂ ≡ sets l₁ m ys → m ≡ at + length xs → l₂ ≡ sets l₀ at (xs ++ ys)
+two l₀ l₁ l₂ at m xs ys p q e = q ∙ rw (e, p) (sym (sets-append l₀ at xs ys))
+
 pub three : (l₀ l₁ l₂ l₃ : List ℕ) (at m a : ℕ) (xs ys zs : List ℕ)
     → l₁ ≡ sets l₀ at xs → l₂ ≡ sets l₁ m ys → l₃ ≡ sets l₂ a zs → m ≡ at + length xs → a ≡ m + length ys → l₃ ≡ sets l₀ at (xs ++ (ys ++ zs))
-three l₀ l₁ l₂ l₃ at m a xs ys zs p q r e f =
-    r ∙ rw (f, q, e, p) (sym (sets-append l₀ at xs (ys ++ zs) ∙ sets-append (sets l₀ at xs) (at + length xs) ys zs))
+three l₀ l₁ l₂ l₃ at m a xs ys zs p q r e f = two l₀ l₁ l₃ at m xs (ys ++ zs) p (two l₁ l₂ l₃ m a ys zs q r f) e
 
 -- ---- zeros
 zeros-at : (m i : ℕ) → getD {A = ℕ} (replicate m 0) i 0 ≡ 0

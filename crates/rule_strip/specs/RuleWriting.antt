@@ -1,9 +1,10 @@
 -- Rule strips as they are written: document 01, "Strips". Assumes nothing.
 use Prim.Native.Nat.{ℕ, zero, suc, _+_, _*_, _/_, _%_, _≤_}
+use mathlib.Core.Path.{_≡_}
 use mathlib.Core.List.{List, [], _∷_, _++_}
 use lib.ListN.{length, getD}
 use Rattle.logic.specs.Rule.{Record}
-use Rattle.bits.specs.Bits.{digits, pack}
+use Rattle.bits.specs.Bits.{digits, bits, pack, Clear}
 use Rattle.rule_strip.specs.RuleStrip.{ruleBytes}
 
 -- "op 4, first field 7, second field 7"
@@ -27,6 +28,18 @@ recordOfWord w = record { op = w / 16384 % 16; first = w / 128 % 128; second = w
 unfoldable pub recordsOfWords : ℕ → List ℕ → List Record
 recordsOfWords zero ws = []
 recordsOfWords (suc m) ws = recordsOfWords m ws ++ (recordOfWord (getD ws m 0) ∷ [])
+
+-- m records have room in d after a strip's head, where zeros stand
+pub record RecordRoom (d : List ℕ) (m : ℕ) : Type 0 where
+  pub few-records : m ≤ 128
+  pub short : length d ≤ 4096
+  pub room : 16 + 18 * m ≤ 8 * length d
+  pub clear : Clear (bits d) 16
+
+-- out is as long as a strip of m records
+pub record AsLong (out : List ℕ) (m : ℕ) : Type 0 where
+  pub few-records : m ≤ 128
+  pub size : length out ≡ ruleBytes m
 
 -- a strip of m records has room at the front of out
 pub record Room (out : List ℕ) (m : ℕ) : Type 0 where

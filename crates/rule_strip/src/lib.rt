@@ -8,6 +8,8 @@ ghost use Rattle.rule_strip.specs.RuleStrip.{firstUse, secondUse, record
 ghost use Rattle.rule_strip.specs.RuleAnswers.{useRefusal, limitOf, fieldFault, fieldsOf, readRecord, Filled, readRecords, GoodHead, checkedRule};
 use bits::Fault;
 
+pub mod write; // written from records as numbers
+
 // A record's three fields, as they stand in the strip.
 pub struct Fields {
     pub op: usize,

@@ -9,7 +9,7 @@ use Rattle.logic.specs.Tree.{Tree, positions}
 use Rattle.bits.specs.Bits.{digits, bits, Clear}
 use Rattle.tree_strip.specs.TreeStrip.{treeBits, treeStrip, treeBytes}
 use Rattle.bits.proofs.Fields.{length-digits}
-use Rattle.bits.proofs.Writing.{clear-after, three, cleared, packed}
+use Rattle.bits.proofs.Writing.{field-after, three, cleared, packed}
 use Rattle.tree_strip.proofs.TreeBits.{treeBits-length}
 use Rattle.tree_strip.proofs.TreeLaws.{treeBytes-most}
 
@@ -17,11 +17,11 @@ use Rattle.tree_strip.proofs.TreeLaws.{treeBytes-most}
 module _ (d out : List ℕ) (len : ℕ) (e : out ≡ replicate len 0 ++ drop len d) (l : length d ≡ len) where
   module _ (a : List ℕ) (p : bits a ≡ sets (bits out) 0 (digits 4 1)) where
     pub after-version : Clear (bits a) 4
-    after-version = clear-after (bits out) (bits a) 0 4 (digits 4 1) p (cleared d out len e l) (let z = length-digits 4 1 in omega arith)
+    after-version = field-after (bits out) (bits a) 0 4 1 p (cleared d out len e l)
 
     module _ (n : ℕ) (b : List ℕ) (q : bits b ≡ sets (bits a) 4 (digits 4 n)) where
       pub after-head : Clear (bits b) 8
-      after-head = clear-after (bits a) (bits b) 4 8 (digits 4 n) q after-version (let z = length-digits 4 n in omega arith)
+      after-head = field-after (bits a) (bits b) 4 4 n q after-version
 
       pub strip-written : (t : Tree 2) → len ≡ treeBytes n (positions t) → (f : List ℕ) → bits f ≡ sets (bits b) 8 (treeBits n t) → ((i : ℕ) → getD f i 0 < 256)
           → f ≡ treeStrip n t
