@@ -33,6 +33,7 @@ pub record Small (r : Record) : Type 0 where
   pub first-small : r .first < 128
   pub second-small : r .second < 128
 
+-- so has each of some records
 unfoldable pub AllSmall : List Record → Type 0
 AllSmall [] = Unit
 AllSmall (r ∷ rs) = Small r × AllSmall rs

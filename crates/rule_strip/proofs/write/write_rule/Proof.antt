@@ -1,6 +1,5 @@
 -- `write::write_rule` meets its contract. Assumes nothing.
 use mathlib.Core.Path.{sym, _∙_}
-use native.Mathlib.Omega.{arith}
 use borrow.Author.Needs.{needs}
 use lib.Seq.{length-take-le}
 use Rattle.rule_strip.specs.RuleStrip.{ruleBytes}
