@@ -8,4 +8,5 @@ pub mod Texts
 pub mod Readers
 pub mod Claimed
 pub mod Steps
+pub mod Faults
 pub mod Examples
