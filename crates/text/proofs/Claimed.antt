@@ -1,6 +1,6 @@
 -- THE CLAIM of request A2, proved of the definitions. Assumes nothing.
 use Prim.Native.Nat.{ℕ, _≤_}
-use mathlib.Core.Path.{_≡_, refl, _∙_, sym, ap, subst}
+use mathlib.Core.Path.{_≡_, refl, subst}
 use mathlib.Core.Bool.{Bool, true, false}
 use mathlib.Core.List.{List}
 use native.Mathlib.Omega.{arith}
@@ -17,7 +17,7 @@ use Rattle.text.specs.Import.{Import, written, refused, ruleOf, import}
 use Rattle.text.specs.Claims.{Imported, Claim}
 use Rattle.text.proofs.Texts.{text-right}
 use Rattle.text.proofs.Readers.{read-good, tracks-pos}
-use Rattle.rule_strip.proofs.RuleWriting.{strip-passes, strip-checked}
+use Rattle.rule_strip.proofs.RuleWriting.{strip-passes}
 
 -- a text of few enough records
 fits-strip : (s : List ℕ) (t : Text) (ts : List Token) → textOf s ≡ got t ts → countIn t ≤ 128 → Imported s (variablesIn t) (countIn t) (ruleStrip (variablesIn t) (recordsIn t))

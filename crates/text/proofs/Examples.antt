@@ -6,7 +6,8 @@ use mathlib.Core.Path.{_≡_, refl}
 use mathlib.Core.List.{List, [], _∷_, _++_}
 use Rattle.bits.specs.Bits.{digits, pack}
 use Rattle.text.specs.Token.{spell, words, marks, placeIn, spells, sameBytes, beginsWith, run, wordKind, markPiece, piece, tokens, tokensOf}
-use Rattle.text.specs.Grammar.{accept, hasOrder, inUse, used, relationOf, leftGood, branchOf, spotOf, related, atomOf, more, joined, opening, startOf, operandOf, impliedBy, operandAt, consequentAt, partAt, reader, names, declarations, textFrom, textOf}
+use Rattle.text.specs.Grammar.{accept, hasOrder, inUse, used, relationOf, leftGood, branchOf, spotOf, related, atomOf, more, joined, opening}
+use Rattle.text.specs.Grammar.{startOf, operandOf, impliedBy, operandAt, consequentAt, partAt, reader, names, declarations, textFrom, textOf}
 use Rattle.text.specs.Records.{trackOf, tracks, variablesIn, count, freeCount, countIn, writeAtom, write, writeFree, recordsIn}
 use Rattle.rule_strip.specs.RuleWriting.{recordBits, ruleStrip}
 use Rattle.text.specs.Import.{Import, written, refused, ruleOf, import}

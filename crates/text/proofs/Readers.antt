@@ -1,17 +1,20 @@
 -- What the readers accept has every name in use and of the right order, and needs at most eight tracks. Assumes nothing.
-use Prim.Native.Nat.{ℕ, zero, suc, _+_, _<_, _≤_, max}
+use Prim.Native.Nat.{ℕ, zero, suc, _<_, _≤_, max}
 use Prim.Native.String.{String}
-use mathlib.Core.Path.{_≡_, refl, sym, _∙_, ap, subst}
-use mathlib.Core.Bool.{Bool, true, false, not, cond, _&&_, _||_, true≢false, false≢true}
+use mathlib.Core.Path.{_≡_, refl, subst}
+use mathlib.Core.Bool.{Bool, true, false, not, cond, _&&_, false≢true}
 use mathlib.Core.List.{List, [], _∷_}
 use native.Mathlib.Omega.{arith}
 use borrow.Author.Tests.{leb-false}
 use lib.Dec.{T, eqb, leb}
 use lib.ListN.{length}
-use Rattle.logic.specs.Two.{one, two}
 use Rattle.text.specs.Token.{Token, spells, isName, tokensOf}
-use Rattle.text.specs.Syntax.{Name, Order, first, second, Spot, variable, branch, root, Atom, sub, member, equal, Sentence, atom, denied, both, either, implies, alike, forSome, forEvery, Declared, Scope, Text}
-use Rattle.text.specs.Grammar.{Read, got, refused, andThen, next, rest, accept, hasOrder, inUse, usedRefusal, newRefusal, used, Relation, inclusion, membership, equality, other, relationOf, leftGood, branchOf, spotOf, related, Reader, atomOf, more, joined, Start, negation, bracket, atomic, tooDeep, quantifier, opening, startOf, Part, operand, consequent, formula, operandOf, impliedBy, operandAt, consequentAt, partAt, reader, names, declarations, textFrom, textOf}
+use Rattle.text.specs.Syntax.{Name, Order, first, second, Spot, variable, branch, root, Atom, sub, member, equal, Sentence, atom, denied, both}
+use Rattle.text.specs.Syntax.{either, implies, alike, forSome, forEvery, Scope, Text}
+use Rattle.text.specs.Grammar.{Read, got, refused, andThen, next, rest, accept, hasOrder, inUse, usedRefusal, newRefusal, used, Relation}
+use Rattle.text.specs.Grammar.{inclusion, membership, equality, other, relationOf, leftGood, branchOf, spotOf, related, Reader, atomOf, more}
+use Rattle.text.specs.Grammar.{joined, Start, negation, bracket, atomic, tooDeep, quantifier, opening, startOf, Part, operand, consequent}
+use Rattle.text.specs.Grammar.{formula, operandOf, impliedBy, operandAt, consequentAt, partAt, reader, names, declarations, textFrom, textOf}
 use Rattle.text.specs.Records.{tracks}
 use Rattle.text.proofs.Meant.{scopedAtom, scoped}
 use Rattle.text.proofs.Puts.{and-true}

@@ -1,17 +1,16 @@
 -- Names in use, their tracks, and assignments that agree with what the names stand for. Assumes nothing.
-use Prim.Native.Nat.{ℕ, suc, _<_, _≤_}
-use mathlib.Core.Path.{_≡_, refl, sym, _∙_, ap, subst}
-use mathlib.Core.Logic.{_↔_}
-use mathlib.Core.Bool.{Bool, true, false, cond, _&&_, _||_}
-use mathlib.Core.List.{List, [], _∷_, _++_}
+use Prim.Native.Nat.{ℕ, suc, _<_}
+use mathlib.Core.Path.{_≡_, refl, sym, _∙_, subst}
+use mathlib.Core.Bool.{Bool, true, false, cond, _||_}
+use mathlib.Core.List.{[], _∷_}
 use native.Mathlib.Omega.{arith}
 use borrow.Author.Tests.{eq-eqb, ne-eqb}
-use lib.Dec.{T, eqb}
+use lib.Dec.{T}
 use lib.ListN.{length}
-use Rattle.logic.specs.Meaning.{Place, FiniteSet, samePlace, has, _∈_, IsOnly, Assignment, assign}
+use Rattle.logic.specs.Meaning.{Place, FiniteSet, samePlace, has, IsOnly, Assignment, assign}
 use Rattle.logic.proofs.Places.{place-eq, place-refl}
 use Rattle.text.specs.Token.{sameBytes}
-use Rattle.text.specs.Syntax.{Name, Order, first, second, Declared, Scope}
+use Rattle.text.specs.Syntax.{Name, Order, first, second, Scope}
 use Rattle.text.specs.Grammar.{sameOrder, hasOrder}
 use Rattle.text.specs.Meaning.{Names, withPlace, withSet}
 use Rattle.text.specs.Records.{trackOf}

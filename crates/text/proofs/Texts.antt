@@ -1,25 +1,25 @@
 -- THE THEOREM of a whole text: its records are accepted, and satisfied by the assignments that the claim names. Assumes nothing.
-use Prim.Native.Nat.{ℕ, zero, suc, _+_, _-_, _<_, _≤_}
+use Prim.Native.Nat.{ℕ, _+_, _≤_}
 use mathlib.Core.Path.{_≡_, refl, sym, _∙_, ap, ap₂, subst}
 use mathlib.Core.Logic.{_↔_}
 use mathlib.Core.Bool.{Bool, true, false, cond, not, _&&_, _||_}
-use mathlib.Core.List.{List, [], _∷_, _++_}
+use mathlib.Core.List.{List, [], _∷_}
 use native.Mathlib.Omega.{arith}
 use lib.Dec.{T, eqb, eqb→eq, eqb-refl}
 use lib.ListN.{length}
-use Rattle.logic.specs.Meaning.{Place, IsOnly, Assignment, Formula, singleton, conjunction, Holds}
-use Rattle.logic.specs.Rule.{Record, lastOf, goodFrom, Satisfies, Accepted}
+use Rattle.logic.specs.Meaning.{Place, IsOnly, Assignment, Formula, Holds}
+use Rattle.logic.specs.Rule.{Record, goodFrom, Satisfies, Accepted}
 use Rattle.logic.proofs.Places.{T→true, not-T}
 use Rattle.text.specs.Token.{sameBytes}
-use Rattle.text.specs.Syntax.{Name, Order, first, second, Sentence, Declared, Scope, Text}
+use Rattle.text.specs.Syntax.{Name, Order, first, second, Declared, Scope, Text}
 use Rattle.text.specs.Grammar.{sameOrder, hasOrder, inUse}
 use Rattle.text.specs.Meaning.{Names, withPlace, withSet, Says}
-use Rattle.text.specs.Records.{trackOf, tracks, variablesIn, count, freeCount, countIn, putSingle, write, writeFree, recordsIn}
+use Rattle.text.specs.Records.{trackOf, tracks, variablesIn, freeCount, countIn, putSingle, writeFree, recordsIn}
 use Rattle.text.specs.Claims.{Stands, Fits}
 use Rattle.text.proofs.Scopes.{Agree}
 use Rattle.text.proofs.Meant.{single, meant, scoped}
 use Rattle.text.proofs.Sayings.{both-true, says-right}
-use Rattle.text.proofs.Puts.{Has, Grown, Wrote}
+use Rattle.text.proofs.Puts.{Wrote}
 use Rattle.text.proofs.Written.{tracks-least, wrote-single, wrote-count, written}
 
 -- names are the same exactly if their bytes are

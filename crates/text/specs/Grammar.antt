@@ -2,13 +2,14 @@
 -- each is judged as it is taken: so the refusal is "the earliest in the text, and at one token the lowest". Assumes nothing.
 use Prim.Native.Nat.{ℕ, zero, suc}
 use Prim.Native.String.{String}
-use mathlib.Core.Bool.{Bool, true, false, not, cond, _&&_, _||_}
+use mathlib.Core.Bool.{Bool, true, false, not, cond, _||_}
 use mathlib.Core.List.{List, [], _∷_}
 use lib.Dec.{leb, eqb}
 use lib.ListN.{length}
 use Rattle.logic.specs.Two.{one, two}
 use Rattle.text.specs.Token.{Token, theEnd, spells, isName, sameBytes, tokensOf}
-use Rattle.text.specs.Syntax.{Name, Order, first, second, Spot, variable, branch, root, Atom, sub, member, equal, Sentence, atom, denied, both, either, implies, alike, forSome, forEvery, Declared, Scope, Text}
+use Rattle.text.specs.Syntax.{Name, Order, first, second, Spot, variable, branch, root, sub, member, equal, Sentence, atom, denied, both}
+use Rattle.text.specs.Syntax.{either, implies, alike, forSome, forEvery, Scope, Text}
 
 -- what was read, with the tokens that are left; or a refusal, with the token at which it lies
 pub data Read (A : Type 0) : Type 0 where

@@ -1,12 +1,12 @@
 -- The records written for a text: document 01, "How trainers type a rule"; the order of the records is this file's. Assumes nothing.
-use Prim.Native.Nat.{ℕ, zero, suc, _+_, max}
+use Prim.Native.Nat.{ℕ, suc, _+_, max}
 use mathlib.Core.Bool.{cond}
 use mathlib.Core.List.{List, [], _∷_, _++_}
 use lib.ListN.{length}
-use Rattle.logic.specs.Meaning.{Branch}
 use Rattle.logic.specs.Rule.{Record, lastOf}
 use Rattle.text.specs.Token.{sameBytes}
-use Rattle.text.specs.Syntax.{Name, Order, first, second, Spot, variable, branch, root, Atom, sub, member, equal, Sentence, atom, denied, both, either, implies, alike, forSome, forEvery, Declared, Scope, Text}
+use Rattle.text.specs.Syntax.{Name, first, second, variable, branch, root, Atom, sub, member, equal, Sentence, atom, denied, both, either}
+use Rattle.text.specs.Syntax.{implies, alike, forSome, forEvery, Scope, Text}
 
 -- "Free variables take tracks (variable numbers) in order of declaration; a bound one takes the next after those in use around it": the latest
 -- of the names x in use

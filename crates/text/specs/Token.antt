@@ -1,6 +1,6 @@
 -- The tokens of a text: document 01, "How trainers type a rule". Assumes nothing.
 use Prim.Native.Nat.{ℕ, zero, suc, _+_}
-use Prim.Native.Char.{Char, code}
+use Prim.Native.Char.{code}
 use Prim.Native.String as text
 use Prim.Native.String.{String}
 use mathlib.Core.Bool.{Bool, true, false, _&&_, _||_}
