@@ -20,14 +20,16 @@ use Rattle.text.proofs.Readers.{read-good, tracks-pos}
 use Rattle.rule_strip.proofs.RuleWriting.{strip-passes}
 
 -- a text of few enough records
-fits-strip : (s : List ℕ) (t : Text) (ts : List Token) → textOf s ≡ got t ts → countIn t ≤ 128 → Imported s (variablesIn t) (countIn t) (ruleStrip (variablesIn t) (recordsIn t))
+fits-strip : (s : List ℕ) (t : Text) (ts : List Token) → textOf s ≡ got t ts → countIn t ≤ 128
+    → Imported s (variablesIn t) (countIn t) (ruleStrip (variablesIn t) (recordsIn t))
 unfolding variablesIn checkedRule
 fits-strip s t ts e h =
     let g = read-good s t ts e in
     let r = text-right t (g .names-are) (g .once) in
     let c = r .records in
     let a0 = r .accepted .0 in
-    let p = strip-passes (variablesIn t) (recordsIn t) (tracks-pos (t .sentence) (t .declared) (g .names-are)) (g .few) (omega arith) (omega arith) (r .accepted .1) in
+    let p = strip-passes (variablesIn t) (recordsIn t) (tracks-pos (t .sentence) (t .declared) (g .names-are)) (g .few) (omega arith) (omega arith)
+    (r .accepted .1) in
     record {
       text = t;
       left = ts;

@@ -30,15 +30,18 @@ pub data After {A : Type 0} (P : A → Type 0) : Read A → Type 0 where
 pub after-got : {A : Type 0} {P : A → Type 0} {a : A} {ts : List Token} → After P (got a ts) → P a
 after-got (fine p) = p
 
-after-then : {A B : Type 0} {P : A → Type 0} {Q : B → Type 0} (r : Read A) (go : A → List Token → Read B) → After P r → ((a : A) (ts : List Token) → P a → After Q (go a ts)) → After Q (andThen r go)
+after-then : {A B : Type 0} {P : A → Type 0} {Q : B → Type 0} (r : Read A) (go : A → List Token → Read B) → After P r
+    → ((a : A) (ts : List Token) → P a → After Q (go a ts)) → After Q (andThen r go)
 after-then (got a ts) go h k = k a ts (after-got h)
 after-then (refused r t) go h k = nothing
 
-by-test : {A : Type 0} {P : A → Type 0} (b : Bool) {x y : Read A} → (b ≡ true → After P x) → (b ≡ false → After P y) → After P (elim b as (λ _. Read A) [ true ↦ x | false ↦ y ])
+by-test : {A : Type 0} {P : A → Type 0} (b : Bool) {x y : Read A} → (b ≡ true → After P x) → (b ≡ false → After P y)
+    → After P (elim b as (λ _. Read A) [ true ↦ x | false ↦ y ])
 by-test true h k = h refl
 by-test false h k = k refl
 
-after-accept : {A : Type 0} {P : A → Type 0} (r : ℕ) (ts : List Token) (go : Name → List Token → Read A) → (eqb r 0 ≡ true → (us : List Token) → After P (go (next ts .bytes) us)) → After P (accept r ts go)
+after-accept : {A : Type 0} {P : A → Type 0} (r : ℕ) (ts : List Token) (go : Name → List Token → Read A)
+    → (eqb r 0 ≡ true → (us : List Token) → After P (go (next ts .bytes) us)) → After P (accept r ts go)
 unfolding accept
 after-accept r ts go h = by-test (eqb r 0) (λ e. h e (rest ts)) (λ e. nothing)
 
@@ -59,7 +62,8 @@ pub record InOrder (sc : Scope) (f : Sentence) : Type 0 where
   pub names-are : T (scoped sc f)
   pub few : tracks (length sc) f ≤ 8
 
-after-used : {A : Type 0} {P : A → Type 0} (o : Order) (sc : Scope) (ts : List Token) (go : Name → List Token → Read A) → ((x : Name) (us : List Token) → T (hasOrder sc o x) → After P (go x us)) → After P (used o sc ts go)
+after-used : {A : Type 0} {P : A → Type 0} (o : Order) (sc : Scope) (ts : List Token) (go : Name → List Token → Read A)
+    → ((x : Name) (us : List Token) → T (hasOrder sc o x) → After P (go x us)) → After P (used o sc ts go)
 unfolding used
 after-used o sc ts go h =
     let x = next ts .bytes in
@@ -87,9 +91,14 @@ module _ (sc : Scope) (l : length sc ≤ 8) where
 
   related-good : (r : Relation) (x : Name) (us : List Token) → T (leftGood r sc x) → After (InOrder sc) (related r sc x us)
   unfolding leftGood related scopedAtom
-  related-good inclusion x us t = after-used second sc (rest us) (λ y vs. got (atom (sub x y)) vs) (λ y vs u. atom-fine {a = sub x y} (and-true (hasOrder sc second x) (hasOrder sc second y) t u))
-  related-good membership x us t = after-used second sc (rest us) (λ y vs. got (atom (member x y)) vs) (λ y vs u. atom-fine {a = member x y} (and-true (hasOrder sc first x) (hasOrder sc second y) t u))
-  related-good equality x us t = after-then (spotOf sc (rest us)) (λ p vs. got (atom (equal x p)) vs) (spot-good sc x t (rest us)) (λ p vs u. atom-fine {a = equal x p} u)
+  related-good inclusion x us t =
+      after-used second sc (rest us) (λ y vs. got (atom (sub x y)) vs)
+      (λ y vs u. atom-fine {a = sub x y} (and-true (hasOrder sc second x) (hasOrder sc second y) t u))
+  related-good membership x us t =
+      after-used second sc (rest us) (λ y vs. got (atom (member x y)) vs)
+      (λ y vs u. atom-fine {a = member x y} (and-true (hasOrder sc first x) (hasOrder sc second y) t u))
+  related-good equality x us t =
+      after-then (spotOf sc (rest us)) (λ p vs. got (atom (equal x p)) vs) (spot-good sc x t (rest us)) (λ p vs u. atom-fine {a = equal x p} u)
   related-good other x us t = nothing
 
   atom-good : (ts : List Token) → After (InOrder sc) (atomOf sc ts)
@@ -97,21 +106,29 @@ module _ (sc : Scope) (l : length sc ≤ 8) where
   atom-good ts =
       let r = relationOf (next (rest ts)) in
       let x = next ts .bytes in
-      after-accept (usedRefusal (leftGood r sc x) (next ts)) ts (λ y us. related r sc y us) (λ e us. related-good r x us (used-passed (isName (next ts)) (leftGood r sc x) e))
+      after-accept (usedRefusal (leftGood r sc x) (next ts)) ts (λ y us. related r sc y us)
+      (λ e us. related-good r x us (used-passed (isName (next ts)) (leftGood r sc x) e))
 
   -- joining keeps sentences in order
-  module _ (join : Sentence → Sentence → Sentence) (keeps : (f g : Sentence) → InOrder sc f → InOrder sc g → InOrder sc (join f g)) (read : Reader) (good : (ts : List Token) → After (InOrder sc) (read sc ts)) (w : String) where
+  module _ (join : Sentence → Sentence → Sentence) (keeps : (f g : Sentence) → InOrder sc f → InOrder sc g → InOrder sc (join f g)) (read : Reader)
+      (good : (ts : List Token) → After (InOrder sc) (read sc ts)) (w : String) where
     more-good : (d : ℕ) (f : Sentence) (ts : List Token) → InOrder sc f → After (InOrder sc) (more d w join read sc f ts)
     unfolding more
     more-good zero f ts h = fine h
-    more-good (suc d) f ts h = by-test (spells w (next ts)) (λ e. after-then (read sc (rest ts)) (λ g us. more d w join read sc (join f g) us) (good (rest ts)) (λ g us k. more-good d (join f g) us (keeps f g h k))) (λ e. fine h)
+    more-good (suc d) f ts h =
+        by-test (spells w (next ts)) (λ e. after-then (read sc (rest ts)) (λ g us. more d w join read sc (join f g) us) (good (rest ts))
+        (λ g us k. more-good d (join f g) us (keeps f g h k))) (λ e. fine h)
 
     joined-good : (ts : List Token) → After (InOrder sc) (joined w join read sc ts)
     unfolding joined
     joined-good ts = after-then (read sc ts) (λ f us. more (length us) w join read sc f us) (good ts) (λ f us h. more-good (length us) f us h)
 
-  two-keep : (f g h : Sentence) → scoped sc h ≡ (scoped sc f && scoped sc g) → tracks (length sc) h ≡ max (tracks (length sc) f) (tracks (length sc) g) → InOrder sc f → InOrder sc g → InOrder sc h
-  two-keep f g h e d a b = let p = a .few in let q = b .few in record { names-are = rw e (and-true (scoped sc f) (scoped sc g) (a .names-are) (b .names-are)); few = omega arith }
+  two-keep : (f g h : Sentence) → scoped sc h ≡ (scoped sc f && scoped sc g) → tracks (length sc) h ≡ max (tracks (length sc) f) (tracks (length sc) g)
+      → InOrder sc f → InOrder sc g → InOrder sc h
+  two-keep f g h e d a b =
+      let p = a .few in
+      let q = b .few in
+      record { names-are = rw e (and-true (scoped sc f) (scoped sc g) (a .names-are) (b .names-are)); few = omega arith }
 
   both-keep : (f g : Sentence) → InOrder sc f → InOrder sc g → InOrder sc (both f g)
   unfolding scoped tracks
@@ -179,7 +196,8 @@ Good read = (sc : Scope) → length sc ≤ 8 → (ts : List Token) → After (In
 module _ (d : ℕ) (deeper : Part → Reader) (good : (p : Part) → Good (deeper p)) where
   operandOf-good : (s : Start) → StartGood s → Good (operandOf deeper s)
   unfolding operandOf StartGood
-  operandOf-good negation b sc l ts = after-then (deeper operand sc (rest ts)) (λ f us. got (denied f) us) (good operand sc l (rest ts)) (λ f us h. fine (denied-keep sc l f h))
+  operandOf-good negation b sc l ts =
+      after-then (deeper operand sc (rest ts)) (λ f us. got (denied f) us) (good operand sc l (rest ts)) (λ f us h. fine (denied-keep sc l f h))
   operandOf-good bracket b sc l ts = after-then (deeper formula sc (rest ts)) _ (good formula sc l (rest ts)) (λ f us h. after-accept _ us _ (λ e vs. fine h))
   operandOf-good atomic b sc l ts = atom-good sc l ts
   operandOf-good tooDeep b sc l ts = nothing
@@ -189,7 +207,8 @@ module _ (d : ℕ) (deeper : Part → Reader) (good : (p : Part) → Good (deepe
       let x = next (rest ts) .bytes in
       let q = leb-false 8 (length sc) (w .1) in
       after-accept _ us _ (λ e′ vs.
-      after-then (deeper formula (record { name = x; order = o } ∷ sc) vs) (λ f ws. got (make o x f) ws) (good formula (record { name = x; order = o } ∷ sc) (omega arith) vs) (λ f ws h. fine (b o x f sc h))))
+      after-then (deeper formula (record { name = x; order = o } ∷ sc) vs) (λ f ws. got (make o x f) ws)
+      (good formula (record { name = x; order = o } ∷ sc) (omega arith) vs) (λ f ws h. fine (b o x f sc h))))
 
   operandAt-good : Good (operandAt d deeper)
   unfolding operandAt
@@ -199,13 +218,15 @@ module _ (d : ℕ) (deeper : Part → Reader) (good : (p : Part) → Good (deepe
   unfolding impliedBy
   implied-good sc l f ts h =
       by-test (spells "=>" (next ts)) (λ e. by-test (eqb d 0) (λ e. nothing) (λ e.
-      after-then (deeper consequent sc (rest ts)) (λ g us. got (implies f g) us) (good consequent sc l (rest ts)) (λ g us k. fine (implies-keep sc l f g h k)))) (λ e. fine h)
+      after-then (deeper consequent sc (rest ts)) (λ g us. got (implies f g) us) (good consequent sc l (rest ts))
+      (λ g us k. fine (implies-keep sc l f g h k)))) (λ e. fine h)
 
   consequentAt-good : Good (consequentAt d deeper)
   unfolding consequentAt
   consequentAt-good sc l ts =
       after-then (joined "|" either (joined "&" both (operandAt d deeper)) sc ts) (λ f us. impliedBy d deeper sc f us)
-      (joined-good sc l either (either-keep sc l) (joined "&" both (operandAt d deeper)) (λ us. joined-good sc l both (both-keep sc l) (operandAt d deeper) (operandAt-good sc l) "&" us) "|" ts)
+      (joined-good sc l either (either-keep sc l) (joined "&" both (operandAt d deeper))
+      (λ us. joined-good sc l both (both-keep sc l) (operandAt d deeper) (operandAt-good sc l) "&" us) "|" ts)
       (λ f us h. implied-good sc l f us h)
 
   partAt-good : (p : Part) → Good (partAt d deeper p)
@@ -239,8 +260,9 @@ declarations-good : (d : ℕ) (sc : Scope) (ts : List Token) → Declares sc →
 unfolding declarations
 declarations-good zero sc ts h = fine h
 declarations-good (suc d) sc ts h =
-    by-test (spells "var1" (next ts)) (λ e. after-then (names d first sc (rest ts)) (declarations d) (names-good d first sc (rest ts) h) (λ sd us k. declarations-good d sd us k)) (λ e.
-    by-test (spells "var2" (next ts)) (λ e. after-then (names d second sc (rest ts)) (declarations d) (names-good d second sc (rest ts) h) (λ sd us k. declarations-good d sd us k)) (λ e. fine h))
+    let further : (o : Order) → After Declares (andThen (names d o sc (rest ts)) (declarations d)) =
+    (λ o. after-then (names d o sc (rest ts)) (declarations d) (names-good d o sc (rest ts) h) (λ sd us k. declarations-good d sd us k)) in
+    by-test (spells "var1" (next ts)) (λ e. further first) (λ e. by-test (spells "var2" (next ts)) (λ e. further second) (λ e. fine h))
 
 -- a text that is read
 pub record ReadGood (t : Text) : Type 0 where

@@ -64,7 +64,8 @@ module _ (sc : Scope) (E : Names) (A : Assignment 2) (h : Agree sc E A) (x : Nam
     sets = λ y. in-sets y (sameBytes y x);
   }
     where
-      in-places : (y : Name) (v : Bool) → T (cond v true (hasOrder sc first y)) → IsOnly (cond v p (E .place y)) (assign (length sc) X A (cond v (length sc) (trackOf sc y)))
+      in-places : (y : Name) (v : Bool) → T (cond v true (hasOrder sc first y))
+          → IsOnly (cond v p (E .place y)) (assign (length sc) X A (cond v (length sc) (trackOf sc y)))
       in-places y true t = rw (assign-here (length sc) X A) o
       in-places y false t = rw (assign-below (length sc) (trackOf sc y) X A (track-lt sc first y t)) (h .places y t)
 
@@ -80,10 +81,12 @@ module _ (sc : Scope) (E : Names) (A : Assignment 2) (h : Agree sc E A) (x : Nam
     sets = λ y. in-sets y (sameBytes y x);
   }
     where
-      in-places : (y : Name) (v : Bool) → T (cond v false (hasOrder sc first y)) → IsOnly (E .place y) (assign (length sc) X A (cond v (length sc) (trackOf sc y)))
+      in-places : (y : Name) (v : Bool) → T (cond v false (hasOrder sc first y))
+          → IsOnly (E .place y) (assign (length sc) X A (cond v (length sc) (trackOf sc y)))
       in-places y true t = absurd t
       in-places y false t = rw (assign-below (length sc) (trackOf sc y) X A (track-lt sc first y t)) (h .places y t)
 
-      in-sets : (y : Name) (v : Bool) → T (cond v true (hasOrder sc second y)) → cond v X (E .set y) ≡ assign (length sc) X A (cond v (length sc) (trackOf sc y))
+      in-sets : (y : Name) (v : Bool) → T (cond v true (hasOrder sc second y))
+          → cond v X (E .set y) ≡ assign (length sc) X A (cond v (length sc) (trackOf sc y))
       in-sets y true t = sym (assign-here (length sc) X A)
       in-sets y false t = h .sets y t ∙ sym (assign-below (length sc) (trackOf sc y) X A (track-lt sc second y t))

@@ -49,13 +49,15 @@ unfoldable pub freeMeant : Scope → Formula 2 → Formula 2
 freeMeant [] f = f
 freeMeant (d ∷ sc) f = freeOne (d .order) (length sc) (freeMeant sc f)
 
-free-written : (n : ℕ) {rs ss : List Record} {f : Formula 2} {c : ℕ} (sc : Scope) → length sc ≤ n → Wrote n rs ss f c → Wrote n rs (writeFree sc ss) (freeMeant sc f) (c + freeCount sc)
+free-written : (n : ℕ) {rs ss : List Record} {f : Formula 2} {c : ℕ} (sc : Scope) → length sc ≤ n → Wrote n rs ss f c
+    → Wrote n rs (writeFree sc ss) (freeMeant sc f) (c + freeCount sc)
 unfolding writeFree freeMeant freeCount freeOne
 free-written n [] h w = wrote-count (omega arith) w
 free-written n {rs} {ss} {f} {c} (d ∷ sc) h w = go (d .order) (free-written n sc (omega arith) w)
   where
     go : (o : Order) → Wrote n rs (writeFree sc ss) (freeMeant sc f) (c + freeCount sc)
-        → Wrote n rs (elim o as (λ _. List Record) [ first ↦ putSingle (length sc) (writeFree sc ss) | second ↦ writeFree sc ss ]) (freeOne o (length sc) (freeMeant sc f)) (c + (freeCount sc + elim o as (λ _. ℕ) [ first ↦ 2 | second ↦ 0 ]))
+        → Wrote n rs (elim o as (λ _. List Record) [ first ↦ putSingle (length sc) (writeFree sc ss) | second ↦ writeFree sc ss ])
+        (freeOne o (length sc) (freeMeant sc f)) (c + (freeCount sc + elim o as (λ _. ℕ) [ first ↦ 2 | second ↦ 0 ]))
     go first v = wrote-count (omega arith) (wrote-single v (length sc) (omega arith))
     go second v = wrote-count (omega arith) v
 
@@ -73,7 +75,8 @@ unfolding freeMeant freeOne Single Singles Holds
 free-holds [] f A = (λ h. (tt, h), λ h. h .1)
 free-holds (d ∷ sc) f A = go (d .order) (free-holds sc f A)
   where
-    go : (o : Order) → Holds (freeMeant sc f) A ↔ (Singles sc A × Holds f A) → Holds (freeOne o (length sc) (freeMeant sc f)) A ↔ ((Single o A (length sc) × Singles sc A) × Holds f A)
+    go : (o : Order) → Holds (freeMeant sc f) A ↔ (Singles sc A × Holds f A)
+        → Holds (freeOne o (length sc) (freeMeant sc f)) A ↔ ((Single o A (length sc) × Singles sc A) × Holds f A)
     go first i = (λ h. let w = i .0 (h .1) in ((h .0, w .0), w .1), λ h. (h .0 .0, i .1 (h .0 .1, h .1)))
     go second i = (λ h. let w = i .0 h in ((tt, w .0), w .1), λ h. i .1 (h .0 .1, h .1))
 
@@ -83,7 +86,10 @@ unfolding Fits Stands hasOrder trackOf
 fits-agree [] E A h = record { places = λ y t. absurd t; sets = λ y t. absurd t }
 fits-agree (d ∷ sc) E A h =
     let i = fits-agree sc E A (h .1) in
-    record { places = λ y. in-places i y (sameBytes y (d .name)) refl (d .order) (h .0); sets = λ y. in-sets i y (sameBytes y (d .name)) refl (d .order) (h .0) }
+    record {
+      places = λ y. in-places i y (sameBytes y (d .name)) refl (d .order) (h .0);
+      sets = λ y. in-sets i y (sameBytes y (d .name)) refl (d .order) (h .0);
+    }
   where
     in-places : Agree sc E A → (y : Name) (v : Bool) → sameBytes y (d .name) ≡ v → (o : Order) → Stands o (d .name) (length sc) E A
         → T (cond v (sameOrder first o) (hasOrder sc first y)) → IsOnly (E .place y) (A (cond v (length sc) (trackOf sc y)))
@@ -111,7 +117,8 @@ not-in-use : (d : Declared) (sc : Scope) (x : Name) → T (not (inUse (d ∷ sc)
 unfolding inUse hasOrder
 not-in-use d sc x t = go (sameBytes x (d .name)) refl (d .order) t
   where
-    go : (v : Bool) → sameBytes x (d .name) ≡ v → (o : Order) → T (not (cond v (sameOrder first o) (hasOrder sc first x) || cond v (sameOrder second o) (hasOrder sc second x)))
+    go : (v : Bool) → sameBytes x (d .name) ≡ v → (o : Order)
+        → T (not (cond v (sameOrder first o) (hasOrder sc first x) || cond v (sameOrder second o) (hasOrder sc second x)))
         → (sameBytes (d .name) x ≡ false) × T (not (hasOrder sc first x || hasOrder sc second x))
     go true e first t = absurd t
     go true e second t = absurd t
@@ -145,7 +152,8 @@ singles-fit (d ∷ sc) A t h =
     let z = singles-fit sc A (w .1) (h .1) in
     go (d .order) (h .0) (w .0) z
   where
-    go : (o : Order) → Single o A (length sc) → T (not (inUse sc (d .name))) → ((E : Names) × Fits sc E A) → (E : Names) × (Stands o (d .name) (length sc) E A × Fits sc E A)
+    go : (o : Order) → Single o A (length sc) → T (not (inUse sc (d .name))) → ((E : Names) × Fits sc E A)
+        → (E : Names) × (Stands o (d .name) (length sc) E A × Fits sc E A)
     go first s u z = (withPlace (d .name) (s .0) (z .0), (rw (bytes-refl (d .name)) (s .1), fits-place (z .0) A (d .name) sc (s .0) u (z .1)))
     go second s u z = (withSet (d .name) (A (length sc)) (z .0), (rw (bytes-refl (d .name)) refl, fits-set (z .0) A (d .name) sc (A (length sc)) u (z .1)))
 
@@ -164,7 +172,8 @@ module _ (t : Text) (s : T (scoped (t .declared) (t .sentence))) (u : T (distinc
       free-written n (t .declared) (omega arith) (written n (t .sentence) (t .declared) [] (omega arith) s)
 
   -- the names and their sentence, of the formula
-  text-says : (A : Assignment 2) → Holds (freeMeant (t .declared) (meant (t .declared) (t .sentence))) A ↔ ((E : Names) × Fits (t .declared) E A × Says (t .sentence) E)
+  text-says : (A : Assignment 2)
+      → Holds (freeMeant (t .declared) (meant (t .declared) (t .sentence))) A ↔ ((E : Names) × Fits (t .declared) E A × Says (t .sentence) E)
   text-says A =
       let sc = t .declared in
       let f = free-holds sc (meant sc (t .sentence)) A in (
