@@ -27,7 +27,7 @@ unfoldable pub Fits : Scope → Names → Assignment 2 → Type 0
 Fits [] E A = Unit
 Fits (d ∷ sc) E A = Stands (d .order) (d .name) (length sc) E A × Fits sc E A
 
--- the text t was imported as this strip, with n and m
+-- the text s was imported as this strip, with n and m: it was read as `text`
 pub record Imported (s : List ℕ) (n m : ℕ) (strip : List ℕ) : Type 0 where
   pub text : Text
   pub left : List Token

@@ -1,5 +1,6 @@
 -- Reading tokens: request A2's grammar and refusals 23 to 25, with document 01's binding strengths. Tokens are taken one after the other, and
--- each is judged as it is taken: so the refusal is "the earliest in the text, and at one token the lowest". Assumes nothing.
+-- each is judged before the next is taken: so the refusal is "the earliest in the text, and at one token the lowest". Faults.antt states what that
+-- means of any text. Assumes nothing.
 use Prim.Native.Nat.{ℕ, zero, suc}
 use Prim.Native.String.{String}
 use mathlib.Core.Bool.{Bool, true, false, not, cond, _||_}
@@ -16,15 +17,17 @@ pub data Read (A : Type 0) : Type 0 where
   got : A → List Token → Read A
   refused : ℕ → Token → Read A
 
+-- one reading after another; the first refusal is the text's
 abbrev pub andThen : {A B : Type 0} → Read A → (A → List Token → Read B) → Read B
 andThen (got a ts) go = go a ts
 andThen (refused r t) go = refused r t
 
--- the token that stands next; a text's last token, its end, is never taken
+-- the token that stands next. A text's last token is its end, which is taken last or not at all: what [] gives matters to no text
 abbrev pub next : List Token → Token
 next [] = record { kind = theEnd; bytes = []; start = 0; stop = 0 }
 next (t ∷ ts) = t
 
+-- the tokens behind the next one
 abbrev pub rest : List Token → List Token
 rest [] = []
 rest (t ∷ ts) = ts
@@ -37,6 +40,7 @@ accept r ts go = elim (eqb r 0) [ true ↦ go (next ts .bytes) (rest ts) | false
 abbrev pub or23 : Bool → ℕ
 or23 b = cond b 0 23
 
+-- the two orders are one
 abbrev pub sameOrder : Order → Order → Bool
 sameOrder first first = true
 sameOrder first second = false
@@ -48,6 +52,7 @@ unfoldable pub hasOrder : Scope → Order → Name → Bool
 hasOrder [] o x = false
 hasOrder (d ∷ sc) o x = cond (sameBytes x (d .name)) (sameOrder o (d .order)) (hasOrder sc o x)
 
+-- the name is in use, of either order
 unfoldable pub inUse : Scope → Name → Bool
 inUse sc x = hasOrder sc first x || hasOrder sc second x
 
@@ -55,35 +60,38 @@ inUse sc x = hasOrder sc first x || hasOrder sc second x
 abbrev pub usedRefusal : Bool → Token → ℕ
 usedRefusal good t = cond (not (isName t)) 23 (cond (not good) 24 0)
 
--- a name that is declared or bound: 24 when it is "twice in the declarations"; "25 at a name that needs a ninth track"
+-- a name that is declared or bound, where the names sc are in use: 24 when it is "twice in the declarations"; "25 at a name that needs a ninth track"
 abbrev pub newRefusal : Bool → Scope → Token → ℕ
 newRefusal twice sc t = cond (not (isName t)) 23 (cond twice 24 (cond (leb 8 (length sc)) 25 0))
 
--- a name of order o
+-- a name of order o is taken
 unfoldable pub used : {A : Type 0} → Order → Scope → List Token → (Name → List Token → Read A) → Read A
 used o sc ts go = accept (usedRefusal (hasOrder sc o (next ts .bytes)) (next ts)) ts go
 
--- the word or mark between the two sides of an atom
+-- the word or mark between the two sides of an atom: `sub`, `in`, `=`, or none of these
 pub data Relation : Type 0 where
   inclusion membership equality other : Relation
 
+-- which of them a token is
 unfoldable pub relationOf : Token → Relation
 relationOf t = cond (spells "sub" t) inclusion (cond (spells "in" t) membership (cond (spells "=" t) equality other))
 
--- the order that it asks of the name before it: the fault lies at that name, though it shows only here
+-- what it asks of the name before it: the fault lies at that name, though it shows only here. Where none of the three follows, the name need only
+-- be in use, and what follows leaves the grammar
 unfoldable pub leftGood : Relation → Scope → Name → Bool
 leftGood inclusion sc x = hasOrder sc second x
 leftGood membership sc x = hasOrder sc first x
 leftGood equality sc x = hasOrder sc first x
 leftGood other sc x = inUse sc x
 
--- "the right side is a place that is either a variable, its branch, or the root"; "`.0` is branch 1 and `.1` branch 2"
+-- a place that begins with the name y: "`y`, `y.0`, `y.1`"; "`.0` is branch 1 and `.1` branch 2"
 unfoldable pub branchOf : Name → List Token → Read Spot
 branchOf y ts = elim (spells ".0" (next ts)) [
   | true ↦ got (branch one y) (rest ts)
   | false ↦ elim (spells ".1" (next ts)) [ true ↦ got (branch two y) (rest ts) | false ↦ got (variable y) ts ]
 ]
 
+-- "the right side is a place that is either a variable, its branch, or the root"
 unfoldable pub spotOf : Scope → List Token → Read Spot
 spotOf sc ts = elim (spells "root" (next ts)) [ true ↦ got root (rest ts) | false ↦ used first sc ts branchOf ]
 
@@ -94,9 +102,11 @@ related membership sc x ts = used second sc (rest ts) (λ y us. got (atom (membe
 related equality sc x ts = andThen (spotOf sc (rest ts)) (λ p us. got (atom (equal x p)) us)
 related other sc x ts = refused 23 (next ts)
 
+-- what reads a sentence where these names are in use
 abbrev pub Reader : Type 0
 Reader = Scope → List Token → Read Sentence
 
+-- "the atoms `X sub Y`, `x in X`, `x = place`": the name is judged by the token behind it too
 unfoldable pub atomOf : Reader
 atomOf sc ts =
     let r = relationOf (next (rest ts)) in
@@ -110,14 +120,16 @@ more (suc d) w join read sc f ts = elim (spells w (next ts)) [
   | false ↦ got f ts
 ]
 
+-- one or more operands, joined by the operator w
 unfoldable pub joined : String → (Sentence → Sentence → Sentence) → Reader → Reader
 joined w join read sc ts = andThen (read sc ts) (λ f us. more (length us) w join read sc f us)
 
--- how an operand starts; a level "opening at its bracket, `~`, quantifier word", where there is none left, is too deep
+-- how an operand starts; "a level opening at its bracket, `~`, quantifier word", where no more may open, is too deep
 pub data Start : Type 0 where
   negation bracket atomic tooDeep : Start
   quantifier : (Order → Name → Sentence → Sentence) → Order → Start
 
+-- what opens a level, where d may still open
 unfoldable pub opening : ℕ → Start → Start
 opening zero s = tooDeep
 opening (suc d) s = s
@@ -154,24 +166,26 @@ impliedBy d deeper sc f ts = elim (spells "=>" (next ts)) [
   | false ↦ got f ts
 ]
 
--- "Binding strength falls from `~` through `&`, `|`, `=>` to `<=>`": the readers of one level, where d more may open
+-- "Binding strength falls from `~` through `&`, `|`, `=>` to `<=>`": the readers of one level, where d more may open, from those a level deeper
 unfoldable pub operandAt : ℕ → (Part → Reader) → Reader
 operandAt d deeper sc ts = operandOf deeper (startOf d (next ts)) sc ts
 
+-- `&` and `|`, then perhaps `=>`
 unfoldable pub consequentAt : ℕ → (Part → Reader) → Reader
 consequentAt d deeper sc ts = andThen (joined "|" either (joined "&" both (operandAt d deeper)) sc ts) (λ f us. impliedBy d deeper sc f us)
 
+-- a whole formula: operands of `<=>`
 unfoldable pub partAt : ℕ → (Part → Reader) → Part → Reader
 partAt d deeper operand sc ts = operandAt d deeper sc ts
 partAt d deeper consequent sc ts = consequentAt d deeper sc ts
 partAt d deeper formula sc ts = joined "<=>" alike (consequentAt d deeper) sc ts
 
--- the readers where d levels may still open: "nest at most 32 deep"
+-- the readers where d levels may still open; with none left, nothing calls the readers a level deeper
 unfoldable pub reader : ℕ → Part → Reader
 reader zero p sc ts = partAt zero (λ q sd us. refused 23 (next us)) p sc ts
 reader (suc d) p sc ts = partAt (suc d) (λ q sd us. reader d q sd us) p sc ts
 
--- "A declaration lists one or more names with commas and ends with a semicolon"; d: at least the tokens that are left
+-- "A declaration lists one or more names with commas and ends with a semicolon": its names of order o join those in use; d: at least the tokens left
 unfoldable pub names : ℕ → Order → Scope → List Token → Read Scope
 names zero o sc ts = refused 23 (next ts)
 names (suc d) o sc ts = accept (newRefusal (inUse sc (next ts .bytes)) sc (next ts)) ts (λ x us.
@@ -180,7 +194,7 @@ names (suc d) o sc ts = accept (newRefusal (inUse sc (next ts .bytes)) sc (next 
       | false ↦ accept (or23 (spells ";" (next us))) us (λ _ vs. got (record { name = x; order = o } ∷ sc) vs)
     ])
 
--- "any number of `var1` and `var2` declarations"
+-- "any number of `var1` and `var2` declarations"; d: at least the tokens left
 unfoldable pub declarations : ℕ → Scope → List Token → Read Scope
 declarations zero sc ts = got sc ts
 declarations (suc d) sc ts = elim (spells "var1" (next ts)) [
@@ -188,7 +202,7 @@ declarations (suc d) sc ts = elim (spells "var1" (next ts)) [
   | false ↦ elim (spells "var2" (next ts)) [ true ↦ andThen (names d second sc (rest ts)) (declarations d) | false ↦ got sc ts ]
 ]
 
--- "the heading `ws2s;`, any number of declarations, then one formula, ended by a semicolon"
+-- "the heading `ws2s;`, any number of `var1` and `var2` declarations, then one formula .., ended by a semicolon"; levels "nest at most 32 deep"
 unfoldable pub textFrom : List Token → Read Text
 textFrom ts =
     accept (or23 (spells "ws2s" (next ts))) ts (λ _ us.
@@ -198,5 +212,6 @@ textFrom ts =
     accept (or23 (spells ";" (next xs))) xs (λ _ ys.
     accept (or23 (eqb (next ys .kind) theEnd)) ys (λ _ zs. got (record { declared = sc; sentence = f }) zs))))))
 
+-- a text of bytes, read
 unfoldable pub textOf : List ℕ → Read Text
 textOf s = textFrom (tokensOf s)

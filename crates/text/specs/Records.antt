@@ -1,4 +1,5 @@
--- The records written for a text: document 01, "How trainers type a rule"; the order of the records is this file's. Assumes nothing.
+-- The records written for a text: document 01, "How trainers type a rule". Their order, which the papers leave to us, is this file's, and
+-- docs/TEXT.md shows it. Assumes nothing.
 use Prim.Native.Nat.{ℕ, suc, _+_, max}
 use mathlib.Core.Bool.{cond}
 use mathlib.Core.List.{List, [], _∷_, _++_}
@@ -8,8 +9,8 @@ use Rattle.text.specs.Token.{sameBytes}
 use Rattle.text.specs.Syntax.{Name, first, second, variable, branch, root, Atom, sub, member, equal, Sentence, atom, denied, both, either}
 use Rattle.text.specs.Syntax.{implies, alike, forSome, forEvery, Scope, Text}
 
--- "Free variables take tracks (variable numbers) in order of declaration; a bound one takes the next after those in use around it": the latest
--- of the names x in use
+-- the track of the latest of the names x in use: "Free variables take tracks (variable numbers) in order of declaration; a bound one takes the next
+-- after those in use around it". A name that another hides keeps its track
 unfoldable pub trackOf : Scope → Name → ℕ
 trackOf [] x = 0
 trackOf (d ∷ sc) x = cond (sameBytes x (d .name)) (length sc) (trackOf sc x)
@@ -25,10 +26,11 @@ tracks i (alike f g) = max (tracks i f) (tracks i g)
 tracks i (forSome o x f) = tracks (suc i) f
 tracks i (forEvery o x f) = tracks (suc i) f
 
+-- n: a declared variable counts, used or not
 unfoldable pub variablesIn : Text → ℕ
 variablesIn t = tracks (length (t .declared)) (t .sentence)
 
--- "Each atom, `~`, `&`, `|` and `ex2` makes one record, `=>` two, `ex1` and `all2` three, `all1` and `<=>` five"
+-- "Each atom, `~`, `&`, `|` and `ex2` makes one record, `=>` two, `ex1` and `all2` three, `all1` and `<=>` five .. none are shared"
 unfoldable pub count : Sentence → ℕ
 count (atom a) = 1
 count (denied f) = count f + 1
@@ -46,6 +48,7 @@ unfoldable pub freeCount : Scope → ℕ
 freeCount [] = 0
 freeCount (d ∷ sc) = freeCount sc + elim (d .order) [ first ↦ 2 | second ↦ 0 ]
 
+-- m
 unfoldable pub countIn : Text → ℕ
 countIn t = count (t .sentence) + freeCount (t .declared)
 
@@ -61,13 +64,15 @@ writeAtom sc (equal x (variable y)) rs = put 0 (trackOf sc x) (trackOf sc y) rs
 writeAtom sc (equal x (branch b y)) rs = put (2 + b .number) (trackOf sc x) (trackOf sc y) rs
 writeAtom sc (equal x root) rs = put 4 (trackOf sc x) 0 rs
 
+-- "not" of the record written before
 abbrev pub putNot : List Record → List Record
 putNot rs = put 5 (lastOf rs) 0 rs
 
--- Sing of variable x, and the conjunction of that with the record written before
+-- Sing of variable x, and "and" of that with the record written before
 abbrev pub putSingle : ℕ → List Record → List Record
 putSingle x rs = put 7 (length rs) (lastOf rs) (put 1 x 0 rs)
 
+-- "exists" of variable x and the record written before
 abbrev pub putExists : ℕ → List Record → List Record
 putExists x rs = put 8 x (lastOf rs) rs
 
@@ -96,5 +101,6 @@ unfoldable pub writeFree : Scope → List Record → List Record
 writeFree [] rs = rs
 writeFree (d ∷ sc) rs = let ss = writeFree sc rs in elim (d .order) [ first ↦ putSingle (length sc) ss | second ↦ ss ]
 
+-- all records of a text: its last one is the rule
 unfoldable pub recordsIn : Text → List Record
 recordsIn t = writeFree (t .declared) (write (t .declared) (t .sentence) [])

@@ -10,7 +10,7 @@ use lib.Text.{eqt}
 use lib.ListN.{length, take, drop}
 use Rattle.bits.specs.Bits.{between}
 
--- a token: its kind, its bytes, and the byte places where it starts and ends
+-- a token: its kind, its bytes, and the byte places where it starts and where the next byte after it stands
 pub record Token : Type 0 where
   pub kind : ℕ
   pub bytes : List ℕ
@@ -26,7 +26,7 @@ spell (text._∷_ c s) = code c ∷ spell s
 unfoldable pub words : List String
 words = "ws2s" ∷ "var1" ∷ "var2" ∷ "ex1" ∷ "ex2" ∷ "all1" ∷ "all2" ∷ "sub" ∷ "in" ∷ "root" ∷ []
 
--- "`.0` and `.1` are single tokens; the longest token is taken": `=>` stands before `=`
+-- the marks of the grammar; "`.0` and `.1` are single tokens; the longest token is taken": `=>` stands before `=`, which it begins with
 unfoldable pub marks : List String
 marks = ";" ∷ "," ∷ ":" ∷ "(" ∷ ")" ∷ "~" ∷ "&" ∷ "|" ∷ "=>" ∷ "<=>" ∷ "=" ∷ ".0" ∷ ".1" ∷ []
 
@@ -49,15 +49,18 @@ placeIn i (v ∷ vs) w = elim (eqt v w) [ true ↦ i | false ↦ placeIn (suc i)
 unfoldable pub spells : String → Token → Bool
 spells w t = eqb (t .kind) (placeIn 0 (words ++ marks) w)
 
+-- the token is a name, and no word
 abbrev pub isName : Token → Bool
 isName t = eqb (t .kind) aName
 
+-- two names, or a word and what was typed, are the same
 unfoldable pub sameBytes : List ℕ → List ℕ → Bool
 sameBytes [] [] = true
 sameBytes [] (c ∷ s) = false
 sameBytes (b ∷ w) [] = false
 sameBytes (b ∷ w) (c ∷ s) = eqb b c && sameBytes w s
 
+-- the first bytes of the second are the first
 unfoldable pub beginsWith : List ℕ → List ℕ → Bool
 beginsWith [] s = true
 beginsWith (b ∷ w) [] = false
@@ -90,7 +93,7 @@ pub record Piece : Type 0 where
   pub kind : ℕ
   pub size : ℕ
 
--- the first of the marks numbered from i that s begins with; a stray is one byte
+-- the first of the marks numbered from i that s begins with; where there is none, the first byte of s is a stray
 unfoldable pub markPiece : ℕ → List String → List ℕ → Piece
 markPiece i [] s = record { kind = aStray; size = 1 }
 markPiece i (m ∷ ms) s = elim (beginsWith (spell m) s) [ true ↦ record { kind = i; size = length (spell m) } | false ↦ markPiece (suc i) ms s ]
@@ -99,7 +102,7 @@ markPiece i (m ∷ ms) s = elim (beginsWith (spell m) s) [ true ↦ record { kin
 unfoldable pub piece : ℕ → List ℕ → Piece
 piece b s = elim (isLetter b) [ true ↦ record { kind = wordKind 0 words (b ∷ take (run s) s); size = suc (run s) } | false ↦ markPiece 10 marks (b ∷ s) ]
 
--- the tokens of s, whose first byte has place at; the end of the text is the last. d: more than the bytes of s
+-- the tokens of s, whose first byte has place at; the end of the text, of no bytes, is the last. d: more than the bytes of s, so that it never runs out
 unfoldable pub tokens : ℕ → ℕ → List ℕ → List Token
 tokens zero at s = record { kind = theEnd; bytes = []; start = at; stop = at } ∷ []
 tokens (suc d) at [] = record { kind = theEnd; bytes = []; start = at; stop = at } ∷ []
@@ -111,5 +114,6 @@ tokens (suc d) at (b ∷ s) = elim (isBlank b) [
       record { kind = p .kind; bytes = w; start = at; stop = at + p .size } ∷ tokens d (at + p .size) (drop (p .size) (b ∷ s))
 ]
 
+-- the tokens of a whole text; its first byte has place 0
 unfoldable pub tokensOf : List ℕ → List Token
 tokensOf s = tokens (suc (length s)) 0 s
