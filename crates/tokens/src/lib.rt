@@ -1,0 +1,244 @@
+// The tokens of a text: document 01, "How trainers type a rule".
+ghost use mathlib.Core.Path.{_≡_};
+ghost use mathlib.Core.List.{[], _∷_};
+ghost use Prim.Native.Nat.{_+_, _<_, _≤_};
+ghost use lib.ListN.{length, drop};
+ghost use Rattle.text.specs.Token.{isBlank, isLetter, isAlnum, words, wordKind, marks, markPiece, beginsWith};
+ghost use Rattle.tokens.specs.Tokens.{part, Span, Stands, span, packed, packedKind, singleKind, markSize};
+
+pub mod names;
+
+// Kinds that code needs beside the numbers of the words and marks.
+pub const NAME: usize = 23;
+
+pub const STRAY: usize = 24;
+
+pub const END: usize = 25;
+
+// A token: its kind, and the byte places where it starts and ends.
+pub struct Token {
+    pub kind: usize,
+    pub start: usize,
+    pub stop: usize,
+}
+
+fn is_blank(b: u8) -> bool
+    ensures { λ r. ⌜ r ≡ isBlank b ⌝ }
+{
+    if b == 32 {
+        return true;
+    }
+    if b == 9 {
+        return true;
+    }
+    if b == 13 {
+        return true;
+    }
+    b == 10
+}
+
+fn is_letter(b: u8) -> bool
+    ensures { λ r. ⌜ r ≡ isLetter b ⌝ }
+{
+    if b < 65 {
+        return false;
+    }
+    if b <= 90 {
+        return true;
+    }
+    if b < 97 {
+        return false;
+    }
+    b <= 122
+}
+
+fn is_alnum(b: u8) -> bool
+    ensures { λ r. ⌜ r ≡ isAlnum b ⌝ }
+{
+    if is_letter(b) {
+        return true;
+    }
+    if b < 48 {
+        return false;
+    }
+    b <= 57
+}
+
+// The first place from `at` on that holds no blank.
+fn blanks_end(text: &[u8], at: usize) -> usize
+    ensures { λ r. ⌜ r ≡ at + span isBlank (drop at (now (text .entry))) ⌝ }
+{
+    let mut i = at;
+    while i < text.len() {
+        if !is_blank(text[i]) {
+            return i;
+        }
+        i += 1;
+    }
+    i
+}
+
+// The first place from `at` on that holds no letter or digit.
+fn run_end(text: &[u8], at: usize) -> usize
+    ensures { λ r. ⌜ r ≡ at + span isAlnum (drop at (now (text .entry))) ⌝ }
+{
+    let mut i = at;
+    while i < text.len() {
+        if !is_alnum(text[i]) {
+            return i;
+        }
+        i += 1;
+    }
+    i
+}
+
+fn wide(x: u8) -> u64
+    ensures { λ r. ⌜ r ≡ x ⌝ }
+{
+    x as u64
+}
+
+// At most four bytes as one number.
+fn pack(text: &[u8], start: usize, stop: usize) -> u64
+    requires { ⌜ Span (now text) start stop ⌝ }
+    requires { ⌜ stop ≤ start + 4 ⌝ }
+    ensures { λ r. ⌜ r ≡ packed (part (now (text .entry)) start stop) ⌝ }
+{
+    let mut v: u64 = 1;
+    let mut i = stop;
+    while start < i {
+        i -= 1;
+        v = v * 256 + wide(text[i]);
+    }
+    v
+}
+
+// The kind of the letters and digits that are packed in v.
+fn packed_kind(v: u64) -> usize
+    ensures { λ r. ⌜ r ≡ packedKind 0 words v ⌝ }
+{
+    match v {
+        0x1_7332_7377 => 0,
+        0x1_3172_6176 => 1,
+        0x1_3272_6176 => 2,
+        0x131_7865 => 3,
+        0x132_7865 => 4,
+        0x1_316C_6C61 => 5,
+        0x1_326C_6C61 => 6,
+        0x162_7573 => 7,
+        0x1_6E69 => 8,
+        0x1_746F_6F72 => 9,
+        _ => 23,
+    }
+}
+
+// The kind of a run of letters and digits: no word has more than four.
+fn word_kind(text: &[u8], start: usize, stop: usize) -> usize
+    requires { ⌜ Span (now text) start stop ⌝ }
+    ensures { λ r. ⌜ r ≡ wordKind 0 words (part (now (text .entry)) start stop) ⌝ }
+{
+    if 4 < stop - start {
+        return NAME;
+    }
+    packed_kind(pack(text, start, stop))
+}
+
+// The kind of a byte that is a mark and begins no longer one.
+fn single_kind(b: u8) -> usize
+    ensures { λ r. ⌜ r ≡ singleKind b ⌝ }
+{
+    match b {
+        b';' => 10,
+        b',' => 11,
+        b':' => 12,
+        b'(' => 13,
+        b')' => 14,
+        b'~' => 15,
+        b'&' => 16,
+        b'|' => 17,
+        _ => STRAY,
+    }
+}
+
+// Whether the text has the byte b at a place.
+fn holds(text: &[u8], at: usize, b: u8) -> bool
+    ensures { λ r. ⌜ r ≡ beginsWith (b ∷ []) (drop at (now (text .entry))) ⌝ }
+{
+    if at < text.len() {
+        return text[at] == b;
+    }
+    false
+}
+
+// The kind of the longest mark at a place, or of a stray byte.
+fn mark_kind(text: &[u8], at: usize) -> usize
+    requires { ⌜ at < length (now text) ⌝ }
+    ensures { λ r. ⌜ r ≡ markPiece 10 marks (drop at (now (text .entry))) .kind ⌝ }
+{
+    let b = text[at];
+    if b == b'=' {
+        if holds(text, at + 1, b'>') {
+            return 18;
+        }
+        return 20;
+    }
+    if b == b'<' {
+        if holds(text, at + 1, b'=') {
+            if holds(text, at + 2, b'>') {
+                return 19;
+            }
+        }
+        return STRAY;
+    }
+    if b == b'.' {
+        if holds(text, at + 1, b'0') {
+            return 21;
+        }
+        if holds(text, at + 1, b'1') {
+            return 22;
+        }
+        return STRAY;
+    }
+    single_kind(b)
+}
+
+// How many bytes a mark of that kind has; a stray has one.
+fn mark_size(kind: usize) -> usize
+    ensures { λ r. ⌜ r ≡ markSize kind ⌝ }
+{
+    match kind {
+        18 => 2,
+        19 => 3,
+        21 => 2,
+        22 => 2,
+        _ => 1,
+    }
+}
+
+// The token that stands next at a place; after the last one, the end.
+pub fn token_at(text: &[u8], at: usize) -> Token
+    ensures { λ r. ⌜ Stands (now (text .entry)) at r ⌝ }
+{
+    let start = blanks_end(text, at);
+    if text.len() <= start {
+        return Token {
+            kind: END,
+            start,
+            stop: start,
+        };
+    }
+    if is_letter(text[start]) {
+        let stop = run_end(text, start + 1);
+        return Token {
+            kind: word_kind(text, start, stop),
+            start,
+            stop,
+        };
+    }
+    let kind = mark_kind(text, start);
+    Token {
+        kind,
+        start,
+        stop: start + mark_size(kind),
+    }
+}
