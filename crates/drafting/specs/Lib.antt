@@ -1,0 +1,3 @@
+pub mod Draft
+pub mod Coded
+pub mod Joined
