@@ -1,0 +1,4 @@
+pub mod Taking
+pub mod Looking
+pub mod Atoms
+pub mod Declaring
