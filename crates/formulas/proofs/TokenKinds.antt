@@ -1,0 +1,43 @@
+-- Tokens by their kinds. Assumes nothing.
+use Prim.Native.Nat.{ℕ, _≤_, _<_}
+use mathlib.Core.Path.{_≡_, refl, sym}
+use mathlib.Core.Bool.{Bool, true, false, not, true≢false}
+use native.Mathlib.Omega.{arith}
+use borrow.Author.Tests.{eq-eqb, ne-eqb, le-leb, lt-leb}
+use lib.Dec.{eqb, leb}
+use Rattle.tokens.specs.InUse.{orderOf}
+use Rattle.formulas.specs.Reading.{opensBy, orderBy}
+
+pub opens-low : (n : ℕ) → n < 3 → false ≡ opensBy n
+unfolding opensBy
+opens-low n h = rw (lt-leb 3 n h, ne-eqb n 13 (λ e. omega arith), ne-eqb n 15 (λ e. omega arith)) refl
+
+pub opens-word : (n : ℕ) → 3 ≤ n → n ≤ 6 → true ≡ opensBy n
+unfolding opensBy
+opens-word n l h = rw (le-leb 3 n l, le-leb n 6 h) refl
+
+pub opens-bracket : (n : ℕ) → n ≡ 13 → true ≡ opensBy n
+unfolding opensBy
+opens-bracket n e = rw e refl
+
+pub opens-not : (n : ℕ) → 6 < n → (n ≡ 13 → ⊥) → eqb n 15 ≡ opensBy n
+unfolding opensBy
+opens-not n h k = rw (le-leb 3 n (omega arith), lt-leb n 6 h, ne-eqb n 13 k) refl
+
+pub order-first : (n : ℕ) → n ≡ 3 → orderOf 1 ≡ orderBy n
+order-first n e = rw e refl
+
+pub order-every : (n : ℕ) → n ≡ 5 → orderOf 1 ≡ orderBy n
+order-every n e = rw e refl
+
+pub order-second : (n : ℕ) → (n ≡ 3 → ⊥) → (n ≡ 5 → ⊥) → orderOf 2 ≡ orderBy n
+order-second n h k = rw (ne-eqb n 3 h, ne-eqb n 5 k) refl
+
+-- what the test says, which is of the contrary
+pub opened-by : (n : ℕ) (b : Bool) → b ≡ opensBy n → not b ≡ false → opensBy n ≡ true
+opened-by n true e h = sym e
+opened-by n false e h = absurd (true≢false h)
+
+pub closed-by : (n : ℕ) (b : Bool) → b ≡ opensBy n → not b ≡ true → opensBy n ≡ false
+closed-by n true e h = absurd (true≢false (sym h))
+closed-by n false e h = sym e
