@@ -1,0 +1,236 @@
+// A rule typed as text, written as a rule strip: request A2.
+ghost use mathlib.Core.Path.{_≡_};
+ghost use Prim.Native.Nat.{_-_, _≤_};
+ghost use lib.ListN.{length};
+ghost use Rattle.text.specs.Grammar.{textOf};
+ghost use Rattle.text.specs.Import.{import, outAfter};
+ghost use Rattle.tokens.specs.Tokens.{tokensAt};
+ghost use Rattle.import.specs.Answers.{HeadingTold, EndTold, Ends, FreePut, bodyOf, TextTold, importedOf, faultOf, Claimed};
+use formulas::Here;
+use formulas::Reading;
+use phrases::Mark;
+
+// What import answers: the variables and records of the rule and the length of its strip in bytes; or a refusal's number.
+pub enum Import {
+    Written {
+        variables: usize,
+        records: usize,
+        length: usize,
+    },
+    Refused(u64),
+}
+
+// What is at fault in a text: a refusal's number, or 0, and where its token starts and how many bytes it has.
+pub struct TextFault {
+    pub refusal: u64,
+    pub start: usize,
+    pub length: usize,
+}
+
+// The kinds of the tokens that are looked for here: their places among all words and marks.
+const HEADING: usize = 0;
+
+const SEMICOLON: usize = 10;
+
+// "nest at most 32 deep"
+const DEPTH: usize = 32;
+
+// "the heading `ws2s;`"
+fn read_heading(text: &[u8]) -> Mark
+    ensures { λ r. ⌜ HeadingTold (now (text .entry)) r ⌝ }
+{
+    match phrases::read_mark(text, HEADING, 0) {
+        Mark::Stands { next } => phrases::read_mark(text, SEMICOLON, next),
+        Mark::Refused {
+            number,
+            start,
+            stop,
+        } => Mark::Refused {
+            number,
+            start,
+            stop,
+        },
+    }
+}
+
+// The end of the text, at a place.
+fn end(text: &[u8], here: Here) -> Reading
+    ensures { λ r. ⌜ EndTold (now (text .entry)) here r ⌝ }
+{
+    let t = tokens::token_at(text, here.next);
+    if t.kind != tokens::END {
+        return Reading::Refused {
+            number: 23,
+            start: t.start,
+            stop: t.stop,
+        };
+    }
+    Reading::Got(here)
+}
+
+// "ended by a semicolon", and nothing behind it.
+fn close(text: &[u8], sentence: Reading) -> Reading
+    ensures { λ r. ⌜ Ends (now (text .entry)) sentence r ⌝ }
+{
+    let Reading::Got(here) = sentence else {
+        return sentence;
+    };
+    match phrases::read_mark(text, SEMICOLON, here.next) {
+        Mark::Stands { next } => end(
+            text,
+            Here {
+                next,
+                count: here.count,
+                tracks: here.tracks,
+            },
+        ),
+        Mark::Refused {
+            number,
+            start,
+            stop,
+        } => Reading::Refused {
+            number,
+            start,
+            stop,
+        },
+    }
+}
+
+// "each free first-order variable two more", in order of declaration.
+fn put_free(words: &mut [u64; 128], names: &[usize; 24], in_use: usize, count: usize) -> usize
+    requires { ⌜ «in_use» ≤ 8 ⌝ }
+    ensures { λ r. ⌜ FreePut (now (names .entry)) «in_use» (now (words .entry)) count (now (words .exit)) r ⌝ }
+{
+    let mut count = count;
+    let mut i = 0;
+    while i < in_use {
+        if names[3 * i + 2] == 1 {
+            count = drafting::put_single(words, count, i);
+        }
+        i += 1;
+    }
+    count
+}
+
+// The declarations, the formula and the end, from a place on.
+fn read_body(text: &[u8], words: &mut [u64; 128], at: usize) -> Reading
+    requires { ⌜ length (now words) ≡ 128 ⌝ }
+    ensures { λ r. ⌜ TextTold (now (words .exit)) (bodyOf (tokensAt (now (text .entry)) at)) r ⌝ }
+{
+    let declared = phrases::read_declarations(text, at);
+    if declared.refusal != 0 {
+        return Reading::Refused {
+            number: declared.refusal,
+            start: declared.start,
+            stop: declared.stop,
+        };
+    }
+    let names = declared.names;
+    let in_use = declared.in_use;
+    let start = Here {
+        next: declared.next,
+        count: 0,
+        tracks: in_use,
+    };
+    let sentence = formulas::formula(text, &names, in_use, words, DEPTH, 0, start);
+    let whole = close(text, sentence);
+    let Reading::Got(here) = whole else {
+        return whole;
+    };
+    Reading::Got(Here {
+        next: here.next,
+        count: put_free(words, &names, in_use, here.count),
+        tracks: here.tracks,
+    })
+}
+
+// A whole text: its records into the array.
+fn read_text(text: &[u8], words: &mut [u64; 128]) -> Reading
+    requires { ⌜ length (now words) ≡ 128 ⌝ }
+    ensures { λ r. ⌜ TextTold (now (words .exit)) (textOf (now (text .entry))) r ⌝ }
+{
+    match read_heading(text) {
+        Mark::Stands { next } => read_body(text, words, next),
+        Mark::Refused {
+            number,
+            start,
+            stop,
+        } => Reading::Refused {
+            number,
+            start,
+            stop,
+        },
+    }
+}
+
+// The rule that a text says, as a strip at the front of out.
+pub fn import_text(text: &[u8], out: &mut [u8]) -> Import
+    ensures { λ r. do ⌜ r ≡ importedOf (import (now (text .entry)) (length (now (out .entry)))) ⌝ }
+    ensures { λ r. ⌜ now (out .exit) ≡ outAfter (import (now (text .entry)) (length (now (out .entry)))) (now (out .entry)) ⌝ }
+    ensures { λ r. ⌜ Claimed (now (text .entry)) r (now (out .exit)) ⌝ }
+{
+    if out.len() < 290 {
+        return Import::Refused(27);
+    }
+    let mut words = [0; 128];
+    match read_text(text, &mut words) {
+        Reading::Got(here) => {
+            if 128 < here.count {
+                return Import::Refused(26);
+            }
+            rule_strip::write::write_rule(out, here.tracks, here.count, &words);
+            Import::Written {
+                variables: here.tracks,
+                records: here.count,
+                length: (16 + 18 * here.count + 7) / 8,
+            }
+        }
+        Reading::Refused {
+            number,
+            start: _,
+            stop: _,
+        } => Import::Refused(number),
+    }
+}
+
+// How many bytes a span has.
+fn size(start: usize, stop: usize) -> usize
+    ensures { λ r. ⌜ r ≡ stop - start ⌝ }
+{
+    if stop < start {
+        return 0;
+    }
+    stop - start
+}
+
+// Why a text is refused, when out has room, and at which token.
+pub fn text_fault(text: &[u8]) -> TextFault
+    ensures { λ r. ⌜ r ≡ faultOf (textOf (now (text .entry))) ⌝ }
+{
+    let mut words = [0; 128];
+    match read_text(text, &mut words) {
+        Reading::Got(here) => {
+            if 128 < here.count {
+                return TextFault {
+                    refusal: 26,
+                    start: 0,
+                    length: 0,
+                };
+            }
+            TextFault {
+                refusal: 0,
+                start: 0,
+                length: 0,
+            }
+        }
+        Reading::Refused {
+            number,
+            start,
+            stop,
+        } => TextFault {
+            refusal: number,
+            start,
+            length: size(start, stop),
+        },
+    }
+}
