@@ -9,4 +9,5 @@ pub mod Readers
 pub mod Claimed
 pub mod Steps
 pub mod Faults
+pub mod Named
 pub mod Examples
