@@ -3,6 +3,7 @@
 use Prim.Native.Nat.{ℕ}
 use mathlib.Core.Path.{_≡_}
 use mathlib.Core.List.{List}
+use lib.ListN.{take}
 use Rattle.rule_strip.specs.declared.RuleCheck.{RuleCheck}
 use Rattle.rule_strip.specs.declared.RuleCheck.the-variants as rule
 use Rattle.tree_strip.specs.declared.check.TreeCheck.{TreeCheck}
@@ -15,10 +16,16 @@ use Rattle.rule_strip.specs.RulePlaces.{Offends}
 use Rattle.tree_strip.specs.TreePlaces.{OffendsAt}
 use Rattle.judge.specs.Judge.{JudgeClaim}
 use Rattle.decide.specs.Decide.{Claim}
+use Rattle.text.specs.Claims.{Imported}
+use Rattle.import.specs.declared.Import.{Import}
+use Rattle.import.specs.declared.Import.the-variants as written
+use Rattle.import.specs.declared.TextFault.{TextFault}
 use Rattle.ws2s.specs.declared.exports.RuleNumbers.{RuleNumbers}
 use Rattle.ws2s.specs.declared.exports.TreeNumbers.{TreeNumbers}
 use Rattle.ws2s.specs.declared.exports.JudgementNumbers.{JudgementNumbers}
 use Rattle.ws2s.specs.declared.exports.VerdictNumbers.{VerdictNumbers}
+use Rattle.ws2s.specs.declared.exports.WrittenNumbers.{WrittenNumbers}
+use Rattle.ws2s.specs.declared.exports.FaultNumbers.{FaultNumbers}
 
 abbrev pub ruleNumbers : RuleCheck → RuleNumbers
 ruleNumbers (rule.Accepted n m) = record { refusal = 0; variables = n; records = m; place = 0 }
@@ -45,6 +52,13 @@ verdictNumbers (verdict.RefusedAt k p) = record { kind = 3; refusal = k; recordn
 verdictNumbers (verdict.Refused k) = record { kind = 3; refusal = k; recordnumber = 0; positions = 0; states = 0; length = 0; place = 0 }
 verdictNumbers (verdict.TooManyStates r) = record { kind = 3; refusal = 14; recordnumber = r; positions = 0; states = 0; length = 0; place = 0 }
 
+abbrev pub writtenNumbers : Import → WrittenNumbers
+writtenNumbers (written.Written n m l) = record { refusal = 0; variables = n; records = m; length = l; place = 0; strip = 0 }
+writtenNumbers (written.Refused k) = record { refusal = k; variables = 0; records = 0; length = 0; place = 0; strip = 0 }
+
+abbrev pub faultNumbers : TextFault → FaultNumbers
+faultNumbers f = record { refusal = f .refusal; start = f .start; length = f .length }
+
 -- A1, "Say at which bit": a refusal of the check is one by which the strip offends, at that place
 abbrev pub RuleRefusedAt : List ℕ → RuleNumbers → Type 0
 RuleRefusedAt s r = (r .refusal ≡ 0 → ⊥) → Offends s (r .refusal) (r .place)
@@ -63,3 +77,7 @@ pub record DecidedInNumbers (rule : List ℕ) (c P room outRoom : ℕ) (r : Verd
   pub answer : Verdict
   pub claim : Claim rule c P room outRoom answer out
   pub numbers : r ≡ verdictNumbers answer
+
+-- A2, "Rules typed as text": unless it is refused, what stands at the front of out is the rule that the text says
+abbrev pub ImportedInNumbers : List ℕ → WrittenNumbers → List ℕ → Type 0
+ImportedInNumbers s r out = r .refusal ≡ 0 → Imported s (r .variables) (r .records) (take (r .length) out)

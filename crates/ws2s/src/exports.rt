@@ -6,9 +6,14 @@ ghost use Rattle.rule_strip.specs.RuleAnswers.{checkedRule};
 ghost use Rattle.tree_strip.specs.TreeAnswers.{checkedTree};
 ghost use Rattle.decide.specs.Decide.{verdictOf, workspaceOf, outOf};
 ghost use Rattle.judge.specs.Judge.{judgementFor, workspaceFor};
-ghost use Rattle.ws2s.specs.Numbers.{ruleNumbers, treeNumbers, judgementNumbers, verdictNumbers};
-ghost use Rattle.ws2s.specs.Numbers.{RuleRefusedAt, TreeRefusedAt, JudgedInNumbers, DecidedInNumbers};
+ghost use Rattle.text.specs.Grammar.{textOf};
+ghost use Rattle.text.specs.Import.{import, outAfter};
+ghost use Rattle.import.specs.Answers.{importedOf, faultOf};
+ghost use Rattle.ws2s.specs.Numbers.{ruleNumbers, treeNumbers, judgementNumbers, verdictNumbers, writtenNumbers, faultNumbers};
+ghost use Rattle.ws2s.specs.Numbers.{RuleRefusedAt, TreeRefusedAt, JudgedInNumbers, DecidedInNumbers, ImportedInNumbers};
 use decide::Verdict;
+use import::Import;
+use import::TextFault;
 use judge::Judgement;
 use rule_strip::RuleCheck;
 use tree_strip::check::TreeCheck;
@@ -48,6 +53,25 @@ pub struct VerdictNumbers {
     pub states: u64,
     pub length: u64,
     pub place: u64,
+}
+
+// strip tells which of two strips is at fault, and place where; neither applies to a text.
+#[repr(C)]
+pub struct WrittenNumbers {
+    pub refusal: u64,
+    pub variables: u64,
+    pub records: u64,
+    pub length: u64,
+    pub place: u64,
+    pub strip: u64,
+}
+
+// The token at which a text's refusal lies: the byte place where it starts, and its bytes.
+#[repr(C)]
+pub struct FaultNumbers {
+    pub refusal: u64,
+    pub start: u64,
+    pub length: u64,
 }
 
 fn rule_numbers(r: RuleCheck) -> RuleNumbers
@@ -155,6 +179,43 @@ fn verdict_numbers(v: Verdict) -> VerdictNumbers
     }
 }
 
+fn written_numbers(w: Import) -> WrittenNumbers
+    ensures { λ x. ⌜ x ≡ writtenNumbers w ⌝ }
+{
+    match w {
+        Import::Written {
+            variables,
+            records,
+            length,
+        } => WrittenNumbers {
+            refusal: 0,
+            variables: variables as u64,
+            records: records as u64,
+            length: length as u64,
+            place: 0,
+            strip: 0,
+        },
+        Import::Refused(k) => WrittenNumbers {
+            refusal: k,
+            variables: 0,
+            records: 0,
+            length: 0,
+            place: 0,
+            strip: 0,
+        },
+    }
+}
+
+fn fault_numbers(f: TextFault) -> FaultNumbers
+    ensures { λ x. ⌜ x ≡ faultNumbers f ⌝ }
+{
+    FaultNumbers {
+        refusal: f.refusal,
+        start: f.start as u64,
+        length: f.length as u64,
+    }
+}
+
 // Whether any bytes are a rule strip.
 #[no_mangle]
 pub extern "C" fn ws2s_check_rule(rule: &[u8]) -> RuleNumbers
@@ -203,4 +264,22 @@ pub extern "C" fn ws2s_decide(
     ensures { λ r. ⌜ DecidedInNumbers (now (rule .entry)) c p (length (now (workspace .entry))) (length (now (out .entry))) r (now (out .exit)) ⌝ }
 {
     verdict_numbers(decide::decide(rule, c, p, workspace, out))
+}
+
+// The rule that a text says, written as a rule strip at the front of out.
+#[no_mangle]
+pub extern "C" fn ws2s_import(text: &[u8], out: &mut [u8]) -> WrittenNumbers
+    ensures { λ r. ⌜ r ≡ writtenNumbers (importedOf (import (now (text .entry)) (length (now (out .entry))))) ⌝ }
+    ensures { λ _. ⌜ now (out .exit) ≡ outAfter (import (now (text .entry)) (length (now (out .entry)))) (now (out .entry)) ⌝ }
+    ensures { λ r. ⌜ ImportedInNumbers (now (text .entry)) r (now (out .exit)) ⌝ }
+{
+    written_numbers(import::import_text(text, out))
+}
+
+// Why import refuses a text when out has room, and at which token.
+#[no_mangle]
+pub extern "C" fn ws2s_text_fault(text: &[u8]) -> FaultNumbers
+    ensures { λ r. ⌜ r ≡ faultNumbers (faultOf (textOf (now (text .entry)))) ⌝ }
+{
+    fault_numbers(import::text_fault(text))
 }
