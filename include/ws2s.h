@@ -145,6 +145,19 @@ typedef struct {
     uint64_t kind, refusal, record, positions, states, length, place;
 } ws2s_verdict;
 
+/* What is written of a rule typed as text: refusal 0 if it is accepted, then n, m
+ * and the length in bytes of the rule strip; else the refusal, 23 to 27. "place"
+ * and "strip" are always 0: a text's refusals have no bit place. */
+typedef struct {
+    uint64_t refusal, variables, records, length, place, strip;
+} ws2s_written;
+
+/* Why a text is refused, 0 if it is not, and for 23 to 25 the token at which the
+ * fault lies: the byte where it starts, counted from 0, and how many bytes it has. */
+typedef struct {
+    uint64_t refusal, start, length;
+} ws2s_fault;
+
 /* Checks a rule strip. Refusals in order: 1 to 6; then, for the earliest bad
  * record, 7 to 10. */
 ws2s_rule ws2s_check_rule(const uint8_t *rule, size_t rule_len);
@@ -185,6 +198,12 @@ ws2s_judgement ws2s_judge(const uint8_t *rule, size_t rule_len, uint64_t c,
 ws2s_verdict ws2s_decide(const uint8_t *rule, size_t rule_len, uint64_t c, uint64_t p,
                          uint8_t *workspace, size_t workspace_len,
                          uint8_t *out, size_t out_len);
+
+/* Writes the rule strip of a rule typed as text. */
+ws2s_written ws2s_import(const uint8_t *text, size_t text_len, uint8_t *out, size_t out_len);
+
+/* Finds the fault of a rule typed as text. */
+ws2s_fault ws2s_text_fault(const uint8_t *text, size_t text_len);
 
 /* The bytes of workspace that ws2s_judge and ws2s_decide ask for, of a rule that
  * ws2s_check_rule accepted; 0 for any other, and for a c that they refuse. */

@@ -25,3 +25,13 @@ ws2s_verdict ws2s_decide(const uint8_t *rule, size_t rule_len, uint64_t c, uint6
 {
     return oracle_decide(rule, rule_len, c, p, workspace, workspace_len, out, out_len);
 }
+
+ws2s_written ws2s_import(const uint8_t *text, size_t text_len, uint8_t *out, size_t out_len)
+{
+    return oracle_import(text, text_len, out, out_len);
+}
+
+ws2s_fault ws2s_text_fault(const uint8_t *text, size_t text_len)
+{
+    return oracle_text_fault(text, text_len);
+}
