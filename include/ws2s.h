@@ -1,5 +1,5 @@
 /* ws2s.h - decide rules of WS2S, the weak second-order logic of two
- * successors, and judge trees against them.
+ * successors, judge trees against them, and import rules typed as text.
  *
  * Rules and trees are strips: bit-packed bytes, most significant bit first,
  * padded with zero bits to a whole byte.
@@ -22,11 +22,26 @@
  *   7   a and b      a            b
  *   8   exists X: a  X            a
  *
+ * A rule can be typed as text, in the style of the MONA tool, and imported:
+ *
+ *   text         ws2s; then any number of declarations, a formula and ;
+ *   declaration  var1 x, y; names places      var2 X, Y; names sets of places
+ *   formula      X sub Y   x in X   x = y   x = y.0   x = y.1   x = root
+ *                ~a   a & b   a | b   a => b   a <=> b   (a)
+ *                ex1 x: a   all1 x: a   ex2 X: a   all2 X: a
+ *
+ * ~ binds strongest, then &, |, => and last <=>; => groups to the right, the others
+ * to the left, and a quantifier reaches as far right as it can. y.0 is branch 1 of
+ * y, and y.1 branch 2. A name is a letter with any letters and digits after it, but
+ * none of the words above; spaces, tabs and ends of line separate. An inner name
+ * hides an outer one. Brackets, ~, quantifiers and right sides of => together nest
+ * at most 32 deep. docs/TEXT.md teaches it, and has the records that each makes.
+ *
  * Buffers. Bytes of any kind and lengths of any size may be handed in; a
  * pointer may be NULL where its length is 0. While a call runs, nobody else
  * may alter the bytes lent to it, and the workspace and out buffer may overlap
- * neither each other nor anything else that is lent. Strips handed in are only
- * read. Nothing is kept between calls.
+ * neither each other nor anything else that is lent. Strips and texts handed in
+ * are only read. Nothing is kept between calls.
  *
  * Threads. There is no global state, so any number of threads may call at once,
  * each with a workspace and an out buffer of its own; they may share strips.
@@ -34,7 +49,8 @@
  * Stack. 64 KiB are enough for any call, the deepest trees included; a thread
  * needs what its own frames take beside that. Nothing is put on the heap.
  *
- * Time. Every call ends. The checks take microseconds. Judge and decide take
+ * Time. Every call ends. The checks take microseconds; the time to read a text
+ * grows with its length, times at most the names that are alive. Judge and decide take
  * longer the more workspace is asked for: the longest calls known, with 8
  * variables, 128 records and c = 64, take two seconds, about 15 ns for each byte
  * asked for; that makes half a millisecond for 3 variables, 16 records and
@@ -42,7 +58,7 @@
  *
  * Stack and time are measured, on a machine of 2026, not proved.
  *
- * What the four functions return, and what they leave in the buffers, is proved
+ * What the six functions return, and what they leave in the buffers, is proved
  * for all inputs. What is static inline here is plain C, and tested.
  */
 #ifndef WS2S_H
@@ -55,16 +71,17 @@
 extern "C" {
 #endif
 
-#define WS2S_VERSION "2.0.0"
+#define WS2S_VERSION "2.1.0"
 
 /* Limits. Buffers of these sizes serve every rule and every tree. */
 #define WS2S_MAX_VARIABLES 8
 #define WS2S_MAX_RECORDS 128
 #define WS2S_MAX_STATES 64             /* the highest c */
 #define WS2S_MAX_POSITIONS 255         /* the highest P; nodes of a tree */
-#define WS2S_MAX_RULE_BYTES 290
+#define WS2S_MAX_RULE_BYTES 290        /* also the out buffer that ws2s_import asks for */
 #define WS2S_MAX_TREE_BYTES 320        /* also the longest out buffer asked for */
 #define WS2S_MAX_WORKSPACE 134217728   /* 128 MiB */
+#define WS2S_MAX_LEVELS 32             /* how deep a text nests */
 
 /* The kind of an answer: of ws2s_decide, of ws2s_judge, of both. */
 enum {
@@ -85,7 +102,10 @@ enum {
  * counted from 0, where the offending field starts. It stands in brackets here.
  * Record i has its op at bit 16 + 18 i, its first field at 20 + 18 i and its second
  * at 27 + 18 i; of two fields with the same fault the first is meant. The bit
- * length is 8 for each byte handed in, and 2^64 - 1 where that would be more. */
+ * length is 8 for each byte handed in, and 2^64 - 1 where that would be more.
+ *
+ * A text's refusals, 23 to 26, have no such place; ws2s_text_fault tells the token
+ * of 23 to 25. */
 enum {
     WS2S_REFUSED_RULE_SHORT = 1,       /* rule strip of fewer than two bytes [the bit length] */
     WS2S_REFUSED_RULE_VERSION = 2,     /* rule strip of a version other than 1 [0] */
@@ -112,7 +132,13 @@ enum {
     WS2S_REFUSED_TREE_POSITIONS = 20,  /* tree strip with more than 255 nodes [the 256th node bit] */
     WS2S_REFUSED_TREE_LEFT_OVER = 21,  /* tree strip with a padding bit set or a byte left over
                                           [the first set padding bit, or else the first byte left over] */
-    WS2S_REFUSED_TREE_OTHER = 22       /* rule and tree differ in n */
+    WS2S_REFUSED_TREE_OTHER = 22,      /* rule and tree differ in n */
+    WS2S_REFUSED_TEXT_GRAMMAR = 23,    /* text that leaves the grammar, or nests deeper than 32 */
+    WS2S_REFUSED_TEXT_NAME = 24,       /* text with a name that is not declared, twice in the
+                                          declarations, or of the wrong order (a place, a set) */
+    WS2S_REFUSED_TEXT_VARIABLES = 25,  /* text with a name that needs a ninth variable */
+    WS2S_REFUSED_TEXT_RECORDS = 26,    /* text that makes more than 128 records */
+    WS2S_REFUSED_RULE_OUT = 27         /* out buffer shorter than 290 bytes, for a rule strip */
 };
 
 /* In every result the fields that do not apply are 0. "place" applies where a
@@ -145,15 +171,15 @@ typedef struct {
     uint64_t kind, refusal, record, positions, states, length, place;
 } ws2s_verdict;
 
-/* What is written of a rule typed as text: refusal 0 if it is accepted, then n, m
- * and the length in bytes of the rule strip; else the refusal, 23 to 27. "place"
- * and "strip" are always 0: a text's refusals have no bit place. */
+/* What is written of a text: refusal 0 if it is accepted, then n, m and the length
+ * of the rule strip in bytes; else the refusal, 23 to 27. place and strip are 0:
+ * what is handed in is no strip. */
 typedef struct {
     uint64_t refusal, variables, records, length, place, strip;
 } ws2s_written;
 
-/* Why a text is refused, 0 if it is not, and for 23 to 25 the token at which the
- * fault lies: the byte where it starts, counted from 0, and how many bytes it has. */
+/* Why a text is refused, 0 if it is not, and with 23 to 25 the token at which it
+ * is: the byte where that starts, counted from 0, and its number of bytes. */
 typedef struct {
     uint64_t refusal, start, length;
 } ws2s_fault;
@@ -199,10 +225,22 @@ ws2s_verdict ws2s_decide(const uint8_t *rule, size_t rule_len, uint64_t c, uint6
                          uint8_t *workspace, size_t workspace_len,
                          uint8_t *out, size_t out_len);
 
-/* Writes the rule strip of a rule typed as text. */
+/* Imports a rule typed as text: writes the rule strip that holds exactly for the
+ * assignments that satisfy the text, with the free places as sets of one member.
+ * The names declared are variables in the order of their declarations, from 0; a
+ * quantifier's is the next after those in use around it. "variables" is one more
+ * than the highest.
+ *
+ * out needs WS2S_MAX_RULE_BYTES. Refusals in order: 27; then the earliest in the
+ * text, and at one token the lowest, of 23 to 25; last 26. After a refusal out is
+ * unchanged; else the strip is the first "length" bytes of out, later ones are
+ * unchanged, and ws2s_check_rule accepts it with the same n and m. */
 ws2s_written ws2s_import(const uint8_t *text, size_t text_len, uint8_t *out, size_t out_len);
 
-/* Finds the fault of a rule typed as text. */
+/* Tells why ws2s_import refuses a text, if out is long enough, and at which token:
+ * one that cannot stand there (23), a name (24, 25), or the end of the text, which is
+ * a token of no bytes. A byte that starts no token counts as one alone. With 0 and 26
+ * there is no token: start and length are 0. */
 ws2s_fault ws2s_text_fault(const uint8_t *text, size_t text_len);
 
 /* The bytes of workspace that ws2s_judge and ws2s_decide ask for, of a rule that
@@ -250,6 +288,11 @@ static inline const char *ws2s_refusal_text(uint64_t refusal)
     case WS2S_REFUSED_TREE_POSITIONS: return "the tree has more than 255 positions";
     case WS2S_REFUSED_TREE_LEFT_OVER: return "a padding bit of the tree is set, or bytes are left over";
     case WS2S_REFUSED_TREE_OTHER: return "tree and rule have different numbers of variables";
+    case WS2S_REFUSED_TEXT_GRAMMAR: return "the text leaves the grammar, or nests deeper than 32";
+    case WS2S_REFUSED_TEXT_NAME: return "a name is not declared, declared twice, or of the wrong order";
+    case WS2S_REFUSED_TEXT_VARIABLES: return "a name needs a ninth variable";
+    case WS2S_REFUSED_TEXT_RECORDS: return "the text makes more than 128 records";
+    case WS2S_REFUSED_RULE_OUT: return "the out buffer is too short for a rule";
     default: return "no such refusal";
     }
 }
@@ -280,6 +323,11 @@ static inline const char *ws2s_refusal_help(uint64_t refusal)
     case WS2S_REFUSED_TREE_POSITIONS: return "judge a smaller tree";
     case WS2S_REFUSED_TREE_LEFT_OVER: return "cut the strip at its end";
     case WS2S_REFUSED_TREE_OTHER: return "give the tree the rule's number";
+    case WS2S_REFUSED_TEXT_GRAMMAR: return "put there what the grammar allows, or nest less";
+    case WS2S_REFUSED_TEXT_NAME: return "declare it once, a place with var1 and a set with var2";
+    case WS2S_REFUSED_TEXT_VARIABLES: return "have at most 8 names in use at once";
+    case WS2S_REFUSED_TEXT_RECORDS: return "split it";
+    case WS2S_REFUSED_RULE_OUT: return "lend 290 bytes";
     default: return "";
     }
 }

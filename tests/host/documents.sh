@@ -6,7 +6,7 @@
 # from the top of the repository.
 # - Every command that README.md, samples/README.md and the manual pages show after
 #   a prompt is run, and must write what they show after it.
-# - The README's C program is the example host; its table of refusals and those of
+# - The README's C programs are the examples; its table of refusals and those of
 #   ws2s(3) have the header's names, texts and places; the manual's structures are
 #   the header's; the manual's example prints what it says.
 # - Every sample has a row in samples/README.md, with its records as the command
@@ -51,11 +51,15 @@ transcript samples/README.md
 unroff='s/\\-/-/g; s/\\(ib/⊆/g; s/\\e/\\/g'
 transcript man/ws2s.1 "$unroff"
 transcript man/verdict.1 "$unroff"
-[ "$transcripts" -ge 14 ] || { echo "only $transcripts commands are shown"; failed=1; }
+[ "$transcripts" -ge 17 ] || { echo "only $transcripts commands are shown"; failed=1; }
 
 # ---- The C programs and the refusals
 
-awk '/^```c$/ { inside = 1; next } /^```$/ { if (inside) exit } inside' README.md | cmp - examples/host.c || failed=1
+program() { # NUMBER: the README's so many-th C program
+    awk -v number="$1" '/^```c$/ { inside = ++met == number; next } /^```$/ { inside = 0 } inside' README.md
+}
+program 1 | cmp - examples/host.c || failed=1
+program 2 | cmp - examples/import.c || failed=1
 sed -n '/^\.SH EXAMPLES/,/^\.fi/p' man/ws2s.3 | sed -n "/^    /{$unroff; s/^    //; p;}" >"$room/manual.c"
 ${CC:-cc} -std=c99 -pedantic -Wall -Wextra -Werror -Iinclude "$room/manual.c" "$archive" -o "$room/manual"
 differs 'ws2s(3), example' 'label 1
@@ -75,7 +79,7 @@ END
 ${CC:-cc} -std=c99 -Iinclude "$room/refusals.c" -o "$room/refusals"
 # shellcheck disable=SC2046 # a word for each name, in the order of their numbers
 "$room/refusals" $(sed -n 's/^ *WS2S_REFUSED_\([A-Z_]*\) = \([0-9]*\).*/\2 \1/p' include/ws2s.h | sort -n | cut -d' ' -f2) >"$room/refused"
-[ "$(wc -l <"$room/refused")" -eq 22 ] || { echo 'the header does not have 22 refusals'; failed=1; }
+[ "$(wc -l <"$room/refused")" -eq 27 ] || { echo 'the header does not have 27 refusals'; failed=1; }
 # the places stand in brackets after the header's words for a refusal, at times on the next line
 awk '/^ *WS2S_REFUSED_[A-Z_]* = / { name = $1; sub(/^WS2S_REFUSED_/, "", name); number = $3 + 0 }
     /^};/ { name = "" }
@@ -94,8 +98,8 @@ structures() { # FILE...: the results' fields, with their names
         /^\} ws2s_[a-z]*;/ { if (fields) print $2, fields; fields = "" }' | sort
 }
 structures include/ws2s.h >"$room/structures"
-[ "$(wc -l <"$room/structures")" -eq 4 ] || { echo 'the header does not have 4 results'; failed=1; }
-differs 'manual pages, structures' "$(structures man/ws2s_check_rule.3 man/ws2s_check_tree.3 man/ws2s_judge.3 man/ws2s_decide.3)" "$(cat "$room/structures")"
+[ "$(wc -l <"$room/structures")" -eq 6 ] || { echo 'the header does not have 6 results'; failed=1; }
+differs 'manual pages, structures' "$(structures man/ws2s_check_rule.3 man/ws2s_check_tree.3 man/ws2s_judge.3 man/ws2s_decide.3 man/ws2s_import.3 man/ws2s_text_fault.3)" "$(cat "$room/structures")"
 
 # ---- The samples: `file` in the first column, records in the last but one, `verdict` in the last
 
