@@ -19,17 +19,27 @@ static const size_t MOST_WORKSPACE = (size_t)128 << 20;
 enum { VERDICT_INPUT = 300, VERDICT_C = 16, VERDICT_P = 60, VERDICT_WORKSPACE = 32768,
        VERDICT_OUT = 77 };
 
+/* How texts that are imported are decided and judged. */
+enum { IMPORT_C = 64, IMPORT_P = 255 };
+
+struct text {
+    const uint8_t *byte;
+    size_t length;
+};
+
 struct request {
-    enum { CHECK_RULE, CHECK_TREE, DECIDE, JUDGE } kind;
+    enum { CHECK_RULE, CHECK_TREE, DECIDE, JUDGE, IMPORT, TEXT_FAULT, IMPORT_STRIP, IMPORT_DECIDE, IMPORT_JUDGE } kind;
     bool program; /* a decide request of the verdict program, whose input is the rule */
     struct strip rule, tree, shown; /* shown: the strip expected in out */
+    struct text text;
     uint64_t c, p, workspace, out;
     const char *expected;
 };
 
-static inline bool read_bytes(const char *word, struct strip *b)
+/* Reads hex into so many bytes at most, which may be those of the word itself. */
+static inline bool read_hex(const char *word, uint8_t *byte, size_t most, size_t *length)
 {
-    b->length = 0;
+    *length = 0;
     if (!word)
         return false;
     if (strcmp(word, "-") == 0)
@@ -37,11 +47,23 @@ static inline bool read_bytes(const char *word, struct strip *b)
     for (; word[0]; word += 2) {
         static const char digits[] = "0123456789ABCDEF";
         const char *high = strchr(digits, word[0]), *low = high && word[1] ? strchr(digits, word[1]) : NULL;
-        if (!low || b->length == sizeof b->byte)
+        if (!low || *length == most)
             return false;
-        b->byte[b->length++] = (uint8_t)((high - digits) << 4 | (low - digits));
+        byte[(*length)++] = (uint8_t)((high - digits) << 4 | (low - digits));
     }
     return true;
+}
+
+static inline bool read_bytes(const char *word, struct strip *b)
+{
+    return read_hex(word, b->byte, sizeof b->byte, &b->length);
+}
+
+/* The text stays in the line. */
+static inline bool read_text(char *word, struct text *t)
+{
+    t->byte = (const uint8_t *)word;
+    return read_hex(word, (uint8_t *)word, SIZE_MAX, &t->length);
 }
 
 static inline bool read_number(const char *word, uint64_t *value)
@@ -63,6 +85,7 @@ static inline bool read_request(char *line, struct request *r)
     *expected = 0;
     r->expected = expected + 3;
     r->shown.length = 0;
+    r->text = (struct text){ NULL, 0 };
     if (strncmp(r->expected, "shown ", 6) == 0 && !read_bytes(strrchr(r->expected, ' ') + 1, &r->shown))
         return false;
     char *word = strtok(line, " ");
@@ -86,6 +109,22 @@ static inline bool read_request(char *line, struct request *r)
         read = read_bytes(strtok(NULL, " "), &r->rule) && read_number(strtok(NULL, " "), &r->c)
             && read_number(strtok(NULL, " "), &r->workspace) && read_bytes(strtok(NULL, " "), &r->tree);
         r->out = 0;
+    } else if (strcmp(word, "import") == 0) {
+        r->kind = IMPORT;
+        read = read_text(strtok(NULL, " "), &r->text) && read_number(strtok(NULL, " "), &r->out);
+    } else if (strcmp(word, "text_fault") == 0) {
+        r->kind = TEXT_FAULT;
+        read = read_text(strtok(NULL, " "), &r->text);
+    } else if (strcmp(word, "import_strip") == 0) {
+        r->kind = IMPORT_STRIP;
+        r->out = WS2S_MAX_RULE_BYTES;
+        read = read_text(strtok(NULL, " "), &r->text) && read_bytes(r->expected, &r->shown);
+    } else if (strcmp(word, "import_decide") == 0 || strcmp(word, "import_judge") == 0) {
+        r->kind = strcmp(word, "import_decide") == 0 ? IMPORT_DECIDE : IMPORT_JUDGE;
+        r->c = IMPORT_C;
+        r->p = IMPORT_P;
+        r->out = r->kind == IMPORT_DECIDE ? WS2S_MAX_TREE_BYTES : 0;
+        read = read_text(strtok(NULL, " "), &r->text) && (r->kind == IMPORT_DECIDE || read_bytes(strtok(NULL, " "), &r->tree));
     } else if (r->program) {
         r->kind = DECIDE;
         read = read_bytes(strtok(NULL, " "), &r->rule);
@@ -96,8 +135,8 @@ static inline bool read_request(char *line, struct request *r)
     } else {
         return false;
     }
-    return read && !strtok(NULL, " ")
-        && (r->kind < DECIDE || (r->workspace <= MOST_WORKSPACE && r->out <= MOST_OUT));
+    return read && !strtok(NULL, " ") && (r->kind < DECIDE || r->out <= MOST_OUT)
+        && ((r->kind != DECIDE && r->kind != JUDGE) || r->workspace <= MOST_WORKSPACE);
 }
 
 /* Refusals of a strip have a place. */
@@ -125,6 +164,26 @@ static inline bool tell_check(char *text, uint64_t refusal, uint64_t variables, 
         return tell_refusal(text, refusal, 0, place) && variables == 0 && count == 0;
     snprintf(text, MOST_LINE, "ok %" PRIu64 " %" PRIu64, variables, count);
     return place == 0;
+}
+
+static inline bool tell_written(char *text, const ws2s_written *w)
+{
+    if (w->refusal) {
+        snprintf(text, MOST_LINE, "refused %" PRIu64, w->refusal);
+        return w->variables == 0 && w->records == 0 && w->length == 0 && w->place == 0 && w->strip == 0;
+    }
+    snprintf(text, MOST_LINE, "ok %" PRIu64 " %" PRIu64, w->variables, w->records);
+    return w->place == 0 && w->strip == 0;
+}
+
+static inline bool tell_fault(char *text, const ws2s_fault *f)
+{
+    if (f->refusal == 0) {
+        strcpy(text, "ok");
+        return f->start == 0 && f->length == 0;
+    }
+    snprintf(text, MOST_LINE, "%" PRIu64 " %" PRIu64 " %" PRIu64, f->refusal, f->start, f->length);
+    return true;
 }
 
 static inline bool tell_judgement(char *text, const ws2s_judgement *j)
