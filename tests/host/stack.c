@@ -5,8 +5,9 @@
  * Every call is made in a thread of its own with just that much stack, below
  * which nothing may be touched. The calls are the lines of the vector files,
  * those of the verdict program aside, and what goes deepest: the longest rule
- * strips, trees of 255 nodes in several shapes, whole and refused late, and
- * these trees judged by the files' rules. For calls that are no vectors the
+ * strips, trees of 255 nodes in several shapes, whole and refused late, these
+ * trees judged by the files' rules, and texts that nest as deep as they may and
+ * deeper, with and without a long way to go on each level. For calls that are no vectors the
  * oracle must give the same answer, which is mostly stated here too. It prints
  * what fails, the most bytes of stack that each function used, counted from the
  * frame of its caller, and a count, and ends with status 1 if anything failed. */
@@ -17,13 +18,14 @@
 
 #include <pthread.h>
 
-enum { STACK = 1 << 16, GUARD = 1 << 16, MOST_SECONDS = 600, KINDS = JUDGE + 1 };
+enum { STACK = 1 << 16, GUARD = 1 << 16, MOST_SECONDS = 600, MOST_TEXT = 1 << 17, KINDS = TEXT_FAULT + 1 };
 static const char *const names[KINDS] = {
     [CHECK_RULE] = "ws2s_check_rule", [CHECK_TREE] = "ws2s_check_tree",
-    [DECIDE] = "ws2s_decide", [JUDGE] = "ws2s_judge" };
+    [DECIDE] = "ws2s_decide", [JUDGE] = "ws2s_judge",
+    [IMPORT] = "ws2s_import", [TEXT_FAULT] = "ws2s_text_fault" };
 
 static uint8_t *stack, *workspace;
-static struct lent lent_rule, lent_tree, lent_out;
+static struct lent lent_rule, lent_tree, lent_text, lent_out;
 
 /* The most that each function used, and where; how often it was called. */
 static struct {
@@ -40,11 +42,13 @@ union result {
     ws2s_tree tree;
     ws2s_judgement judgement;
     ws2s_verdict verdict;
+    ws2s_written written;
+    ws2s_fault fault;
 };
 
 static void ask(const struct request *r, bool library, union result *result)
 {
-    const uint8_t *rule = lent_rule.at, *tree = lent_tree.at;
+    const uint8_t *rule = lent_rule.at, *tree = lent_tree.at, *text = lent_text.at;
     switch (r->kind) {
     case CHECK_RULE:
         result->rule = (library ? ws2s_check_rule : oracle_check_rule)(rule, r->rule.length);
@@ -56,7 +60,13 @@ static void ask(const struct request *r, bool library, union result *result)
         result->judgement = (library ? ws2s_judge : oracle_judge)(
             rule, r->rule.length, r->c, workspace, r->workspace, tree, r->tree.length);
         break;
-    case DECIDE:
+    case IMPORT:
+        result->written = (library ? ws2s_import : oracle_import)(text, r->text.length, lent_out.at, r->out);
+        break;
+    case TEXT_FAULT:
+        result->fault = (library ? ws2s_text_fault : oracle_text_fault)(text, r->text.length);
+        break;
+    default:
         result->verdict = (library ? ws2s_decide : oracle_decide)(
             rule, r->rule.length, r->c, r->p, workspace, r->workspace, lent_out.at, r->out);
     }
@@ -66,6 +76,7 @@ static void lend_all(const struct request *r)
 {
     lend_bytes(&lent_rule, r->rule.byte, r->rule.length, LENT_AT_END);
     lend_bytes(&lent_tree, r->tree.byte, r->tree.length, LENT_AT_END);
+    lend_bytes(&lent_text, r->text.byte, r->text.length, LENT_AT_END);
     lend(&lent_out, r->out, LENT_AT_END);
 }
 
@@ -78,6 +89,10 @@ static bool tell(const struct request *r, const union result *result, char *text
         return tell_check(text, result->tree.refusal, result->tree.variables, result->tree.positions, result->tree.place);
     case JUDGE:
         return tell_judgement(text, &result->judgement);
+    case IMPORT:
+        return tell_written(text, &result->written);
+    case TEXT_FAULT:
+        return tell_fault(text, &result->fault);
     default:
         return tell_verdict(text, &result->verdict, lent_out.at, r->out);
     }
@@ -102,6 +117,7 @@ static void open_all(void)
     stack = all + GUARD;
     lent_open(&lent_rule, MOST_STRIP);
     lent_open(&lent_tree, MOST_STRIP);
+    lent_open(&lent_text, MOST_TEXT);
     lent_open(&lent_out, MOST_OUT);
 }
 
@@ -427,6 +443,122 @@ static void judge_by(const struct request *decide, const char *name)
     }
 }
 
+/* ---- Texts ---- */
+
+static char text[MOST_TEXT];
+static size_t text_length;
+
+static void put_text(const char *words)
+{
+    size_t length = strlen(words);
+    if (length > MOST_TEXT - text_length) {
+        fprintf(stderr, "a text of more than %d bytes\n", MOST_TEXT);
+        exit(2);
+    }
+    memcpy(text + text_length, words, length);
+    text_length += length;
+}
+
+static void try_text(const char *stated)
+{
+    made.text = (struct text){ (const uint8_t *)text, text_length };
+    made.out = WS2S_MAX_RULE_BYTES;
+    made.kind = IMPORT;
+    try_both(&made, what, stated);
+    made.kind = TEXT_FAULT;
+    try_both(&made, what, NULL);
+}
+
+/* What opens a level or more, what closes it, and the answer to as many as make 32
+ * levels, or nearly, around an atom. */
+static const struct {
+    const char *opens, *closes;
+    unsigned levels;
+    const char *stated;
+} nests[] = {
+    { "(", ")", 1, "ok 1 1" },
+    { "~", "", 1, "ok 1 33" },
+    { "X sub X=>", "", 1, "ok 1 97" },
+    { "~(", ")", 2, "ok 1 17" },
+    { "(~", ")", 2, "ok 1 17" },
+    { "X sub X=>(", ")", 2, "ok 1 49" },
+    { "(X sub X=>", ")", 2, "ok 1 49" },
+    { "X sub X=>~~(", ")", 4, "ok 1 41" },
+    { "((X sub X=>X sub X=>", "))", 4, "ok 1 49" },
+    { "X sub X&(", ")", 1, "ok 1 65" },
+    { "X sub X|X sub X&(", ")", 1, "refused 26" },
+    { "X sub X<=>X sub X=>X sub X|X sub X&(", ")", 2, "refused 26" },
+    { "X sub X<=>X sub X=>X sub X|X sub X&~(", ")", 3, "refused 26" },
+    { "(X sub X)&(X sub X)&(", ")", 1, "refused 26" },
+};
+
+/* So many levels, at least; the quantifiers, if any, are outermost. Without an end
+ * the text stops where it is deepest. */
+static void make_nest(size_t kind, unsigned levels, const char *quantifier, unsigned quantifiers, bool end)
+{
+    unsigned times = (levels - quantifiers + nests[kind].levels - 1) / nests[kind].levels;
+    text_length = 0;
+    put_text("ws2s;var2 X;");
+    for (unsigned i = 0; i < quantifiers; i++)
+        put_text(quantifier);
+    for (unsigned i = 0; i < times; i++)
+        put_text(nests[kind].opens);
+    if (!end)
+        return;
+    put_text("X sub X");
+    for (unsigned i = 0; i < times; i++)
+        put_text(nests[kind].closes);
+    put_text(";");
+}
+
+static void try_nests(void)
+{
+    static const char *const quantifiers[] = { "ex1 y:", "ex2 Y:", "all1 y:", "all2 Y:", "(X sub X)&ex1 y:", "X sub X|X sub X&~all2 Y:" };
+    enum { LEVELS = WS2S_MAX_LEVELS, QUANTIFIERS = WS2S_MAX_VARIABLES - 1 };
+    for (size_t kind = 0; kind < sizeof nests / sizeof nests[0]; kind++) {
+        unsigned whole = LEVELS / nests[kind].levels * nests[kind].levels; /* as many as fit */
+        int used = snprintf(what, sizeof what, "levels of %s", nests[kind].opens);
+        make_nest(kind, whole, "", 0, true);
+        try_text(nests[kind].stated);
+        snprintf(what + used, sizeof what - (size_t)used, ", one too many");
+        make_nest(kind, LEVELS + 1, "", 0, true);
+        try_text("refused 23");
+        snprintf(what + used, sizeof what - (size_t)used, ", cut");
+        make_nest(kind, whole, "", 0, false);
+        try_text("refused 23");
+        for (size_t q = 0; q < sizeof quantifiers / sizeof quantifiers[0]; q++) {
+            snprintf(what + used, sizeof what - (size_t)used, " in %s", quantifiers[q]);
+            for (unsigned levels = whole - 6; levels <= LEVELS + 1; levels++) {
+                make_nest(kind, levels, quantifiers[q], QUANTIFIERS, true);
+                try_text(NULL);
+            }
+        }
+    }
+}
+
+/* Long texts. Their operators, names and brackets follow each other: they are not deep. */
+static void try_long_texts(void)
+{
+    static const struct {
+        const char *again, *end, *stated;
+    } chains[] = {
+        { "(X sub X)&", "X sub X;", "refused 26" }, { "X sub X|", "X sub X;", "refused 26" },
+        { "X sub X<=>", "X sub X;", "refused 26" }, { "~X sub X&", "X sub X", "refused 23" },
+        { "X sub X=>X sub X<=>", "X sub X;", "refused 26" }, { "(ex1 y:all2 Z:X sub Z)|", "X sub X;", "refused 26" },
+        { "(ex1 y:all2 Z:X sub Z)|", "Z sub X;", "refused 24" }, { " \t\r\n", "X sub X;", "ok 1 1" },
+        { "(", "", "refused 23" }, { "~", "", "refused 23" }, { "X sub X=>", "", "refused 23" }, { "ex1 x:", "", "refused 25" },
+        { "LongName", " sub X;", "refused 24" }, { ".0", "", "refused 23" }, { ";", "", "refused 23" } };
+    for (size_t i = 0; i < sizeof chains / sizeof chains[0]; i++) {
+        text_length = 0;
+        put_text("ws2s;var2 X;");
+        while (text_length < MOST_TEXT / 2)
+            put_text(chains[i].again);
+        put_text(chains[i].end);
+        snprintf(what, sizeof what, "64 KiB of %s", chains[i].again[0] == ' ' ? "separators" : chains[i].again);
+        try_text(chains[i].stated);
+    }
+}
+
 static void run_file(const char *name)
 {
     static char line[MOST_LINE];
@@ -443,6 +575,10 @@ static void run_file(const char *name)
         r = (struct request){ .expected = "" };
         if (!read_request(line, &r)) {
             fails(&r, place, "not a line of this form", "");
+        } else if (r.kind > TEXT_FAULT) {
+            r.kind = IMPORT;
+            r.out = WS2S_MAX_RULE_BYTES;
+            try_both(&r, place, NULL);
         } else if (!r.program) {
             try_request(&r, place);
             if (r.kind == DECIDE && strncmp(r.expected, "refused ", 8) != 0)
@@ -463,6 +599,8 @@ int main(int argc, char **argv)
     }
     for (unsigned nodes = 1; nodes <= 17; nodes++)
         try_shown(nodes);
+    try_nests();
+    try_long_texts();
     for (int i = 1; i < argc; i++)
         run_file(argv[i]);
     for (int kind = 0; kind < KINDS; kind++)
