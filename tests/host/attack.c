@@ -7,41 +7,24 @@
  * have room to spare or are not there. Both get the same buffers, with the same
  * bytes in and around them; their results and all these bytes must agree after
  * the call, and whatever is shown must check and be judged as satisfying the
- * rule. The same seed makes the same requests. Differences are printed as vector
- * lines; the status is then 1. How often each answer came is printed too, and at
- * how many places a strip was refused; of many calls none of them may be missing. */
+ * rule. One call in three is of a text (typed.h); strips that were imported must
+ * check, and are decided and judged at times. The same seed makes the same
+ * requests. Differences are printed as vector lines; the status is then 1. How
+ * often each answer came is printed too, and at how many places a strip or text was
+ * refused; of many calls none of them may be missing, nor may texts be accepted
+ * seldom, or none that reaches a limit. */
 #define _DEFAULT_SOURCE
+#include "chance.h"
 #include "lent.h"
 #include "oracle.h"
 #include "strip.h"
+#include "typed.h"
 #include "ws2s.h"
 
 #include <inttypes.h>
 
 enum { MOST_OUT = 1024, MOST_SECONDS = 120, MOST_DIFFERENCES = 10, MANY_CALLS = 100000 };
 enum { SMALL_SPACE = 1 << 16, MIDDLE_SPACE = 1 << 21, LARGE_SPACE = 1 << 24 };
-
-/* ---- Chance ---- */
-
-static uint64_t chance_state;
-
-static uint64_t any(void)
-{
-    uint64_t z = chance_state += UINT64_C(0x9E3779B97F4A7C15);
-    z = (z ^ z >> 30) * UINT64_C(0xBF58476D1CE4E5B9);
-    z = (z ^ z >> 27) * UINT64_C(0x94D049BB133111EB);
-    return z ^ z >> 31;
-}
-
-static unsigned below(uint64_t bound)
-{
-    return (unsigned)(any() % bound);
-}
-
-static bool once_in(unsigned times)
-{
-    return below(times) == 0;
-}
 
 /* ---- Strips ---- */
 
@@ -202,8 +185,9 @@ static void damage(struct strip *s)
 /* ---- Requests ---- */
 
 struct request {
-    enum { CHECK_RULE, CHECK_TREE, DECIDE, JUDGE, KINDS } kind;
+    enum { CHECK_RULE, CHECK_TREE, DECIDE, JUDGE, IMPORT, TEXT_FAULT, KINDS } kind;
     struct strip rule, tree;
+    struct typed text;
     bool same; /* the rule's bytes are lent as the tree too */
     uint64_t c, p;
     size_t workspace, out;
@@ -217,6 +201,9 @@ static struct {
     struct strip rule, tree;
     uint64_t c, states;
 } kept;
+
+/* The last rule that was imported. */
+static struct strip imported;
 
 /* Rule strips that were accepted have their n and m at the front. */
 static unsigned variables(const struct strip *s)
@@ -283,15 +270,32 @@ static size_t some_length(size_t asked, size_t most)
     return length < most ? length : most;
 }
 
+/* A text; at times it is the one before. */
+static void make_text_request(struct request *r)
+{
+    r->kind = IMPORT + below(2);
+    r->rule.length = r->tree.length = r->workspace = 0;
+    r->same = false;
+    r->out = r->kind == IMPORT ? some_length(WS2S_MAX_RULE_BYTES, MOST_OUT) : 0;
+    if (!once_in(8) || r->text.length == 0)
+        make_typed(&r->text);
+}
+
 static void make_request(struct request *r)
 {
-    r->kind = once_in(8) ? below(2) : DECIDE + below(2);
     r->place = below(LENT_PLACES);
     r->null = once_in(2);
+    if (once_in(3)) {
+        make_text_request(r);
+        return;
+    }
+    r->kind = once_in(8) ? below(2) : DECIDE + below(2);
     r->same = once_in(200);
     bool again = kept.there && once_in(4);
     if (again)
         r->rule = kept.rule;
+    else if (imported.length && once_in(20))
+        r->rule = imported;
     else if (once_in(12))
         make_bytes(&r->rule);
     else if (once_in(4))
@@ -326,7 +330,7 @@ static void make_request(struct request *r)
 /* ---- Calls ---- */
 
 static struct lents {
-    struct lent rule, tree, workspace, out;
+    struct lent rule, tree, text, workspace, out;
 } ours, theirs;
 
 union result {
@@ -334,18 +338,27 @@ union result {
     ws2s_tree tree;
     ws2s_judgement judgement;
     ws2s_verdict verdict;
+    ws2s_written written;
+    ws2s_fault fault;
     uint64_t field[sizeof(ws2s_verdict) / sizeof(uint64_t)];
 };
 
-/* How many numbers a result has; the last is the place. */
-static const unsigned result_fields[KINDS] = {
-    [CHECK_RULE] = sizeof(ws2s_rule) / sizeof(uint64_t), [CHECK_TREE] = sizeof(ws2s_tree) / sizeof(uint64_t),
-    [DECIDE] = sizeof(ws2s_verdict) / sizeof(uint64_t), [JUDGE] = sizeof(ws2s_judgement) / sizeof(uint64_t) };
+/* How many numbers a result has, and which of them is the place. */
+static const struct {
+    unsigned count, place;
+} result_fields[KINDS] = {
+    [CHECK_RULE] = { sizeof(ws2s_rule) / sizeof(uint64_t), offsetof(ws2s_rule, place) / sizeof(uint64_t) },
+    [CHECK_TREE] = { sizeof(ws2s_tree) / sizeof(uint64_t), offsetof(ws2s_tree, place) / sizeof(uint64_t) },
+    [DECIDE] = { sizeof(ws2s_verdict) / sizeof(uint64_t), offsetof(ws2s_verdict, place) / sizeof(uint64_t) },
+    [JUDGE] = { sizeof(ws2s_judgement) / sizeof(uint64_t), offsetof(ws2s_judgement, place) / sizeof(uint64_t) },
+    [IMPORT] = { sizeof(ws2s_written) / sizeof(uint64_t), offsetof(ws2s_written, place) / sizeof(uint64_t) },
+    [TEXT_FAULT] = { sizeof(ws2s_fault) / sizeof(uint64_t), offsetof(ws2s_fault, start) / sizeof(uint64_t) } };
 
 static void open_all(struct lents *l)
 {
     lent_open(&l->rule, MOST_STRIP);
     lent_open(&l->tree, MOST_STRIP);
+    lent_open(&l->text, MOST_TYPED);
     lent_open(&l->workspace, LARGE_SPACE);
     lent_open(&l->out, MOST_OUT);
 }
@@ -357,14 +370,17 @@ static uint8_t *handed(const struct lent *l, const struct request *r)
 
 static union result run(const struct request *r, struct lents *l, bool library)
 {
-    uint8_t *rule, *tree, *workspace, *out;
+    uint8_t *rule, *tree, *text, *workspace, *out;
+    bool typed = r->kind >= IMPORT;
     union result result = { .field = { 0 } };
     lend_bytes(&l->rule, r->rule.byte, r->rule.length, r->place);
     lend_bytes(&l->tree, r->tree.byte, r->tree.length, r->place);
+    lend_bytes(&l->text, r->text.byte, typed ? r->text.length : 0, r->place);
     lend(&l->workspace, r->workspace, r->place);
     lend(&l->out, r->out, r->place);
     rule = handed(&l->rule, r);
     tree = r->same ? rule : handed(&l->tree, r);
+    text = handed(&l->text, r);
     workspace = handed(&l->workspace, r);
     out = handed(&l->out, r);
     switch (r->kind) {
@@ -378,6 +394,12 @@ static union result run(const struct request *r, struct lents *l, bool library)
         result.judgement = (library ? ws2s_judge : oracle_judge)(
             rule, r->rule.length, r->c, workspace, r->workspace, tree, r->tree.length);
         break;
+    case IMPORT:
+        result.written = (library ? ws2s_import : oracle_import)(text, r->text.length, out, r->out);
+        break;
+    case TEXT_FAULT:
+        result.fault = (library ? ws2s_text_fault : oracle_text_fault)(text, r->text.length);
+        break;
     default:
         result.verdict = (library ? ws2s_decide : oracle_decide)(
             rule, r->rule.length, r->c, r->p, workspace, r->workspace, out, r->out);
@@ -389,9 +411,9 @@ static const char *differs(const struct request *r, const union result *one, con
 {
     const struct lent *mine[] = { &ours.workspace, &ours.out };
     const struct lent *other[] = { &theirs.workspace, &theirs.out };
-    for (unsigned i = 0; i < result_fields[r->kind]; i++)
+    for (unsigned i = 0; i < result_fields[r->kind].count; i++)
         if (one->field[i] != two->field[i])
-            return i + 1 == result_fields[r->kind] ? "another place" : "another result";
+            return i == result_fields[r->kind].place ? "another place" : "another result";
     for (int i = 0; i < 2; i++) {
         size_t length = (size_t)(mine[i]->guarded_end - mine[i]->guarded);
         if (memcmp(mine[i]->guarded, other[i]->guarded, length) != 0)
@@ -400,6 +422,8 @@ static const char *differs(const struct request *r, const union result *one, con
     if (!lent_holds(&ours.rule, r->rule.byte, r->rule.length)
         || !lent_holds(&ours.tree, r->tree.byte, r->tree.length))
         return "a strip altered";
+    if (!lent_holds(&ours.text, r->text.byte, r->kind >= IMPORT ? r->text.length : 0))
+        return "the text altered";
     return NULL;
 }
 
@@ -421,49 +445,83 @@ static const char *shown_wrong(const struct request *r, const ws2s_verdict *v)
     return j.kind == 1 ? NULL : "shown tree is not judged to satisfy the rule";
 }
 
-/* ---- Telling ---- */
-
-static void say_bytes(const struct strip *s)
+/* A strip that was imported checks, with the numbers told; it is kept. */
+static const char *imported_wrong(const ws2s_written *w)
 {
-    putchar(' ');
-    if (s->length == 0)
-        putchar('-');
-    for (size_t i = 0; i < s->length; i++)
-        printf("%02X", s->byte[i]);
+    imported.length = w->length;
+    memcpy(imported.byte, ours.out.at, w->length);
+    ws2s_rule c = ws2s_check_rule(imported.byte, imported.length);
+    return c.refusal == 0 && c.variables == w->variables && c.records == w->records ? NULL : "imported strip does not check";
 }
 
-static const char *const operations[KINDS] = { "check_rule", "check_tree", "decide", "judge" };
+/* ---- Telling ---- */
+
+static void say_bytes(const uint8_t *byte, size_t length)
+{
+    putchar(' ');
+    if (length == 0)
+        putchar('-');
+    for (size_t i = 0; i < length; i++)
+        printf("%02X", byte[i]);
+}
+
+static const char *const operations[KINDS] = { "check_rule", "check_tree", "decide", "judge", "import", "text_fault" };
 
 static void say(const struct request *r, const char *what, const union result *one,
                 const union result *two)
 {
     printf("%s: %s\n  %s", lent_doing, what, operations[r->kind]);
-    if (r->kind != CHECK_TREE)
-        say_bytes(&r->rule);
+    if (r->kind >= IMPORT)
+        say_bytes(r->text.byte, r->text.length);
+    else if (r->kind != CHECK_TREE)
+        say_bytes(r->rule.byte, r->rule.length);
     if (r->kind == DECIDE)
         printf(" %" PRIu64 " %" PRIu64 " %zu %zu", r->c, r->p, r->workspace, r->out);
     if (r->kind == JUDGE)
         printf(" %" PRIu64 " %zu", r->c, r->workspace);
     if (r->kind == CHECK_TREE || r->kind == JUDGE)
-        say_bytes(&r->tree);
+        say_bytes(r->tree.byte, r->tree.length);
+    if (r->kind == IMPORT)
+        printf(" %zu", r->out);
     for (int who = 0; who < 2; who++) {
         printf("\n  %s", who ? "oracle " : "library");
-        for (unsigned i = 0; i < result_fields[r->kind]; i++)
+        for (unsigned i = 0; i < result_fields[r->kind].count; i++)
             printf(" %" PRIu64, (who ? two : one)->field[i]);
     }
     printf("\n");
 }
 
 /* How often each answer came: 0 for a check that accepts; 0 to 2 for the kinds
- * of decide and judge; refusals from 3 on. And where strips were refused. */
-enum { REFUSALS = 23, MOST_PLACE = 8 * MOST_STRIP };
+ * of decide and judge; refusals from 3 on. And where strips and texts were refused. */
+enum { REFUSALS = 28, MOST_PLACE = 8 * MOST_STRIP };
 static unsigned long answers[KINDS][3 + REFUSALS];
 static bool refused_at[KINDS][REFUSALS][MOST_PLACE + 1];
 
+/* What accepted texts came to: how often to the most of each, and the ops of their records. */
+static unsigned long most_levels, most_variables, most_records, ops[9];
+/* And how often one level more than there may be was all that was wrong. */
+static unsigned long level_too_many;
+
+static void count_text(const struct request *r, const ws2s_written *w)
+{
+    level_too_many += r->text.levels == LEVELS + 1 && w->refusal == 23;
+    if (w->refusal)
+        return;
+    most_levels += r->text.levels == LEVELS;
+    most_variables += w->variables == TRACKS;
+    most_records += w->records == RECORDS;
+    for (uint64_t i = 0; i < w->records; i++) {
+        size_t at = 16 + 18 * i; /* the op, in one byte or two */
+        unsigned op = (unsigned)(imported.byte[at / 8] << 8 | imported.byte[at / 8 + 1]) >> (12 - at % 8) & 15;
+        if (op < 9)
+            ops[op]++;
+    }
+}
+
 static void count_answer(const struct request *r, const union result *o)
 {
-    bool check = r->kind < DECIDE;
-    uint64_t refusal = check ? o->field[0] : o->field[1], place = o->field[result_fields[r->kind] - 1];
+    bool check = r->kind != DECIDE && r->kind != JUDGE;
+    uint64_t refusal = check ? o->field[0] : o->field[1], place = o->field[result_fields[r->kind].place];
     uint64_t at = refusal ? 3 + refusal : check ? 0 : o->field[0];
     if (at < 3 + REFUSALS)
         answers[r->kind][at]++;
@@ -482,7 +540,7 @@ static unsigned places_of(int kind, int refusal)
 static void say_answers(void)
 {
     static const char *const names[KINDS][3] = {
-        { "ok", "", "" }, { "ok", "", "" }, { "shown", "none", "larger" }, { "no", "yes", "" } };
+        { "ok", "", "" }, { "ok", "", "" }, { "shown", "none", "larger" }, { "no", "yes", "" }, { "ok", "", "" }, { "ok", "", "" } };
     for (int kind = 0; kind < KINDS; kind++) {
         printf("%s:", operations[kind]);
         for (int i = 0; i < 3; i++)
@@ -497,6 +555,11 @@ static void say_answers(void)
         }
         printf("\n");
     }
+    printf("accepted texts: %lu of %d levels, %lu of %d variables, %lu of %d records; records of each op:", most_levels, LEVELS, most_variables, TRACKS,
+           most_records, RECORDS);
+    for (int op = 0; op < 9; op++)
+        printf(" %lu", ops[op]);
+    printf("\n");
 }
 
 /* Whether an operation can give a refusal. */
@@ -510,8 +573,12 @@ static bool has_refusal(int kind, int refusal)
         return of_tree;
     case DECIDE:
         return refusal <= 14;
+    case JUDGE:
+        return refusal <= 22 && refusal != 13;
+    case IMPORT:
+        return refusal >= 23;
     default:
-        return refusal != 13;
+        return refusal >= 23 && refusal <= 26;
     }
 }
 
@@ -525,6 +592,20 @@ static bool all_met(void)
                 printf("%s was never refused with %d\n", operations[kind], refusal);
                 all = false;
             }
+    for (int op = 0; op < 9; op++)
+        all = all && ops[op] > 0;
+    if (!most_levels || !most_variables || !most_records || !level_too_many || !all)
+        printf("a limit, a refusal or an op was not met\n");
+    all = all && most_levels && most_variables && most_records && level_too_many;
+    for (int kind = IMPORT; kind <= TEXT_FAULT; kind++) {
+        unsigned long asked = 0;
+        for (int i = 0; i < 3 + REFUSALS; i++)
+            asked += answers[kind][i];
+        if (10 * answers[kind][0] < asked) {
+            printf("%s seldom accepted a text\n", operations[kind]);
+            all = false;
+        }
+    }
     return all;
 }
 
@@ -545,6 +626,10 @@ int main(int argc, char **argv)
         const char *what = differs(&r, &one, &two);
         if (!what && r.kind == DECIDE && two.verdict.kind == 0)
             what = shown_wrong(&r, &one.verdict);
+        if (!what && r.kind == IMPORT && two.written.refusal == 0)
+            what = imported_wrong(&one.written);
+        if (!what && r.kind == IMPORT)
+            count_text(&r, &two.written);
         if (what) {
             failed++;
             say(&r, what, &one, &two);
