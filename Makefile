@@ -27,6 +27,8 @@ CLI := cli/ws2s.c cli/words.c cli/drawing.c
 CLI_HEADERS := cli/words.h cli/drawing.h
 VECTORS := $(wildcard tests/vectors/base/*.txt)
 SAMPLES := $(wildcard samples/*.rul)
+TEXTS := $(wildcard samples/*.mona)
+MADE_TEXTS := made:longest made:chain made:nests made:open
 MAN1 := $(wildcard man/*.1)
 MAN3 := $(wildcard man/*.3)
 
@@ -92,7 +94,7 @@ $(HOST)/vectors-shared: tests/host/vectors.c tests/host/lent.h tests/host/reques
 	@mkdir -p $(@D)
 	$(CC) $(CFLAGS) -Iinclude $< -Ltarget/lib -lws2s -Wl,-rpath,'$$ORIGIN/../lib' -o $@
 
-$(HOST)/attack: tests/host/attack.c $(ORACLE) tests/host/lent.h tests/host/strip.h $(ORACLE_HEADERS) $(HEADER) $(ARCHIVE)
+$(HOST)/attack: tests/host/attack.c $(ORACLE) tests/host/chance.h tests/host/typed.h tests/host/lent.h tests/host/strip.h $(ORACLE_HEADERS) $(HEADER) $(ARCHIVE)
 	$(link)
 
 $(HOST)/header: tests/host/header.c tests/host/lent.h tests/host/strip.h $(HEADER) $(ARCHIVE)
@@ -128,7 +130,7 @@ host-test: $(foreach t,vectors vectors-shared attack header stack verdict comman
 	tests/host/lines.sh
 	$(HOST)/vectors $(VECTORS) tests/vectors/heavy.txt
 	$(HOST)/vectors-shared $(VECTORS)
-	$(HOST)/attack 1 200000
+	$(HOST)/attack 1 300000
 	$(HOST)/stack $(VECTORS) tests/vectors/heavy.txt
 	$(HOST)/verdict $(VERDICT) $(VECTORS)
 	tests/host/command.sh $(COMMAND)
@@ -148,9 +150,10 @@ bound: $(HOST)/bound
 example: $(HOST)/example
 	@$(HOST)/example "$$RULE" $(NAMES)
 
-bench: $(HOST)/bench $(VERDICT)
-	$(HOST)/bench -v tests/vectors/base/decide.txt -l tests/vectors/heavy.txt -l bench/worst.txt $(SAMPLES)
-	bench/instructions.sh $(HOST)/bench $(foreach l,1 2 3 4 5,tests/vectors/heavy.txt:$(l)) $(SAMPLES)
+bench: $(HOST)/bench $(VERDICT) $(COMMAND)
+	$(HOST)/bench -v tests/vectors/base/decide.txt -l tests/vectors/heavy.txt -l bench/worst.txt $(SAMPLES) $(MADE_TEXTS) $(TEXTS)
+	bench/instructions.sh $(HOST)/bench $(foreach l,1 2 3 4 5,tests/vectors/heavy.txt:$(l)) $(SAMPLES) $(MADE_TEXTS) $(TEXTS)
+	bench/mona.py --texts $(COMMAND) $(TEXTS)
 	if command -v mona > /dev/null; then bench/mona.py --time $(VERDICT) $(SAMPLES) && bench/mona.py --compare tests/vectors/base/decide.txt; else echo 'MONA is not installed'; fi
 
 # Where things go. The names may have spaces in them.

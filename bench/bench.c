@@ -1,18 +1,20 @@
 /* Times the library beside the oracle, an unproved C implementation of the same
  * ideas:
  *
- *     bench [-c C] [-p P] [-t SECONDS] [-v VECTORS] [-l VECTORS] [RULE...]
+ *     bench [-c C] [-p P] [-t SECONDS] [-v VECTORS] [-l VECTORS] [RULE|TEXT...]
  *
  * Each RULE, a file with one rule strip, is decided with the ceilings C (64) and
- * P (255) and makes a row of the table. -v makes one row of all decide and judge
- * lines of a vector file together, -l a row of each such line. Options and rules
- * count from left to right. A row is run until SECONDS (0.3) have passed for
- * each side, three times at least; the shortest time counts. Both sides must
- * answer alike.
+ * P (255) and makes a row of the table. A TEXT, a file whose name ends in .mona or
+ * one of the texts made here (made:longest, made:chain, made:nests, made:open), is
+ * imported. -v makes one row of all decide and judge lines of a vector file
+ * together, -l a row of each such line. Options, rules and texts count from left to
+ * right. A row is run until SECONDS (0.3) have passed for each side, three times at
+ * least; the shortest time counts. Both sides must answer alike, and to the texts
+ * made here as they are made to be answered.
  *
  *     bench -o library|oracle [-c C] [-p P] NAME
  *
- * makes one call for a single row, a rule file or a vector line given as
+ * makes one call for a single row, a rule file, a text or a vector line given as
  * FILE:LINE, and prints nothing: a program to count instructions of. */
 #define _DEFAULT_SOURCE
 #include "oracle.h"
@@ -29,12 +31,12 @@
 #include <unistd.h>
 
 enum { MOST_LINE = 4096, MOST_STRIP = 1024, MOST_REQUESTS = 4096, MOST_OUT = 65536,
-       LEAST_RUNS = 3 };
+       MOST_TEXT = 1 << 20, LONG_TEXT = 1 << 16, LONG_NAME = 64, LEAST_RUNS = 3 };
 static const size_t MOST_WORKSPACE = (size_t)128 << 20;
 static const double LEAST_TIMED = 1e-3;
 
 struct request {
-    bool judge;
+    bool judge, import; /* or else decide */
     uint8_t rule[MOST_STRIP], tree[MOST_STRIP];
     size_t rule_length, tree_length;
     uint64_t c, p;
@@ -53,14 +55,17 @@ struct implementation {
                             const uint8_t *, size_t);
     ws2s_verdict (*decide)(const uint8_t *, size_t, uint64_t, uint64_t, uint8_t *, size_t,
                            uint8_t *, size_t);
+    ws2s_written (*import)(const uint8_t *, size_t, uint8_t *, size_t);
 };
 
 static const struct implementation sides[] = {
-    { "library", ws2s_judge, ws2s_decide },
-    { "oracle", oracle_judge, oracle_decide },
+    { "library", ws2s_judge, ws2s_decide, ws2s_import },
+    { "oracle", oracle_judge, oracle_decide, oracle_import },
 };
 
 static struct request requests[MOST_REQUESTS];
+static char text[MOST_TEXT]; /* what is imported */
+static size_t text_length;
 static uint8_t *workspace, out[MOST_OUT];
 static uint64_t c_given = 64, p_given = 255;
 static double seconds_given = 0.3;
@@ -104,6 +109,7 @@ static bool read_line(char *line, struct request *r)
     if (!word || (strcmp(word, "decide") != 0 && strcmp(word, "judge") != 0))
         return false;
     r->judge = word[0] == 'j';
+    r->import = false;
     r->rule_length = read_hex(strtok(NULL, " "), r->rule);
     r->c = read_number(strtok(NULL, " "));
     r->p = r->judge ? 0 : read_number(strtok(NULL, " "));
@@ -140,6 +146,130 @@ static size_t read_rule(const char *name)
     return 1;
 }
 
+/* ---- Texts ---- */
+
+static void put_text(const char *words)
+{
+    size_t length = strlen(words);
+    if (length > MOST_TEXT - text_length)
+        stop("text", "too long");
+    memcpy(text + text_length, words, length);
+    text_length += length;
+}
+
+/* A name that agrees with the others up to its last byte. */
+static void put_name(unsigned number)
+{
+    char name[LONG_NAME + 1];
+    memset(name, 'n', LONG_NAME - 1);
+    name[LONG_NAME - 1] = (char)('a' + number);
+    name[LONG_NAME] = 0;
+    put_text(name);
+}
+
+/* The name declared first: a search from the latest on compares all eight. */
+static void put_atom(void)
+{
+    put_name(0);
+    put_text(" sub ");
+    put_name(0);
+}
+
+/* 128 records in 32 levels, with eight long names. */
+static void make_longest(void)
+{
+    enum { BRACKETS = WS2S_MAX_LEVELS - 1 };
+    put_text("ws2s;\nvar2 ");
+    for (unsigned i = 0; i < WS2S_MAX_VARIABLES; i++) {
+        put_text(i ? ", " : "");
+        put_name(i);
+    }
+    put_text(";\n~");
+    for (unsigned i = 0; i < BRACKETS; i++) {
+        put_text("(");
+        put_atom();
+        put_text(" & ");
+    }
+    put_atom();
+    for (unsigned i = 0; i < BRACKETS; i++) {
+        put_text(")");
+        put_text(i % 2 ? " & " : " | ");
+        put_atom();
+    }
+    put_text(" & ");
+    put_atom();
+    put_text(";\n");
+}
+
+static void make_chain(void)
+{
+    put_text("ws2s;var2 X;(X sub X)");
+    while (text_length < LONG_TEXT)
+        put_text("&(X sub X)");
+    put_text(";");
+}
+
+static void make_nests(void)
+{
+    put_text("ws2s;var2 X;X sub X");
+    while (text_length < LONG_TEXT) {
+        put_text("&");
+        for (unsigned i = 0; i < WS2S_MAX_LEVELS; i++)
+            put_text("(");
+        put_text("X sub X");
+        for (unsigned i = 0; i < WS2S_MAX_LEVELS; i++)
+            put_text(")");
+    }
+    put_text(";");
+}
+
+static void make_open(void)
+{
+    put_text("ws2s;var2 X;");
+    while (text_length < LONG_TEXT)
+        put_text("(");
+}
+
+static const struct {
+    const char *name;
+    void (*make)(void);
+    uint64_t refusal, records;
+} made[] = {
+    { "made:longest", make_longest, 0, WS2S_MAX_RECORDS },
+    { "made:chain", make_chain, WS2S_REFUSED_TEXT_RECORDS, 0 },
+    { "made:nests", make_nests, WS2S_REFUSED_TEXT_RECORDS, 0 },
+    { "made:open", make_open, WS2S_REFUSED_TEXT_GRAMMAR, 0 },
+};
+
+static bool is_text(const char *name)
+{
+    size_t length = strlen(name);
+    return strncmp(name, "made:", 5) == 0 || (length > 5 && strcmp(name + length - 5, ".mona") == 0);
+}
+
+static size_t read_text(const char *name)
+{
+    requests[0] = (struct request){ .import = true, .out = WS2S_MAX_RULE_BYTES };
+    text_length = 0;
+    for (size_t i = 0; i < sizeof made / sizeof made[0]; i++)
+        if (strcmp(name, made[i].name) == 0) {
+            made[i].make();
+            return 1;
+        }
+    FILE *file = fopen(name, "rb");
+    if (!file)
+        stop(name, strerror(errno));
+    text_length = fread(text, 1, sizeof text, file);
+    fclose(file);
+    return 1;
+}
+
+/* The one request of a rule's or a text's name. */
+static size_t read_name(const char *name)
+{
+    return is_text(name) ? read_text(name) : read_rule(name);
+}
+
 /* ---- Rows ---- */
 
 static void call(const struct implementation *side, const struct request *r, struct answer *a)
@@ -149,6 +279,11 @@ static void call(const struct implementation *side, const struct request *r, str
         ws2s_judgement j = side->judge(r->rule, r->rule_length, r->c, workspace, r->workspace,
                                        r->tree, r->tree_length);
         memcpy(a->field, &j, sizeof j);
+    } else if (r->import) {
+        ws2s_written w = side->import((const uint8_t *)text, text_length, out, r->out);
+        memcpy(a->field, &w, sizeof w);
+        if (w.refusal == 0 && w.length <= sizeof a->out)
+            memcpy(a->out, out, w.length);
     } else {
         ws2s_verdict v = side->decide(r->rule, r->rule_length, r->c, r->p, workspace,
                                       r->workspace, out, r->out);
@@ -156,6 +291,17 @@ static void call(const struct implementation *side, const struct request *r, str
         if (v.kind == 0 && v.length <= sizeof a->out)
             memcpy(a->out, out, v.length);
     }
+}
+
+/* Whether the answer is the one that a text was made for, if it was made here. */
+static bool as_made(const char *name, const struct answer *a)
+{
+    ws2s_written w;
+    memcpy(&w, a->field, sizeof w);
+    for (size_t i = 0; i < sizeof made / sizeof made[0]; i++)
+        if (strcmp(name, made[i].name) == 0)
+            return w.refusal == made[i].refusal && w.records == made[i].records;
+    return true;
 }
 
 /* The seconds that all requests take, so many times over. */
@@ -188,7 +334,7 @@ static void run_row(const char *name, size_t count)
     for (size_t i = 0; i < count; i++) {
         call(&sides[0], &requests[i], &answer[0]);
         call(&sides[1], &requests[i], &answer[1]);
-        alike = alike && memcmp(&answer[0], &answer[1], sizeof answer[0]) == 0;
+        alike = alike && memcmp(&answer[0], &answer[1], sizeof answer[0]) == 0 && as_made(name, &answer[0]);
     }
     const char *slash = strrchr(name, '/');
     printf("%-28s %6zu %14.2f %14.2f %8.2f%s\n", slash ? slash + 1 : name, count, 1e6 * best[0],
@@ -215,18 +361,18 @@ static void run_lines(const char *file)
     }
 }
 
-/* One call for a rule file or a vector line. */
+/* One call for a rule file, a text or a vector line. */
 static int run_once(const char *who, const char *name)
 {
     char file[MOST_LINE];
     struct answer answer;
-    const char *colon = strrchr(name, ':');
+    const char *colon = is_text(name) ? NULL : strrchr(name, ':');
     size_t count;
     if (colon) {
         snprintf(file, sizeof file, "%.*s", (int)(colon - name), name);
         count = read_vectors(file, strtoul(colon + 1, NULL, 10));
     } else {
-        count = read_rule(name);
+        count = read_name(name);
     }
     if (count != 1)
         stop(name, "not one decide or judge line");
@@ -279,7 +425,7 @@ int main(int argc, char **argv)
             heading = true;
         }
         if (option[0] != '-')
-            run_row(option, read_rule(option));
+            run_row(option, read_name(option));
         else if (option[1] == 'v')
             run_row(argv[i], read_vectors(argv[i], 0));
         else

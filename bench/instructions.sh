@@ -4,8 +4,8 @@
 #
 #     instructions.sh BENCH NAME...
 #
-# BENCH is the program made from bench.c; a NAME is a rule file or a line of a
-# vector file as FILE:LINE.
+# BENCH is the program made from bench.c; a NAME is a rule file, a text or a line of
+# a vector file as FILE:LINE, as bench.c has them.
 set -eu
 
 if [ $# -lt 2 ]; then
@@ -17,7 +17,7 @@ shift
 
 count() { # side, prefix of its functions, name
     valgrind --tool=callgrind --callgrind-out-file=/dev/null \
-        --toggle-collect="$2_decide" --toggle-collect="$2_judge" \
+        --toggle-collect="$2_decide" --toggle-collect="$2_judge" --toggle-collect="$2_import" \
         "$bench" -o "$1" "$3" 2>&1 | awk '/Collected *:/ { print $NF }'
 }
 

@@ -12,10 +12,15 @@
     mona.py --time PROGRAM RULE...  the verdict program's time and MONA's on rule
                                files, each as a process of its own, the least of
                                nine runs. Rules that are not accepted are left out
+    mona.py --texts COMMAND TEXT...  the command's verdict and time and MONA's on the
+                               same text files, likewise. Verdicts that differ make
+                               the status 1. Texts that are refused are only named;
+                               without MONA its part is left out
 """
 
 import argparse
 import os
+import shutil
 import subprocess
 import sys
 import tempfile
@@ -190,11 +195,52 @@ def time_rules(program, rules, limit):
     print(f"{'(MONA on a formula that is true)':41} {idle:12.2f}")
 
 
+# What the command's status says of a rule: whether it can be satisfied.
+SATISFIABLE = {0: True, 1: False, 2: True}
+
+
+def run_command(command, name):
+    """The command's status and first line for a text file, and its time."""
+    begin = time.monotonic()
+    done = subprocess.run([command, "decide", name], capture_output=True, text=True)
+    taken = time.monotonic() - begin
+    return (done.returncode, (done.stdout or done.stderr).partition("\n")[0]), taken
+
+
+def compare_texts(command, names, limit):
+    """Whether MONA agrees on every text that is not refused; True without MONA."""
+    installed = shutil.which("mona") is not None
+    if not installed:
+        print("MONA is not installed: the times are the command's alone")
+    print(f"{'':28} {'command ms':>12} {'MONA ms':>12}   verdict")
+    agreed, answered = 0, 0
+    for name in names:
+        (status, said), ours = least_time(lambda: run_command(command, name))
+        if status not in SATISFIABLE:
+            print(f"{os.path.basename(name):28} {'-':>12} {'-':>12}   {said}")
+            continue
+        answered += 1
+        theirs = "-"
+        if installed:
+            with open(name) as file:
+                text = file.read()
+            found, taken = least_time(lambda: run_mona(text, limit))
+            theirs = f"{taken:.2f}"
+            agreed += found == SATISFIABLE[status]
+            if found != SATISFIABLE[status]:
+                said += f"   MONA: {'no verdict' if found is None else 'satisfiable' if found else 'unsatisfiable'}"
+        print(f"{os.path.basename(name):28} {ours:12.2f} {theirs:>12}   {said}")
+    if installed:
+        print(f"{answered} texts, {agreed} verdicts agree")
+    return answered > 0 and (not installed or agreed == answered)
+
+
 def main():
     parser = argparse.ArgumentParser(description=__doc__,
                                      formatter_class=argparse.RawDescriptionHelpFormatter)
     parser.add_argument("--compare", action="store_true", help="compare vector files")
     parser.add_argument("--time", metavar="PROGRAM", help="take the times on rule files")
+    parser.add_argument("--texts", metavar="COMMAND", help="compare the command with MONA on text files")
     parser.add_argument("--limit", type=float, default=60, help="seconds for one rule (60)")
     parser.add_argument("argument", nargs="+")
     options = parser.parse_args()
@@ -203,6 +249,8 @@ def main():
     if options.time:
         time_rules(options.time, options.argument, options.limit)
         return
+    if options.texts:
+        sys.exit(0 if compare_texts(options.texts, options.argument, options.limit) else 1)
     texts = []
     for rule in options.argument:
         try:

@@ -4,7 +4,7 @@
  * - the sizes: with that many bytes a call is not refused for its buffer, with one
  *   less it is, for every number of variables and records and every ceiling;
  * - the names of kinds and refusals: a request that has just this answer, at the
- *   place that the header states;
+ *   place that the header states, and a text's at the token;
  * - the texts: one for every refusal, no two alike;
  * - the limits: accepted, and one more refused;
  * - the walk: over all small trees, and over large ones of many shapes, it tells
@@ -220,16 +220,76 @@ static void try_names(uint8_t *workspace)
     count(ws2s_judge(rule.byte, rule.length, 64, workspace, 1 << 16, tree.byte, tree.length).kind == WS2S_NO, "name of no", 0, 0);
 }
 
+/* ---- Texts ---- */
+
+static char typed[1 << 14];
+
+static void type(const char *words)
+{
+    strcat(typed, words);
+}
+
+/* What is typed has this refusal, at this token; with 0 so many variables and records. */
+static void try_typed(uint64_t refusal, uint64_t start, uint64_t length, uint64_t variables, uint64_t records)
+{
+    size_t size = strlen(typed);
+    uint8_t out[WS2S_MAX_RULE_BYTES];
+    lend_bytes(&lent, (const uint8_t *)typed, size, LENT_AT_END);
+    ws2s_written w = ws2s_import(lent.at, size, out, sizeof out), cut = ws2s_import(lent.at, size, out, sizeof out - 1);
+    ws2s_fault f = ws2s_text_fault(lent.at, size);
+    count(w.refusal == refusal && f.refusal == refusal, "name of a text's refusal", refusal, w.refusal);
+    count(f.start == start && f.length == length, "token of a text's refusal", f.start, f.length);
+    count(w.variables == variables && w.records == records && w.length == (refusal ? 0 : (16 + 18 * records + 7) / 8),
+          "numbers of a text", w.variables, w.records);
+    count(w.place == 0 && w.strip == 0, "place and strip of a text", w.place, w.strip);
+    count(cut.refusal == WS2S_REFUSED_RULE_OUT && cut.variables == 0 && cut.records == 0 && cut.length == 0, "name of a refusal",
+          WS2S_REFUSED_RULE_OUT, cut.refusal);
+}
+
+/* Each limit reached, and passed by one. */
+static void try_typed_limits(void)
+{
+    for (unsigned more = 0; more <= 1; more++) {
+        strcpy(typed, "ws2s;var2 X;");
+        for (unsigned i = 0; i < WS2S_MAX_LEVELS + more; i++)
+            type("~");
+        type("X sub X;");
+        try_typed(more ? WS2S_REFUSED_TEXT_GRAMMAR : 0, more ? 12 + WS2S_MAX_LEVELS : 0, more, more ? 0 : 1, more ? 0 : WS2S_MAX_LEVELS + 1);
+
+        strcpy(typed, "ws2s;var2 ");
+        for (unsigned i = 0; i < WS2S_MAX_VARIABLES + more; i++) {
+            char name[3] = { (char)('A' + i), i + 1 < WS2S_MAX_VARIABLES + more ? ',' : ';', 0 };
+            type(name);
+        }
+        type("A sub A;");
+        try_typed(more ? WS2S_REFUSED_TEXT_VARIABLES : 0, more ? 10 + 2 * WS2S_MAX_VARIABLES : 0, more, more ? 0 : WS2S_MAX_VARIABLES, !more);
+
+        strcpy(typed, more ? "ws2s;var2 X;~~X sub X" : "ws2s;var2 X;~X sub X"); /* and each "&" with its atom makes two records */
+        for (unsigned i = 1; i < WS2S_MAX_RECORDS / 2; i++)
+            type("&X sub X");
+        type(";");
+        try_typed(more ? WS2S_REFUSED_TEXT_RECORDS : 0, 0, 0, more ? 0 : 1, more ? 0 : WS2S_MAX_RECORDS);
+    }
+    strcpy(typed, "ws2s;var2 X;X sub Seat;");
+    try_typed(WS2S_REFUSED_TEXT_NAME, 18, 4, 0, 0);
+    strcpy(typed, "ws2s;var2 X;X sub X");
+    try_typed(WS2S_REFUSED_TEXT_GRAMMAR, 19, 0, 0, 0);
+    typed[0] = 0;
+    try_typed(WS2S_REFUSED_TEXT_GRAMMAR, 0, 0, 0, 0);
+    ws2s_written none = ws2s_import(NULL, 0, NULL, 0);
+    count(none.refusal == WS2S_REFUSED_RULE_OUT && ws2s_text_fault(NULL, 0).refusal == WS2S_REFUSED_TEXT_GRAMMAR, "no text", none.refusal, 0);
+}
+
 static void try_texts(void)
 {
     const char *none = ws2s_refusal_text(0);
-    for (uint64_t k = 1; k <= WS2S_REFUSED_TREE_OTHER; k++) {
+    for (uint64_t k = 1; k <= WS2S_REFUSED_RULE_OUT; k++) {
         bool alone = strcmp(ws2s_refusal_text(k), none) != 0 && *ws2s_refusal_help(k);
         for (uint64_t other = 1; other < k; other++)
             alone = alone && strcmp(ws2s_refusal_text(k), ws2s_refusal_text(other)) != 0;
         count(alone, "text of a refusal", k, 0);
     }
-    count(ws2s_refusal_text(WS2S_REFUSED_TREE_OTHER + 1) == none && ws2s_refusal_text(UINT64_MAX) == none
+    count(ws2s_refusal_text(WS2S_REFUSED_RULE_OUT + 1) == none && ws2s_refusal_text(UINT64_MAX) == none
               && !*ws2s_refusal_help(0) && !*ws2s_refusal_help(UINT64_MAX), "text of what is no refusal", 0, 0);
 }
 
@@ -330,6 +390,7 @@ int main(void)
     try_sizes(workspace);
     try_names(workspace);
     try_lengths();
+    try_typed_limits();
     try_texts();
     for (unsigned n = 1; n <= WS2S_MAX_VARIABLES; n++) {
         for (unsigned left = 0; left <= WS2S_MAX_POSITIONS; left++)
