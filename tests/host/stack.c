@@ -557,6 +557,17 @@ static void try_long_texts(void)
         snprintf(what, sizeof what, "64 KiB of %s", chains[i].again[0] == ' ' ? "separators" : chains[i].again);
         try_text(chains[i].stated);
     }
+    /* so many records, one and six for each, that a count of one byte or two would come to 3 */
+    static const unsigned wraps[] = { 43, 10923 };
+    for (size_t i = 0; i < sizeof wraps / sizeof wraps[0]; i++) {
+        text_length = 0;
+        put_text("ws2s;var2 X;X sub X");
+        for (unsigned times = 0; times < wraps[i]; times++)
+            put_text("<=>X sub X");
+        put_text(";");
+        snprintf(what, sizeof what, "%u records", 1 + 6 * wraps[i]);
+        try_text("refused 26");
+    }
 }
 
 static void run_file(const char *name)

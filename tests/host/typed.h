@@ -255,7 +255,7 @@ static void put_formula(void)
 
 /* ---- Whole texts ---- */
 
-/* The heading, and declarations of so many names, no two alike if they can be. */
+/* The heading, and declarations of so many names, seldom two alike. */
 static inline void put_declarations(unsigned count)
 {
     bool first_order = once_in(2), open = false;
@@ -269,6 +269,8 @@ static inline void put_declarations(unsigned count)
                 tries++;
                 j = (unsigned)-1;
             }
+        if (making.names && once_in(60))
+            name = making.alive[below(making.names)].name;
         if (open && once_in(3)) {
             put_word(";");
             open = false;
