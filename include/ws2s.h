@@ -33,9 +33,9 @@
  * ~ binds strongest, then &, |, => and last <=>; => groups to the right, the others
  * to the left, and a quantifier reaches as far right as it can. y.0 is branch 1 of
  * y, and y.1 branch 2. A name is a letter with any letters and digits after it, but
- * none of the words above; spaces, tabs and ends of line separate. An inner name
- * hides an outer one. Brackets, ~, quantifiers and right sides of => together nest
- * at most 32 deep. docs/TEXT.md teaches it, and has the records that each makes.
+ * none of the words above; spaces, tabs, CR and LF separate. An inner name hides an
+ * outer one. Brackets, ~, quantifiers and right sides of => together nest at most 32
+ * deep. docs/TEXT.md teaches the language, and has the records that each part makes.
  *
  * Buffers. Bytes of any kind and lengths of any size may be handed in; a
  * pointer may be NULL where its length is 0. While a call runs, nobody else
@@ -44,13 +44,14 @@
  * are only read. Nothing is kept between calls.
  *
  * Threads. There is no global state, so any number of threads may call at once,
- * each with a workspace and an out buffer of its own; they may share strips.
+ * each with a workspace and an out buffer of its own; they may share strips
+ * and texts.
  *
- * Stack. 64 KiB are enough for any call, the deepest trees included; a thread
- * needs what its own frames take beside that. Nothing is put on the heap.
+ * Stack. 64 KiB are enough for any call, the deepest trees and texts included; a
+ * thread needs what its own frames take beside that. Nothing is put on the heap.
  *
  * Time. Every call ends. The checks take microseconds; the time to read a text
- * grows with its length, times at most the names that are alive. Judge and decide take
+ * grows with its length, times at most the names in use. Judge and decide take
  * longer the more workspace is asked for: the longest calls known, with 8
  * variables, 128 records and c = 64, take two seconds, about 15 ns for each byte
  * asked for; that makes half a millisecond for 3 variables, 16 records and
