@@ -6,10 +6,10 @@ static const char empty_tree[] = "(the empty tree)", no_kind[] = "(no kind)";
 
 /* The kinds of the walk's node, each as "put" has it. Returns how many characters
  * there are, if each byte that begins one counts. */
-static unsigned put_kinds(FILE *to, const ws2s_walk *walk, const struct names *names,
-                          void (*put)(FILE *, const char *))
+static size_t put_kinds(FILE *to, const ws2s_walk *walk, const struct names *names, void (*put)(FILE *, const char *))
 {
-    unsigned characters = 0, kinds = 0;
+    size_t characters = 0;
+    unsigned kinds = 0;
     for (unsigned variable = 0; variable < walk->variables; variable++) {
         char number[16];
         if (!ws2s_walk_has(walk, variable))
@@ -26,7 +26,7 @@ static unsigned put_kinds(FILE *to, const ws2s_walk *walk, const struct names *n
     }
     if (kinds == 0)
         put(to, no_kind);
-    return kinds == 0 ? (unsigned)strlen(no_kind) : characters;
+    return kinds == 0 ? strlen(no_kind) : characters;
 }
 
 static void put_plain(FILE *to, const char *text)
@@ -107,7 +107,8 @@ enum { TEXT = 9, PAD = 12, HIGH = 32, GAP = 36, MARGIN = 12 }; /* in pixels; TEX
 
 /* Where everything stands: columns from the left, rows from the top. */
 struct layout {
-    unsigned nodes, columns, rows, width; /* width: of a box */
+    unsigned nodes, columns, rows;
+    size_t width; /* of a box; a name in a text may have any length */
     struct node {
         unsigned from, branch, column, row, columns; /* columns: that it takes with all inside it */
     } node[WS2S_MAX_POSITIONS];
@@ -115,12 +116,13 @@ struct layout {
 
 static void lay_out(struct layout *l, const uint8_t *tree, size_t length, const struct names *names)
 {
-    unsigned last[WS2S_MAX_POSITIONS], characters = 0;
+    size_t characters = 0;
+    unsigned last[WS2S_MAX_POSITIONS];
     unsigned inside[WS2S_MAX_POSITIONS] = { 0 }, beside[WS2S_MAX_POSITIONS] = { 0 }; /* columns of the branches */
     ws2s_walk walk;
     l->nodes = l->rows = 0;
     for (ws2s_walk_begin(&walk, tree, length); ws2s_walk_next(&walk); l->nodes++) {
-        unsigned here = put_kinds(NULL, &walk, names, put_nothing);
+        size_t here = put_kinds(NULL, &walk, names, put_nothing);
         l->node[l->nodes] = (struct node){ .from = above(&walk, l->nodes, last), .branch = walk.branch,
                                            .row = walk.inside };
         if (here > characters)
@@ -143,7 +145,7 @@ static void lay_out(struct layout *l, const uint8_t *tree, size_t length, const 
     l->width = TEXT * characters + 2 * PAD;
 }
 
-static unsigned left_of(const struct layout *l, const struct node *n)
+static size_t left_of(const struct layout *l, const struct node *n)
 {
     return MARGIN + n->column * (l->width + GAP);
 }
@@ -157,10 +159,10 @@ static void put_line(FILE *to, const struct layout *l, const struct node *n)
 {
     const struct node *from = &l->node[n->from];
     if (n->branch == 1)
-        fprintf(to, "<line x1=\"%u\" y1=\"%u\" x2=\"%u\" y2=\"%u\"/>\n", left_of(l, from) + l->width / 2,
+        fprintf(to, "<line x1=\"%zu\" y1=\"%u\" x2=\"%zu\" y2=\"%u\"/>\n", left_of(l, from) + l->width / 2,
                 top_of(from) + HIGH, left_of(l, n) + l->width / 2, top_of(n));
     if (n->branch == 2)
-        fprintf(to, "<line x1=\"%u\" y1=\"%u\" x2=\"%u\" y2=\"%u\" stroke-dasharray=\"5 4\"/>\n",
+        fprintf(to, "<line x1=\"%zu\" y1=\"%u\" x2=\"%zu\" y2=\"%u\" stroke-dasharray=\"5 4\"/>\n",
                 left_of(l, from) + l->width, top_of(from) + HIGH / 2, left_of(l, n), top_of(n) + HIGH / 2);
 }
 
@@ -169,25 +171,25 @@ void put_svg(FILE *to, const uint8_t *tree, size_t length, const struct names *n
     struct layout l;
     ws2s_walk walk;
     lay_out(&l, tree, length, names);
-    unsigned width = l.nodes > 0 ? l.columns * (l.width + GAP) - GAP : TEXT * (unsigned)strlen(empty_tree);
+    size_t width = l.nodes > 0 ? l.columns * (l.width + GAP) - GAP : TEXT * strlen(empty_tree);
     unsigned height = l.nodes > 0 ? l.rows * (HIGH + GAP) - GAP : HIGH;
-    fprintf(to, "<svg xmlns=\"http://www.w3.org/2000/svg\" width=\"%u\" height=\"%u\" font-family=\"sans-serif\" "
+    fprintf(to, "<svg xmlns=\"http://www.w3.org/2000/svg\" width=\"%zu\" height=\"%u\" font-family=\"sans-serif\" "
                 "font-size=\"15\" text-anchor=\"middle\">\n", width + 2 * MARGIN, height + 2 * MARGIN);
     fputs("<title>a tree: solid to the first part inside, dashed to the next part beside</title>\n"
           "<rect width=\"100%\" height=\"100%\" fill=\"white\"/>\n<g stroke=\"black\" fill=\"white\">\n", to);
     for (unsigned i = 0; i < l.nodes; i++) {
         put_line(to, &l, &l.node[i]);
-        fprintf(to, "<rect x=\"%u\" y=\"%u\" width=\"%u\" height=\"%u\" rx=\"6\"/>\n", left_of(&l, &l.node[i]),
+        fprintf(to, "<rect x=\"%zu\" y=\"%u\" width=\"%zu\" height=\"%u\" rx=\"6\"/>\n", left_of(&l, &l.node[i]),
                 top_of(&l.node[i]), l.width, (unsigned)HIGH);
     }
     fputs("</g>\n", to);
     ws2s_walk_begin(&walk, tree, length);
     for (unsigned i = 0; ws2s_walk_next(&walk); i++) {
-        fprintf(to, "<text x=\"%u\" y=\"%u\">", left_of(&l, &l.node[i]) + l.width / 2, top_of(&l.node[i]) + 21);
+        fprintf(to, "<text x=\"%zu\" y=\"%u\">", left_of(&l, &l.node[i]) + l.width / 2, top_of(&l.node[i]) + 21);
         put_kinds(to, &walk, names, put_in_xml);
         fputs("</text>\n", to);
     }
     if (l.nodes == 0)
-        fprintf(to, "<text x=\"%u\" y=\"%u\">%s</text>\n", width / 2 + MARGIN, (unsigned)MARGIN + 21, empty_tree);
+        fprintf(to, "<text x=\"%zu\" y=\"%u\">%s</text>\n", width / 2 + MARGIN, (unsigned)MARGIN + 21, empty_tree);
     fputs("</svg>\n", to);
 }

@@ -2,6 +2,7 @@
 
 #include <inttypes.h>
 #include <stdbool.h>
+#include <string.h>
 
 enum { HEADING = 16, RECORD = 18, FIRST_FIELD = 4, SECOND_FIELD = 11 }; /* bits; a record's fields from its start */
 enum op { SUBSET, SING, FIRST_BRANCH, SECOND_BRANCH, ROOT, NOT, OR, AND, EXISTS };
@@ -24,12 +25,66 @@ const char *plural(uint64_t count)
     return count == 1 ? "" : "s";
 }
 
-void put_name(FILE *to, const struct names *names, unsigned variable)
+/* Whether another variable has this one's name too. */
+static bool has_namesake(const struct names *names, const struct bound *bound)
 {
-    if (variable < names->count)
+    for (unsigned i = 0; i < names->count; i++)
+        if (strcmp(names->name[i], bound->name) == 0)
+            return true;
+    for (unsigned i = 0; i < names->bounds; i++)
+        if (names->bound[i].variable != bound->variable && strcmp(names->bound[i].name, bound->name) == 0)
+            return true;
+    return false;
+}
+
+/* A variable of a record. One with a namesake has its number behind its name, after
+ * a sign that no name of a text has. */
+static void put_name(FILE *to, const struct names *names, unsigned record, unsigned variable)
+{
+    const struct bound *bound = names->bound, *end = bound + names->bounds;
+    if (variable < names->count) {
         fputs(names->name[variable], to);
-    else
+        return;
+    }
+    while (bound < end && (bound->variable != variable || record < bound->first || record > bound->last))
+        bound++;
+    if (bound == end)
         fprintf(to, "X%u", variable);
+    else if (has_namesake(names, bound))
+        fprintf(to, "%s_%u", bound->name, variable);
+    else
+        fputs(bound->name, to);
+}
+
+/* Records of a text that are about one thing stand together, its last record at the
+ * end. So a quantifier stands before another if what it is about begins earlier, or
+ * with the same record and ends later. */
+static bool opens_before(const struct bound *one, const struct bound *other)
+{
+    return one->first != other->first ? one->first < other->first : one->last > other->last;
+}
+
+unsigned bound_variables(const struct strip *rule, struct bound *bound)
+{
+    unsigned begins[WS2S_MAX_RECORDS], count = 0; /* the first record of what a record is about */
+    for (unsigned record = 0; record < rule->byte[1] && record < WS2S_MAX_RECORDS; record++) {
+        size_t at = end_of(record) - RECORD;
+        unsigned op = bits_at(rule, at, 4), first = bits_at(rule, at + FIRST_FIELD, 7);
+        unsigned second = bits_at(rule, at + SECOND_FIELD, 7), place = count;
+        switch (op) {
+        case NOT: begins[record] = begins[first]; continue;
+        case OR:
+        case AND: begins[record] = begins[first] < begins[second] ? begins[first] : begins[second]; continue;
+        case EXISTS: begins[record] = begins[second]; break;
+        default: begins[record] = record; continue;
+        }
+        struct bound here = { NULL, first, begins[record], record };
+        for (; place > 0 && opens_before(&here, &bound[place - 1]); place--)
+            bound[place] = bound[place - 1];
+        bound[place] = here;
+        count++;
+    }
+    return count;
 }
 
 void put_record(FILE *to, const struct strip *rule, unsigned record, const struct names *names)
@@ -41,24 +96,24 @@ void put_record(FILE *to, const struct strip *rule, unsigned record, const struc
     unsigned second = bits_at(rule, at + SECOND_FIELD, 7);
     switch (op) {
     case SUBSET:
-        put_name(to, names, first);
+        put_name(to, names, record, first);
         fputs(" ⊆ ", to);
-        put_name(to, names, second);
+        put_name(to, names, record, second);
         return;
     case SING:
         fputs("Sing(", to);
-        put_name(to, names, first);
+        put_name(to, names, record, first);
         fputs(")", to);
         break;
     case FIRST_BRANCH:
     case SECOND_BRANCH:
-        put_name(to, names, first);
+        put_name(to, names, record, first);
         fputs(" = ", to);
-        put_name(to, names, second);
+        put_name(to, names, record, second);
         fputs(op == FIRST_BRANCH ? " 1" : " 2", to);
         return;
     case ROOT:
-        put_name(to, names, first);
+        put_name(to, names, record, first);
         fputs(" = ε", to);
         break;
     case NOT:
@@ -70,7 +125,7 @@ void put_record(FILE *to, const struct strip *rule, unsigned record, const struc
         return;
     case EXISTS:
         fputs("exists ", to);
-        put_name(to, names, first);
+        put_name(to, names, record, first);
         fprintf(to, ": %u", second);
         return;
     default:

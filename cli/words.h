@@ -9,13 +9,20 @@
 /* What a word ends in that stands after a number. */
 const char *plural(uint64_t count);
 
-/* The kinds' names, in the order of the variables; X0, X1, ... after the last. */
-struct names {
-    char *const *name;
-    unsigned count;
+/* A variable that "exists" binds, and the records in which it is that one: from the
+ * first of what it is about to the "exists" itself. */
+struct bound {
+    const char *name;
+    unsigned variable, first, last;
 };
 
-void put_name(FILE *to, const struct names *names, unsigned variable);
+/* What the variables are called: the first ones in every record, others by what
+ * binds them there if it has a name, and the rest X0, X1, ... by their numbers. */
+struct names {
+    const char *name[WS2S_MAX_VARIABLES];
+    unsigned count, bounds;
+    struct bound bound[WS2S_MAX_RECORDS];
+};
 
 /* A strip of any bytes. */
 struct strip {
@@ -28,6 +35,10 @@ struct strip {
 struct refusal {
     uint64_t number, record, place;
 };
+
+/* The variables that a rule written for a text binds, without names, in the order
+ * in which their quantifiers stand in the text; how many there are. */
+unsigned bound_variables(const struct strip *rule, struct bound *bound);
 
 /* A record in words, if it lies within the rule. */
 void put_record(FILE *to, const struct strip *rule, unsigned record, const struct names *names);

@@ -1,7 +1,8 @@
-/* The command ws2s: decides, judges, checks and shows rule and tree strips, by
- * libws2s. See man/ws2s.1. */
+/* The command ws2s: decides, judges, checks and shows rule and tree strips, and
+ * rules typed as text, by libws2s. See man/ws2s.1. */
 #define _DEFAULT_SOURCE
 #include "drawing.h"
+#include "text.h"
 #include "words.h"
 
 #include <errno.h>
@@ -11,6 +12,7 @@
 #include <stdbool.h>
 #include <stdlib.h>
 #include <string.h>
+#include <sys/stat.h>
 
 enum status { GOOD = 0, BAD = 1, LARGER = 2, REFUSED = 3, USAGE = 64, TROUBLE = 74 };
 
@@ -20,6 +22,7 @@ static const char help[] =
     "       ws2s check rule|tree FILE\n"
     "       ws2s print RULE [NAME...]\n"
     "       ws2s tree [--outline|--hex|--dot|--svg] TREE [NAME...]\n"
+    "       ws2s import TEXT [-o RULE]\n"
     "       ws2s --help | --version\n"
     "\n"
     "decide  show the earliest tree that satisfies a rule, or say that there is none\n"
@@ -27,9 +30,11 @@ static const char help[] =
     "check   say whether a file is a rule strip or a tree strip, or where it is at fault\n"
     "print   write each record of a rule in words, and mark the first bad one\n"
     "tree    show a tree\n"
+    "import  write the strip of a rule typed as text, or say where the text is at fault\n"
     "\n"
-    "RULE, TREE and FILE are strips, - for standard input. NAMEs are what the\n"
-    "variables are called, in order, instead of X0, X1, ...\n"
+    "TREE and FILE are strips, RULE is a strip or a text; - is standard input. NAMEs\n"
+    "are what the variables are called, in order, instead of the names in the text\n"
+    "or X0, X1, ...\n"
     "\n"
     "  -c N       the most states that a record may need, 1 to 64 (64)\n"
     "  -p N       the most places that the tree may have, 0 to 255 (255)\n"
@@ -38,6 +43,7 @@ static const char help[] =
     "  --strip    the tree strip itself\n"
     "  --dot      a picture for Graphviz: inside solid, beside dashed\n"
     "  --svg      the picture itself\n"
+    "  -o RULE    the file that the strip is written to, instead of standard output\n"
     "\n"
     "Status: 0 shown, yes or accepted; 1 none or no; 2 larger; 3 refused; 64 a wrong\n"
     "command line; 74 trouble with files, output that could not be written included.\n";
@@ -85,6 +91,7 @@ enum { MOST_OPERANDS = 2 + WS2S_MAX_VARIABLES };
 struct arguments {
     uint64_t c, p;
     enum form form;
+    const char *output;
     char *operand[MOST_OPERANDS];
     unsigned operands;
 };
@@ -105,7 +112,7 @@ static enum status add_operand(struct arguments *a, char *word)
 }
 
 /* Takes the command line apart, from the word after the subcommand; options may
- * stand anywhere before "--". Those allowed are the letters c, p, and f for the
+ * stand anywhere before "--". Those allowed are the letters c, p, o, and f for the
  * forms, with s for the strip itself. GOOD, or the status to end with; asked for
  * help, the form is HELP. */
 static enum status read_arguments(struct arguments *a, int argc, char **argv, const char *allowed)
@@ -118,7 +125,7 @@ static enum status read_arguments(struct arguments *a, int argc, char **argv, co
     int option;
     opterr = 0;
     *a = (struct arguments){ .c = WS2S_MAX_STATES, .p = WS2S_MAX_POSITIONS };
-    while (status == GOOD && (option = getopt_long(argc, argv, "-c:p:h", forms, NULL)) != -1) {
+    while (status == GOOD && (option = getopt_long(argc, argv, "-c:p:o:h", forms, NULL)) != -1) {
         if (option == 1)
             status = add_operand(a, optarg);
         else if (option == 'h' || option == HELP) {
@@ -129,8 +136,15 @@ static enum status read_arguments(struct arguments *a, int argc, char **argv, co
                 status = usage("-c or -p is for another subcommand");
             else if (!read_number(optarg, option == 'c' ? &a->c : &a->p))
                 status = usage("-c and -p take a number");
+        } else if (option == 'o') {
+            if (!strchr(allowed, option))
+                status = usage("-o is for another subcommand");
+            else if (a->output)
+                status = usage("one file can be written at a time");
+            a->output = optarg;
         } else if (option == '?')
-            status = usage(optopt == 'c' || optopt == 'p' ? "-c and -p take a number" : "there is no such option");
+            status = usage(optopt == 'c' || optopt == 'p' ? "-c and -p take a number"
+                           : optopt == 'o' ? "-o takes a file" : "there is no such option");
         else if (!strchr(allowed, option == STRIP ? 's' : 'f'))
             status = usage("the form is for another subcommand");
         else if (a->form != 0)
@@ -145,45 +159,25 @@ static enum status read_arguments(struct arguments *a, int argc, char **argv, co
     return status;
 }
 
-/* The character that a UTF-8 text begins with, and the text after it; 0 if it
- * begins with none. */
-static unsigned long take_character(const unsigned char **text)
+/* Whether a name can stand in a picture and on a terminal. */
+static bool good_name(const char *name)
 {
-    static const unsigned long least[] = { 0, 0x80, 0x800, 0x10000 };
-    unsigned long value = *(*text)++;
-    unsigned more = value < 0x80 ? 0 : value >> 5 == 6 ? 1 : value >> 4 == 14 ? 2 : value >> 3 == 30 ? 3 : 4;
-    if (more == 4)
-        return 0;
-    value &= 0x7Fu >> more;
-    for (unsigned i = 0; i < more; i++, (*text)++) {
-        if (**text >> 6 != 2)
-            return 0;
-        value = value << 6 | (**text & 0x3Fu);
-    }
-    return value < least[more] ? 0 : value;
-}
-
-/* Whether a name can stand in a picture and on a terminal: characters that XML
- * allows, no control characters, at least one. */
-static bool printable(const char *name)
-{
-    const unsigned char *at = (const unsigned char *)name;
-    do {
-        unsigned long c = take_character(&at);
-        if (c < 0x20 || (c >= 0x7F && c < 0xA0) || (c >= 0xD800 && c < 0xE000) || c == 0xFFFE || c == 0xFFFF
-            || c > 0x10FFFF)
-            return false;
-    } while (*at);
-    return true;
+    const uint8_t *at = (const uint8_t *)name, *end = at + strlen(name);
+    bool good = at < end;
+    while (good && at < end)
+        good = printable(take_character(&at, end));
+    return good;
 }
 
 /* The names, which are the words from this one on. */
 static enum status read_names(const struct arguments *a, unsigned from, struct names *names)
 {
-    *names = (struct names){ a->operand + from, a->operands - from };
-    for (unsigned i = 0; i < names->count; i++)
-        if (!printable(names->name[i]))
+    names->bounds = 0;
+    for (names->count = 0; names->count < WS2S_MAX_VARIABLES && from < a->operands; names->count++, from++) {
+        if (!good_name(a->operand[from]))
             return usage("a name must be text that can be printed");
+        names->name[names->count] = a->operand[from];
+    }
     return GOOD;
 }
 
@@ -194,21 +188,31 @@ static enum status too_many_names(const struct names *names, uint64_t variables)
 
 /* ---- Files ---- */
 
+static FILE *open_file(const char *file)
+{
+    return strcmp(file, "-") == 0 ? stdin : fopen(file, "rb");
+}
+
+static void close_file(FILE *from)
+{
+    if (from != stdin)
+        fclose(from);
+}
+
 /* Reads a strip that may have so many bytes. Of a longer one a byte more is read,
  * which is enough for its refusal. */
 static enum status read_strip(const char *file, size_t most, uint8_t *bytes, struct strip *strip)
 {
-    FILE *from = strcmp(file, "-") == 0 ? stdin : fopen(file, "rb");
+    FILE *from = open_file(file);
     if (!from)
         return trouble(file);
     *strip = (struct strip){ bytes, fread(bytes, 1, most + 1, from) };
     enum status status = ferror(from) ? trouble(title(file)) : GOOD;
-    if (from != stdin)
-        fclose(from);
+    close_file(from);
     return status;
 }
 
-static enum status read_rule(const char *file, struct strip *rule)
+static enum status read_strip_of_rule(const char *file, struct strip *rule)
 {
     static uint8_t bytes[WS2S_MAX_RULE_BYTES + 1];
     return read_strip(file, WS2S_MAX_RULE_BYTES, bytes, rule);
@@ -220,13 +224,116 @@ static enum status read_tree(const char *file, struct strip *tree)
     return read_strip(file, WS2S_MAX_TREE_BYTES, bytes, tree);
 }
 
+/* ---- Rules, as strips and as text ---- */
+
+/* Whether an accepted text may begin so: with blanks and the word ws2s, or with a
+ * part of that if there is no more of it. */
+static bool begins_a_text(const struct text *text)
+{
+    static const char heading[] = "ws2s";
+    size_t at = 0, same = 0;
+    while (at < text->length && blank(text->byte[at]))
+        at++;
+    for (; at < text->length && same < strlen(heading) && text->byte[at] == heading[same]; at++)
+        same++;
+    return same == strlen(heading) || at == text->length;
+}
+
+/* Whether a file that begins so is taken for a text, and not for a strip. No strip
+ * that is accepted is: its first byte is a control character. What is neither is
+ * taken for what it looks like, so that its refusal speaks of that: for a strip if
+ * it is empty or has a control character, which a text that somebody typed has not
+ * unless it is in UTF-16. */
+static bool looks_like_text(const struct text *text)
+{
+    static const uint8_t marks[] = { 0xFF, 0xFE, 0xFF };
+    bool typed = text->length > 0;
+    for (size_t i = 0; i < text->length; i++)
+        if ((text->byte[i] < 0x20 && !blank(text->byte[i])) || text->byte[i] == 0x7F)
+            typed = false;
+    return typed || (text->length > 0 && begins_a_text(text))
+        || (text->length > 1 && (memcmp(text->byte, marks, 2) == 0 || memcmp(text->byte, marks + 1, 2) == 0));
+}
+
+/* Reads the rest of a text, however long it is. */
+static enum status read_on(FILE *from, const char *file, struct text *text)
+{
+    size_t room = text->length;
+    uint8_t *bytes = NULL;
+    do {
+        uint8_t *more = room <= SIZE_MAX / 2 ? realloc(bytes, room = 2 * room) : NULL;
+        if (!more) {
+            free(bytes);
+            errno = ENOMEM;
+            return trouble(title(file));
+        }
+        if (!bytes)
+            memcpy(more, text->byte, text->length);
+        bytes = more;
+        text->length += fread(bytes + text->length, 1, room - text->length, from);
+    } while (text->length == room);
+    *text = (struct text){ bytes, text->length, true };
+    return ferror(from) ? trouble(title(file)) : GOOD;
+}
+
+/* Reads the beginning of a file, and all of it if it begins a text: of anything else
+ * the beginning has what it is refused for. As a text it lasts until the next. */
+static enum status read_file(const char *file, struct text *text)
+{
+    static uint8_t bytes[WS2S_MAX_RULE_BYTES + 1];
+    FILE *from = open_file(file);
+    enum status status = GOOD;
+    if (!from)
+        return trouble(file);
+    *text = (struct text){ bytes, fread(bytes, 1, sizeof bytes, from), false };
+    text->whole = text->length < sizeof bytes;
+    if (ferror(from))
+        status = trouble(title(file));
+    else if (!text->whole && begins_a_text(text))
+        status = read_on(from, file, text);
+    close_file(from);
+    return status;
+}
+
+/* The strip of a text. */
+static enum status import_text(const char *file, const struct text *text, struct strip *rule)
+{
+    static uint8_t bytes[WS2S_MAX_RULE_BYTES];
+    ws2s_written written = ws2s_import(text->byte, text->length, bytes, sizeof bytes);
+    *rule = (struct strip){ bytes, (size_t)written.length };
+    if (written.refusal == 0)
+        return GOOD;
+    ws2s_fault fault = ws2s_text_fault(text->byte, text->length);
+    fprintf(stderr, "ws2s: %s: ", title(file));
+    put_text_refusal(stderr, text, &fault);
+    return REFUSED;
+}
+
+/* A rule's strip, from a file of either kind. Of a text the names are added to those
+ * given. */
+static enum status read_rule(const char *file, struct strip *rule, struct names *names)
+{
+    struct text text;
+    enum status status;
+    if ((status = read_file(file, &text)))
+        return status;
+    if (!looks_like_text(&text)) {
+        *rule = (struct strip){ text.byte, text.length };
+        return GOOD;
+    }
+    if ((status = import_text(file, &text, rule)))
+        return status;
+    add_names(names, &text, rule);
+    return GOOD;
+}
+
 /* ---- The subcommands ---- */
 
 /* A rule and what its variables are called, from the words RULE [NAME...]. */
 static enum status read_named_rule(const struct arguments *a, struct strip *rule, struct names *names, ws2s_rule *checked)
 {
     enum status status;
-    if ((status = read_names(a, 1, names)) || (status = read_rule(a->operand[0], rule)))
+    if ((status = read_names(a, 1, names)) || (status = read_rule(a->operand[0], rule, names)))
         return status;
     *checked = ws2s_check_rule(rule->byte, rule->length);
     return checked->refusal == 0 ? too_many_names(names, checked->variables) : GOOD;
@@ -291,12 +398,12 @@ static enum status decide(const struct arguments *a)
 
 static enum status judge(const struct arguments *a)
 {
-    static const struct names names;
+    static struct names names;
     struct strip rule, report;
     enum status status;
     if (strcmp(a->operand[0], "-") == 0 && strcmp(a->operand[1], "-") == 0)
         return usage("rule and tree cannot both be standard input");
-    if ((status = read_rule(a->operand[0], &rule)) || (status = read_tree(a->operand[1], &report)))
+    if ((status = read_rule(a->operand[0], &rule, &names)) || (status = read_tree(a->operand[1], &report)))
         return status;
     size_t size = ws2s_workspace_size(ws2s_check_rule(rule.byte, rule.length), a->c);
     uint8_t *workspace = malloc(size > 0 ? size : 1);
@@ -325,7 +432,7 @@ static enum status check(const struct arguments *a)
     struct refusal refusal = { 0, 0, 0 };
     enum status status;
     if (strcmp(a->operand[0], "rule") == 0) {
-        if ((status = read_rule(a->operand[1], &strip)))
+        if ((status = read_strip_of_rule(a->operand[1], &strip)))
             return status;
         ws2s_rule r = ws2s_check_rule(strip.byte, strip.length);
         refusal.number = r.refusal, refusal.place = r.place;
@@ -376,6 +483,33 @@ static enum status tree(const struct arguments *a)
     return GOOD;
 }
 
+/* Whether both are one file. */
+static bool same_file(const char *input, const char *output)
+{
+    struct stat one, other;
+    return (strcmp(input, "-") == 0 ? fstat(0, &one) : stat(input, &one)) == 0 && stat(output, &other) == 0
+        && one.st_dev == other.st_dev && one.st_ino == other.st_ino;
+}
+
+static enum status import(const struct arguments *a)
+{
+    const char *output = a->output && strcmp(a->output, "-") != 0 ? a->output : NULL;
+    struct text text;
+    struct strip rule;
+    enum status status;
+    if (output && same_file(a->operand[0], output))
+        return usage("the strip would replace the text");
+    if ((status = read_file(a->operand[0], &text)) || (status = import_text(a->operand[0], &text, &rule)))
+        return status;
+    FILE *to = output ? fopen(output, "wb") : stdout;
+    if (!to)
+        return trouble(output);
+    bool written = fwrite(rule.byte, 1, rule.length, to) == rule.length;
+    if (output && (fclose(to) != 0 || !written))
+        return trouble(output);
+    return GOOD;
+}
+
 /* ---- The command ---- */
 
 static const struct subcommand {
@@ -388,6 +522,7 @@ static const struct subcommand {
     { "check", "", 2, 2, check },
     { "print", "", 1, 1 + WS2S_MAX_VARIABLES, print },
     { "tree", "f", 1, 1 + WS2S_MAX_VARIABLES, tree },
+    { "import", "o", 1, 1, import },
 };
 
 static enum status run(int argc, char **argv)
