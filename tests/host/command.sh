@@ -1,7 +1,8 @@
 #!/bin/sh
 # Runs the command as a person would: command.sh COMMAND, from the top of the
 # repository. Every subcommand, every form and every exit status; files that are
-# missing, folders, endless, closed; output that is closed, full or read by nobody.
+# missing, folders, endless, closed; output that is closed, full or read by nobody;
+# texts of all kinds, and where they are refused.
 # What is written to standard output and standard error is compared, byte for byte.
 # It prints what fails and a count, and ends with status 1 if anything did.
 set -u
@@ -309,15 +310,433 @@ expect 0 'yes: the tree satisfies the rule' '' judge - "$room/fits"
 refuses 3 "$room/other: refused 18 at bit 16: the tree's bits end early (after 2 bytes); the strip was cut" judge - "$room/other"
 input=
 
+# ---- texts: import
+text() { # FILE FORMAT: a file as printf writes it
+    # shellcheck disable=SC2059
+    printf "$2" >"$room/$1"
+}
+grammar='the text leaves the grammar, or nests deeper than 32' allowed='put there what the grammar allows, or nest less'
+naming='a name is not declared, declared twice, or of the wrong order' declare='declare it once, a place with var1 and a set with var2'
+
+same() { # FILE FILE WHAT: they have the same bytes
+    right=no
+    [ "$status" -eq 0 ] && cmp -s "$1" "$2" && [ ! -s "$room/err" ] && right=yes
+    verdict $right "$3"
+}
+text inside.mona 'ws2s; var1 belt, seat; belt = seat.0;'
+rule inside 2 '2 0 1' '1 0 0' '7 1 0' '1 1 0' '7 3 2'
+"$command" import "$room/inside.mona" >"$room/out" 2>"$room/err"
+status=$?
+same "$room/out" "$room/inside" 'import to standard output'
+"$command" import - -o - <"$room/inside.mona" >"$room/out" 2>"$room/err"
+status=$?
+same "$room/out" "$room/inside" 'import of standard input to standard output'
+expect 0 '' '' import "$room/inside.mona" -o "$room/made"
+same "$room/made" "$room/inside" 'import to a new file'
+printf 'a longer file that was there before, of more bytes than the strip' >"$room/made"
+expect 0 '' '' import -o "$room/made" "$room/inside.mona"
+same "$room/made" "$room/inside" 'import over a file'
+expect 0 '' '' import -o"$room/made" -- "$room/inside.mona"
+same "$room/made" "$room/inside" 'import with the option and its file in one word'
+
+# every construct, in the records' order
+text all.mona 'ws2s; var1 a; var2 A, B; var1 b;
+(~A sub B | a = b & a = b.0 => a = b.1 => a = root)
+<=> (ex1 x: x in A) & (ex2 X: X sub A) <=> (all1 y: y in B) | (all2 Y: Y sub B);'
+expect 0 'n=5
+0: A ⊆ B
+1: not 0
+2: a ⊆ b
+3: a = b 1
+4: 2 and 3
+5: 1 or 4
+6: not 5
+7: a = b 2
+8: not 7
+9: a = ε
+10: 8 or 9
+11: 6 or 10
+12: x ⊆ A
+13: Sing(x)
+14: 13 and 12
+15: exists x: 14
+16: X ⊆ A
+17: exists X: 16
+18: 15 and 17
+19: not 11
+20: not 18
+21: 19 or 18
+22: 20 or 11
+23: 21 and 22
+24: y ⊆ B
+25: not 24
+26: Sing(y)
+27: 26 and 25
+28: exists y: 27
+29: not 28
+30: Y ⊆ B
+31: not 30
+32: exists Y: 31
+33: not 32
+34: 29 or 33
+35: not 23
+36: not 34
+37: 35 or 34
+38: 36 or 23
+39: 37 and 38
+40: Sing(a)
+41: 40 and 39
+42: Sing(b)
+43: 42 and 41' '' print "$room/all.mona"
+
+# nothing is written of a text that is refused
+refused_import() { # NUMBER FILE: nothing on standard output, and no file made or changed
+    printf 'as it was' >"$room/old"
+    touch -t 200001010000 "$room/old"
+    rm -f "$room/new"
+    for to in old new; do
+        "$command" import "$room/$2" -o "$room/$to" >"$room/out" 2>"$room/err"
+        status=$?
+        right=no
+        [ $status -eq 3 ] && [ ! -s "$room/out" ] && grep -q "^ws2s: $room/$2: refused $1[ :]" "$room/err" && [ ! -e "$room/new" ] &&
+            [ "$(cat "$room/old")" = 'as it was' ] && [ -z "$(find "$room/old" -newermt 2000-01-02)" ] && right=yes
+        verdict $right "import of $2, refused $1, to a file"
+    done
+    "$command" import "$room/$2" >"$room/out" 2>"$room/err"
+    status=$?
+    right=no
+    [ $status -eq 3 ] && [ ! -s "$room/out" ] && grep -q "^ws2s: $room/$2: refused $1[ :]" "$room/err" && right=yes
+    verdict $right "import of $2, refused $1, to standard output"
+}
+
+# ---- texts: where they are refused
+at_fault() { # NUMBER LINE COLUMN FOUND SHOWN MARK: of the text in $room/fault.mona
+    case $1 in
+    23) why=$grammar helps=$allowed ;;
+    24) why=$naming helps=$declare ;;
+    25) why='a name needs a ninth variable' helps='have at most 8 names in use at once' ;;
+    esac
+    sentence="ws2s: $room/fault.mona: refused $1 at line $2, column $3: $why ($4); $helps
+    $5
+    $6"
+    expect 3 '' "$sentence" import "$room/fault.mona"
+}
+text fault.mona 'ws2s;\nvar2 Belt, Seat;\nall1 p: p in Belts => p in Seat;\n'
+at_fault 24 3 14 '`Belts`' 'all1 p: p in Belts => p in Seat;' '             ^~~~~'
+refused_import 24 fault.mona
+expect 3 '' "$sentence" decide "$room/fault.mona"
+expect 3 '' "$sentence" decide --svg "$room/fault.mona" a
+expect 3 '' "$sentence" print "$room/fault.mona"
+expect 3 '' "$sentence" judge "$room/fault.mona" "$room/tree"
+input=$room/fault.mona
+expect 3 '' "$(printf '%s' "$sentence" | sed "s|$room/fault.mona|standard input|")" print -
+input=
+text fault.mona 'ws2s; var2 A, B, A;'
+at_fault 24 1 18 '`A`' 'ws2s; var2 A, B, A;' '                 ^'
+text fault.mona 'ws2s;\r\nvar1 x;\r\n\tx sub x;\r\n'
+at_fault 24 3 2 '`x`' '	x sub x;' '	^'
+text fault.mona 'ws2s; var1 x;\n\t \tx = \ty;'
+at_fault 24 2 9 '`y`' '	 	x = 	y;' '	 	    	^'
+text fault.mona 'ws2s; var2 A, B, C, D, E, F, G, H;\nex2 I: I sub A;\n'
+at_fault 25 2 5 '`I`' 'ex2 I: I sub A;' '    ^'
+refused_import 25 fault.mona
+text fault.mona 'ws2s; var1 a, b, c; var2 D, E, F, G, H, Ninth;\na = b;\n'
+at_fault 25 1 41 '`Ninth`' 'ws2s; var1 a, b, c; var2 D, E, F, G, H, Ninth;' '                                        ^~~~~'
+text fault.mona 'ws2s;\nvar2 X;\nX sub X <= X sub X;\n'
+at_fault 23 3 9 '`<`' 'X sub X <= X sub X;' '        ^'
+refused_import 23 fault.mona
+text fault.mona 'ws2s;\nvar2 X;\nX sub X =>=> X sub X;\n'
+at_fault 23 3 11 '`=>`' 'X sub X =>=> X sub X;' '          ^~'
+text fault.mona 'ws2s;\nvar2 X;\nX sub X <=>\n<=> X sub X;\n'
+at_fault 23 4 1 '`<=>`' '<=> X sub X;' '^~~'
+text fault.mona 'ws2s;\nvar1 x;\nx = x.0.1;\n'
+at_fault 23 3 8 '`.1`' 'x = x.0.1;' '       ^~'
+text fault.mona 'var2 X; X sub X;'
+at_fault 23 1 1 '`var2`' 'var2 X; X sub X;' '^~~~'
+text fault.mona 'ws2s; ex1x: x = x;'
+at_fault 24 1 7 '`ex1x`' 'ws2s; ex1x: x = x;' '      ^~~~'
+text fault.mona 'ws2s; var2 X; X sub X; X sub X;'
+at_fault 23 1 24 '`X`' 'ws2s; var2 X; X sub X; X sub X;' '                       ^'
+
+# the end of the text: where the last token ends
+text fault.mona 'ws2s;\nvar2 X;\nX sub X\n'
+at_fault 23 3 8 'the text ends here' 'X sub X' '       ^'
+text fault.mona 'ws2s; var2 X; X sub X'
+at_fault 23 1 22 'the text ends here' 'ws2s; var2 X; X sub X' '                     ^'
+text fault.mona 'ws2s; var2 X;\r\nX sub X\t\r\n\r\n \r\n'
+at_fault 23 2 8 'the text ends here' 'X sub X	' '       ^'
+text fault.mona 'ws'
+at_fault 23 1 1 '`ws`' ws '^~'
+text fault.mona '\n\n\t'
+at_fault 23 1 1 'the text ends here' '' '^'
+text fault.mona ''
+at_fault 23 1 1 'the text is empty' '' '^'
+refused_import 23 fault.mona
+text fault.mona 'ws2s'
+at_fault 23 1 5 'the text ends here' ws2s '    ^'
+
+# bytes of all kinds: what would move the cursor is not sent to the terminal, and no sign that takes no width
+text fault.mona 'ws2s;\nvar2 X\000Y;\n'
+at_fault 23 2 7 'byte 0x00' 'var2 X?Y;' '      ^'
+text fault.mona 'ws2s; var2 X;\nX \033[31m sub X;\a\n'
+at_fault 23 2 3 'byte 0x1B' 'X ?[31m sub X;?' '  ^'
+text fault.mona 'ws2s; var2 X;\rX \013 sub\r X; \302\205 \377 \342\200\256 \r\n'
+at_fault 23 1 17 'byte 0x0B' 'ws2s; var2 X; X ? sub  X; ? ? ? ' '                ^'
+text fault.mona 'ws2s;\n\tvar2 S\303\244tze;\n'
+at_fault 23 2 8 '`ä`, byte 0xC3' '	var2 Sätze;' '	      ^'
+text fault.mona 'ws2s; var2 X; X sub X ∧ X sub X; \342\200\213\n'
+at_fault 23 1 23 '`∧`, byte 0xE2' 'ws2s; var2 X; X sub X ∧ X sub X; ?' '                      ^'
+text fault.mona 'ws2s; var2 X; X \342\200\213sub X;\n'
+at_fault 23 1 17 'byte 0xE2' 'ws2s; var2 X; X ?sub X;' '                ^'
+text fault.mona 'ws2s; var2 X; X \342\200'
+at_fault 23 1 17 'byte 0xE2' 'ws2s; var2 X; X ??' '                ^'
+text fault.mona 'ws2s; var2 X; X _ sub;'
+at_fault 23 1 17 '`_`' 'ws2s; var2 X; X _ sub;' '                ^'
+text fault.mona '\357\273\277ws2s; var2 X; X sub X;\n'
+at_fault 23 1 1 'the file begins with a byte order mark: save it without one' '?ws2s; var2 X; X sub X;' '^'
+expect 3 '' "$sentence" decide "$room/fault.mona"
+text fault.mona '\377\376w\000s\0002\000s\000;\000'
+at_fault 23 1 1 'the file is in UTF-16: save it as UTF-8' '??w?s?2?s?;?' '^'
+expect 3 '' "$sentence" decide "$room/fault.mona"
+text fault.mona '\376\377\000w\000s\0002\000s\000;'
+at_fault 23 1 1 'the file is in UTF-16: save it as UTF-8' '???w?s?2?s?;' '^'
+expect 3 '' "$sentence" print "$room/fault.mona"
+
+# long lines are cut around the token, and long words
+row() { # COUNT WORD: the word so often
+    awk -v count="$1" -v word="$2" 'BEGIN { while (count-- > 0) printf "%s", word }'
+}
+text fault.mona "ws2s; var2 X; $(row 20 'X sub X & ')Y sub X & $(row 20 'X sub X & ')X sub X;\\n"
+at_fault 24 1 215 '`Y`' '...b X & X sub X & X sub X & X sub X & Y sub X & X sub X & X sub X & X sub ...' "   $(row 36 ' ')^"
+text fault.mona "ws2s; var2 X; $(row 5 'X sub X & ')Long sub X & $(row 20 'X sub X & ')X sub X;\\n"
+at_fault 24 1 65 '`Long`' 'ws2s; var2 X; X sub X & X sub X & X sub X & X sub X & X sub X & Long sub...' "$(row 64 ' ')^~~~"
+text fault.mona "ws2s; var2 X; $(row 5 'X sub X & ')TooLong99 sub X;\\n"
+at_fault 24 1 65 '`TooLong99`' '...b X & X sub X & X sub X & X sub X & TooLong99 sub X;' "   $(row 36 ' ')^~~~~~~~~"
+text fault.mona "ws2s; var2 X; $(row 50 a) sub X;"
+at_fault 24 1 15 "\`$(row 40 a)...\`" "ws2s; var2 X; $(row 50 a) sub X;" "              ^$(row 49 '~')"
+text fault.mona "ws2s; var2 X; $(row 40 a) sub X;"
+at_fault 24 1 15 "\`$(row 40 a)\`" "ws2s; var2 X; $(row 40 a) sub X;" "              ^$(row 39 '~')"
+text fault.mona "ws2s; var2 X; $(row 90 a) sub X;"
+at_fault 24 1 15 "\`$(row 40 a)...\`" "ws2s; var2 X; $(row 58 a)..." "              ^$(row 57 '~')"
+{ printf 'ws2s; var2 X; X sub X\n& ' && head -c 1048576 /dev/zero | tr '\000' a && printf ' sub X;\n'; } >"$room/fault.mona"
+at_fault 24 2 3 "\`$(row 40 a)...\`" "& $(row 70 a)..." "  ^$(row 69 '~')"
+{ printf 'ws2s; var2 X; X sub' && head -c 1048576 /dev/zero | tr '\000' ' ' && printf 'Y;'; } >"$room/fault.mona"
+at_fault 24 1 1048596 '`Y`' "...$(row 36 ' ')Y;" "   $(row 36 ' ')^"
+{ head -c 1048576 /dev/zero | tr '\000' '\n' && printf ' ws2s; var2 X; X sub Y;'; } >"$room/fault.mona"
+at_fault 24 1048577 22 '`Y`' ' ws2s; var2 X; X sub Y;' '                     ^'
+
+# long texts: names of a MiB, and as much between tokens
+head -c 1048576 /dev/zero | tr '\000' a >"$room/name"
+{ printf 'ws2s; var2 ' && cat "$room/name" && printf ', B; B sub\n\t' && cat "$room/name" && printf ';'; } >"$room/long.mona"
+"$command" print "$room/long.mona" >"$room/out" 2>"$room/err"
+status=$?
+{ printf 'n=2\n0: B ⊆ ' && cat "$room/name" && echo; } >"$room/wanted"
+same "$room/out" "$room/wanted" 'print of a name of a MiB'
+{ echo && tr a ' ' <"$room/name" && cat "$room/inside.mona" && tr a '\t' <"$room/name"; } >"$room/blank.mona"
+expect 0 12B800 '' decide --hex "$room/blank.mona"
+"$command" import "$room/blank.mona" >"$room/out" 2>"$room/err"
+status=$?
+same "$room/out" "$room/inside" 'import of a MiB of blanks'
+for blanks in 283 284 285 286 287 288 289 290 291 292 293 581 582 583; do # the word ws2s at the end of what is read first
+    { head -c $blanks /dev/zero | tr '\000' ' ' && cat "$room/inside.mona"; } >"$room/blank.mona"
+    expect 0 12B800 '' decide --hex "$room/blank.mona"
+done
+
+# too many records: no token, no line
+text fault.mona "ws2s; var2 X; X sub X$(row 64 ' \\046 X sub X');"
+expect 3 '' "ws2s: $room/fault.mona: refused 26: the text makes more than 128 records; split it" import "$room/fault.mona"
+refused_import 26 fault.mona
+text fault.mona "ws2s; var2 X; X sub X$(row 63 ' \\046 X sub X');"
+expect 0 'shown: 0 places, 1 state
+(the empty tree)' '' decide "$room/fault.mona"
+text fault.mona "ws2s; var2 X; $(row 33 '(')X sub X$(row 33 ')');"
+at_fault 23 1 47 '`(`' "ws2s; var2 X; $(row 33 '(')X sub X$(row 18 ')')..." "$(row 46 ' ')^"
+text fault.mona "ws2s; var2 X; $(row 32 '(')X sub X$(row 32 ')');"
+expect 0 'n=1
+0: X ⊆ X' '' print "$room/fault.mona"
+
+# ---- texts: their names
+expect 0 'shown: 2 places, 11 states
+seat
+  belt' '' decide "$room/inside.mona"
+expect 0 'shown: 2 places, 11 states
+Sitz
+  belt' '' decide "$room/inside.mona" belt Sitz
+expect 0 'shown: 2 places, 11 states
+seat
+  Gurt' '' decide "$room/inside.mona" Gurt
+refuses 64 'there are more names than variables' decide "$room/inside.mona" a b c
+refuses 64 'there are more names than variables' print "$room/inside.mona" a b c
+expect 0 'digraph tree {
+    node [shape=box, style=rounded, fontname="sans-serif"];
+    n0 [label="seat"];
+    n1 [label="belt"];
+    n0 -> n1;
+}' '' decide --dot "$room/inside.mona"
+expect 0 "$("$command" decide --svg "$room/inside" belt seat)" '' decide --svg "$room/inside.mona"
+expect 0 12B800 '' decide --hex "$room/inside.mona"
+input=$room/inside.mona
+expect 0 'shown: 2 places, 11 states
+seat
+  belt' '' decide -
+expect 0 'yes: the tree satisfies the rule' '' judge - "$room/fits"
+input=
+expect 0 'yes: the tree satisfies the rule' '' judge "$room/inside.mona" "$room/fits"
+printf '\022\254\000' >"$room/beside"
+expect 1 'no: the tree does not satisfy the rule' '' judge "$room/inside.mona" "$room/beside"
+expect 3 '' "ws2s: $room/empty: refused 22: tree and rule have different numbers of variables; give the tree the rule's number" judge "$room/inside.mona" "$room/empty"
+expect 2 'larger: finite sets satisfy the rule, but all of them take more than 1 place' '' decide -p 1 "$room/inside.mona"
+text none.mona 'ws2s; var1 x; x = x.0;'
+expect 1 'none: no finite sets satisfy the rule' '' decide "$room/none.mona"
+
+# a hidden name is told apart by its number; one number may have a name in each scope
+text names.mona 'ws2s; var1 x; var2 Set;
+(ex1 y: y = x.0 & (ex1 x: x = y.1 & x in Set)) & (all1 z: z in Set => (ex2 y: y sub Set))
+& (ex1 only: only = root) & (ex1 only: only in Set);'
+expect 0 'n=4
+0: y_2 = x 1
+1: x_3 = y_2 2
+2: x_3 ⊆ Set
+3: 1 and 2
+4: Sing(x_3)
+5: 4 and 3
+6: exists x_3: 5
+7: 0 and 6
+8: Sing(y_2)
+9: 8 and 7
+10: exists y_2: 9
+11: z ⊆ Set
+12: not 11
+13: y_3 ⊆ Set
+14: exists y_3: 13
+15: 12 or 14
+16: not 15
+17: Sing(z)
+18: 17 and 16
+19: exists z: 18
+20: not 19
+21: 10 and 20
+22: only = ε
+23: Sing(only)
+24: 23 and 22
+25: exists only: 24
+26: 21 and 25
+27: only ⊆ Set
+28: Sing(only)
+29: 28 and 27
+30: exists only: 29
+31: 26 and 30
+32: Sing(x)
+33: 32 and 31' '' print "$room/names.mona"
+"$command" import "$room/names.mona" >"$room/names"
+expect 0 "$("$command" print "$room/names" a b c d)" '' print "$room/names.mona" a b c d
+expect 0 "$("$command" print "$room/names")" '' print "$room/names.mona" X0 X1 X2 X3
+text names.mona 'ws2s; ex1 x: all1 y: ex2 Z: x in Z <=> y in Z;'
+expect 0 'n=3
+0: x ⊆ Z
+1: y ⊆ Z
+2: not 0
+3: not 1
+4: 2 or 1
+5: 3 or 0
+6: 4 and 5
+7: exists Z: 6
+8: not 7
+9: Sing(y)
+10: 9 and 8
+11: exists y: 10
+12: not 11
+13: Sing(x)
+14: 13 and 12
+15: exists x: 14' '' print "$room/names.mona"
+text names.mona 'ws2s; var2 ex, var, ws2, Sub, all3;var1 ex3;var2 in2\r\n;~(ex sub var=>ws2 sub Sub)<=>all3 sub in2|(ex1 ex12:ex12=ex3.0);'
+"$command" print "$room/names.mona" >"$room/out" 2>"$room/err"
+status=$?
+[ $status -eq 0 ] && [ "$(sed -n '1p; 2p; 4p; /ex12/p' "$room/out")" = 'n=8
+0: ex ⊆ var
+2: ws2 ⊆ Sub
+6: ex12 = ex3 1
+7: Sing(ex12)
+9: exists ex12: 8' ] && right=yes || right=no
+verdict $right 'names that begin as other words do'
+
+# 14 names the record as the text does
+many='a record needs more than c states' simplify='; raise c, at most to 64, or simplify that record'
+expect 3 '' "ws2s: $room/inside.mona: refused 14: $many (record 4: 3 and 2)$simplify" decide -c 10 "$room/inside.mona"
+expect 3 '' "ws2s: $room/inside.mona: refused 14: $many (record 0: belt = seat 1)$simplify" decide -c 3 "$room/inside.mona"
+expect 3 '' "ws2s: $room/inside.mona: refused 14: $many (record 0: belt = seat 1)$simplify" \
+    judge -c 3 "$room/inside.mona" "$room/fits"
+expect 3 '' "ws2s: $room/inside.mona: refused 14: $many (record 0: a = seat 1)$simplify" decide -c 3 "$room/inside.mona" a
+expect 3 '' "ws2s: $room/inside.mona: refused 11: a ceiling is out of range; c from 1 to 64, P at most 255" decide -c 65 "$room/inside.mona"
+text fault.mona 'ws2s; var2 A, B, C, D, E, F; ex1 p: p in A & p in B & p in C & p in D & p in E & (ex1 q: q = p.0 & q in F) & (ex1 q: q = p.1 & ~(q in F));'
+refuses 3 "$room/fault.mona: refused 14: $many (record " decide "$room/fault.mona"
+
+# ---- texts and strips are told apart
+taken() { # NUMBER FILE: the refusal by which it is told, of decide, judge and print
+    for words in "decide $room/$2" "judge $room/$2 $room/fits" "print $room/$2"; do
+        # shellcheck disable=SC2086
+        "$command" $words >"$room/out" 2>"$room/err"
+        status=$?
+        right=no
+        [ $status -eq 3 ] && grep -q "^ws2s: $room/$2: refused $1[ :]" "$room/err" && right=yes
+        verdict $right "$words: expected refused $1"
+    done
+}
+text odd '# a comment\nws2s; var2 X; X sub X;\n'
+taken 23 odd
+text odd '(X sub X);'
+taken 23 odd
+text odd '\304\215'
+taken 23 odd
+text odd '"ws2s";\r\n'
+taken 23 odd
+text odd '\n'
+taken 23 odd
+text odd 'ws2s;\000\001\002'
+taken 23 odd
+text odd ' \t\r\nws2s\177'
+taken 23 odd
+text odd ''
+taken 1 odd
+text odd '\022'
+taken 1 odd
+text odd '\042\001\040\000\100'
+taken 2 odd
+text odd 'w\001\040\000\100'
+taken 2 odd
+text odd 'Belt\177'
+taken 2 odd
+text odd '\021w'
+taken 5 odd
+refuses 3 "refused 2 at bit 0: the rule's version is not 1 (byte 0, bit 0, counted from 0 and from the left: it says 7)" check rule "$room/inside.mona"
+expect 3 '' "ws2s: $samples/first_inside.rul: refused 23 at line 1, column 1: $grammar (byte 0x12); $allowed
+    ?? ?@
+    ^" import $samples/first_inside.rul
+input=/dev/zero
+expect 3 '' "ws2s: standard input: refused 23 at line 1, column 1: $grammar (byte 0x00); $allowed
+    $(row 72 '?')...
+    ^" import -
+input=
+yes 'not a rule' 2>/dev/null | "$command" decide - >"$room/out" 2>"$room/err"
+status=$?
+[ $status -eq 3 ] && grep -qF "standard input: refused 23 at line 1, column 1: $grammar (\`not\`)" "$room/err" && right=yes || right=no
+verdict $right 'decide of endless lines that begin no text'
+{ cat "$room/inside.mona" && cat $samples/first_inside.rul; } >"$room/fault.mona"
+at_fault 23 1 38 'byte 0x12' 'ws2s; var1 belt, seat; belt = seat.0;?? ?@' "$(row 37 ' ')^"
+
 # ---- a wrong command line
 for words in '' 'frobnicate' 'decide' 'decide --frob x' 'decide -c x' 'decide -c' 'decide -p 1x' 'decide -c -1 x' 'decide --hex --svg x' \
     'judge x' 'judge x y z' 'judge -p 1 x y' 'judge --hex x y' 'judge - -' 'check' 'check rule' 'check leaf x' 'check rule x y' 'check -c 1 rule x' \
+    'import' 'import x y' 'import x -o' 'import -o x' 'import -c 1 x' 'import --hex x' 'import x -o y -o z' 'decide -o x y' 'print -o x y' 'check -o x rule y' \
     'print' 'print --hex x' 'print -c 1 x' 'tree' 'tree --strip x' 'tree -p 1 x' 'decide x 1 2 3 4 5 6 7 8 9' 'tree x 1 2 3 4 5 6 7 8 9 10 11' '-x'; do
     # shellcheck disable=SC2086
     refuses 64 'ws2s --help says how it is used' $words
 done
 refuses 64 '-c and -p take a number' decide -c
 refuses 64 'there is no such option' decide --frob x
+refuses 64 '-o takes a file' import x -o
+refuses 64 '-o is for another subcommand' decide -o x y
+refuses 64 'one file can be written at a time' import x -o y -o z
 refuses 64 'the form is for another subcommand' tree --strip x
 refuses 64 'there are more names than variables' decide $samples/first_inside.rul a b c
 refuses 64 'there are more names than variables' print $samples/one_part.rul a b
@@ -333,7 +752,7 @@ expect 0 'shown: 1 place, 3 states
 
 # ---- help
 "$command" --help >"$room/help" && [ "$(wc -l <"$room/help")" -gt 20 ] || { echo 'no help'; failed=$((failed + 1)); }
-for words in -h help 'decide --help' 'judge -h x' 'tree --help'; do
+for words in -h help 'decide --help' 'judge -h x' 'tree --help' 'import --help'; do
     # shellcheck disable=SC2086
     expect 0 "$(cat "$room/help")" '' $words
 done
@@ -348,7 +767,24 @@ refuses 74 "$room/missing: No such file" check tree "$room/missing"
 refuses 74 "$room: Is a directory" print "$room"
 input=$room
 refuses 74 'standard input: Is a directory' check rule -
+refuses 74 'standard input: Is a directory' decide -
+refuses 74 'standard input: Is a directory' import -
 input=
+refuses 74 "$room/missing: No such file or directory" import "$room/missing"
+refuses 74 "$room: Is a directory" import "$room"
+refuses 74 "$room: Is a directory" import "$room/inside.mona" -o "$room"
+refuses 74 "$room/missing/made: No such file or directory" import "$room/inside.mona" -o "$room/missing/made"
+refuses 74 '/dev/full: No space left on device' import "$room/inside.mona" -o /dev/full
+# a text is not overwritten by its own strip
+cp "$room/inside.mona" "$room/own.mona" && ln -s own.mona "$room/link"
+for to in own.mona link ./own.mona; do
+    refuses 64 'the strip would replace the text' import "$room/own.mona" -o "$room/$to"
+done
+input=$room/own.mona
+refuses 64 'the strip would replace the text' import - -o "$room/own.mona"
+input=
+cmp -s "$room/inside.mona" "$room/own.mona" && right=yes || right=no
+verdict $right 'the text is as it was'
 
 told() { # WHAT STATUS: standard error has this, once
     right=no
@@ -358,7 +794,7 @@ told() { # WHAT STATUS: standard error has this, once
 : >"$room/out"
 for words in "decide $samples/first_inside.rul" "decide --svg $samples/first_inside.rul" "decide --strip $samples/first_inside.rul" \
     "decide $samples/kinds_in_a_circle.rul" "decide -p 1 $samples/first_inside.rul" "judge $samples/crash_report.rul $room/tree" \
-    "check rule $samples/one_part.rul" "print $samples/one_part.rul" "print $samples/cut_short.rul" "tree $room/tree" '--help' '--version'; do
+    "import $room/inside.mona" "print $room/inside.mona" "check rule $samples/one_part.rul" "print $samples/one_part.rul" "print $samples/cut_short.rul" "tree $room/tree" '--help' '--version'; do
     # shellcheck disable=SC2086
     "$command" $words >/dev/full 2>"$room/err"
     status=$?
