@@ -1,13 +1,16 @@
-/* Runs the command on strips made at random, whole and damaged, in processes of
- * its own, built so that whatever is undefined ends it:
+/* Runs the command on strips and texts made at random, whole and damaged, in
+ * processes of its own, built so that whatever is undefined ends it:
  *
  *     command [SEED [STRIPS]]
  *
  * Its status must be the one that the library's answer has, for every subcommand
  * and form, and a refusal's sentence must begin with the library's number and
  * place; of a rule with a bad record, print must mark the first, with the place of
- * the field that was made bad. The same seed makes the same strips. It prints what fails and a count, and ends with status 1
- * if anything did. */
+ * the field that was made bad. Of a text that is refused the sentence must have the
+ * line and column of the library's token, and the mark must stand under it; nothing
+ * may be written. Of one that is accepted the strip must be the library's, and the
+ * names in it those that were put there. The same seed makes the same strips and
+ * texts. It prints what fails and a count, and ends with status 1 if anything did. */
 #define _DEFAULT_SOURCE
 #include "strip.h"
 #include "ws2s.h"
@@ -118,23 +121,31 @@ static void damage(struct strip *s)
 
 /* ---- The command ---- */
 
-static char room[64], rule_name[80], tree_name[80], out_name[80], err_name[80], said[1 << 16], complained[1 << 12];
-static unsigned long passed, failed;
+static char room[64], rule_name[80], tree_name[80], text_name[80], made_name[80], out_name[80], err_name[80];
+static char said[1 << 16], complained[1 << 13];
+static size_t said_length;
+static unsigned long passed, failed, accepted, refused;
 
-static void save(const char *name, const struct strip *s)
+static void save_bytes(const char *name, const void *bytes, size_t length)
 {
     FILE *file = fopen(name, "wb");
-    if (!file || fwrite(s->byte, 1, s->length, file) != s->length || fclose(file) != 0)
+    if (!file || fwrite(bytes, 1, length, file) != length || fclose(file) != 0)
         exit(2);
 }
 
-static void load(const char *name, char *text, size_t room_for)
+static void save(const char *name, const struct strip *s)
+{
+    save_bytes(name, s->byte, s->length);
+}
+
+static size_t load(const char *name, char *text, size_t room_for)
 {
     FILE *file = fopen(name, "r");
     size_t length = file ? fread(text, 1, room_for - 1, file) : 0;
     text[length] = 0;
     if (file)
         fclose(file);
+    return length;
 }
 
 /* The status of the command; what it wrote is in "said" and "complained". */
@@ -155,7 +166,7 @@ static int run(char **words)
     }
     if (waitpid(child, &status, 0) != child)
         exit(2);
-    load(out_name, said, sizeof said);
+    said_length = load(out_name, said, sizeof said);
     load(err_name, complained, sizeof complained);
     return WIFEXITED(status) ? WEXITSTATUS(status) : BROKEN;
 }
@@ -179,6 +190,21 @@ static bool has_place(uint64_t refusal)
 {
     return refusal <= WS2S_REFUSED_UNUSED
         || (refusal >= WS2S_REFUSED_TREE_SHORT && refusal <= WS2S_REFUSED_TREE_LEFT_OVER);
+}
+
+/* Whether decide, judge and print take a file for a text: it begins with blanks and
+ * ws2s, or with no more than a part of that, or it has no control character, of its
+ * first 291 bytes, or it begins with a mark of UTF-16. An empty one is a strip. */
+static bool taken_for_text(const uint8_t *byte, size_t length)
+{
+    size_t seen = length < WS2S_MAX_RULE_BYTES + 1 ? length : WS2S_MAX_RULE_BYTES + 1, at = 0, controls = 0, rest;
+    for (size_t i = 0; i < seen; i++)
+        controls += byte[i] == 127 || (byte[i] < 32 && byte[i] != 9 && byte[i] != 10 && byte[i] != 13);
+    while (at < seen && (byte[at] == 32 || byte[at] == 9 || byte[at] == 10 || byte[at] == 13))
+        at++;
+    rest = seen - at < 4 ? seen - at : 4;
+    return seen > 0 && (controls == 0 || memcmp(byte + at, "ws2s", rest) == 0
+                        || (seen > 1 && byte[0] + byte[1] == 0xFF + 0xFE && (byte[0] == 0xFF || byte[1] == 0xFF)));
 }
 
 /* The status, and the sentence if it is to be refused: of a longer rule the command
@@ -225,6 +251,8 @@ static void try_rule(const struct strip *s, const struct bad *bad)
     int status = checked.refusal == 0 ? 0 : 3;
     save(rule_name, s);
     expect(status, checked.refusal, checked.place, WORDS((char *)"check", (char *)"rule", rule_name), s);
+    if (taken_for_text(s->byte, s->length))
+        return;
     expect(status, checked.refusal, checked.place, WORDS((char *)"print", rule_name), s);
     try_mark(s, bad, checked.refusal);
     expect(statuses[v.kind], v.refusal, v.place,
@@ -241,12 +269,318 @@ static void try_tree(const struct strip *rule, const struct strip *s)
     save(tree_name, s);
     expect(status, checked.refusal, checked.place, WORDS((char *)"check", (char *)"tree", tree_name), s);
     expect(status, checked.refusal, checked.place, WORDS((char *)"tree", tree_name, forms[below(4)]), s);
-    expect(statuses[j.kind], j.refusal, j.place, WORDS((char *)"judge", (char *)"-c", (char *)"4", rule_name, tree_name), s);
+    if (!taken_for_text(rule->byte, rule->length))
+        expect(statuses[j.kind], j.refusal, j.place, WORDS((char *)"judge", (char *)"-c", (char *)"4", rule_name, tree_name), s);
+}
+
+/* ---- Texts ---- */
+
+enum { MOST_TEXT = 1 << 13, MOST_NAMES = 200 };
+
+/* A text, and its names: each is given to one variable alone, whose number it has. */
+struct text {
+    uint8_t byte[MOST_TEXT];
+    size_t length;
+    unsigned names, number[MOST_NAMES], in_use, used[WS2S_MAX_VARIABLES];
+    bool place[MOST_NAMES];
+};
+
+static void add(struct text *t, const char *token)
+{
+    static const char *const blanks[] = { " ", "\n", "\t", "\r\n", "  ", "\r" };
+    size_t length = strlen(token);
+    if (t->length + length + 2 > MOST_TEXT)
+        exit(2);
+    memcpy(t->byte + t->length, token, length);
+    t->length += length;
+    const char *blank = blanks[below(4) ? 0 : below(6)];
+    memcpy(t->byte + t->length, blank, strlen(blank));
+    t->length += strlen(blank);
+}
+
+static void add_name(struct text *t, unsigned name)
+{
+    char word[16];
+    snprintf(word, sizeof word, "%s%u", t->place[name] ? "p" : "S", name);
+    add(t, word);
+}
+
+/* A name that is new and in use from here on. */
+static void new_name(struct text *t, bool place)
+{
+    t->number[t->names] = t->in_use;
+    t->place[t->names] = place;
+    t->used[t->in_use++] = t->names;
+    add_name(t, t->names++);
+}
+
+/* A name in use, of a place or of a set; false if there is none. */
+static bool old_name(const struct text *t, bool place, unsigned *name)
+{
+    unsigned start = t->in_use > 0 ? below(t->in_use) : 0;
+    for (unsigned i = 0; i < t->in_use; i++) {
+        *name = t->used[(start + i) % t->in_use];
+        if (t->place[*name] == place)
+            return true;
+    }
+    return false;
+}
+
+static void make_atom(struct text *t)
+{
+    static const char *const branches[] = { "", ".0", ".1" };
+    unsigned place, other, set;
+    bool has_place = old_name(t, true, &place), has_set = old_name(t, false, &set);
+    if (has_set && (!has_place || below(3) == 0)) {
+        add_name(t, set);
+        add(t, "sub");
+        old_name(t, false, &set);
+        add_name(t, set);
+        return;
+    }
+    add_name(t, place);
+    if (has_set && below(2)) {
+        add(t, "in");
+        add_name(t, set);
+        return;
+    }
+    add(t, "=");
+    old_name(t, true, &other);
+    if (below(4) == 0) {
+        add(t, "root");
+        return;
+    }
+    add_name(t, other);
+    add(t, branches[below(3)]);
+}
+
+static void make_formula(struct text *t, unsigned size)
+{
+    static const char *const joining[] = { "&", "|", "=>", "<=>" }, *const binding[] = { "ex1", "all1", "ex2", "all2" };
+    if (t->in_use == 0 || (t->in_use < WS2S_MAX_VARIABLES && size > 0 && below(3) == 0)) {
+        unsigned kind = below(4), before = t->in_use;
+        add(t, binding[kind]);
+        new_name(t, kind < 2);
+        add(t, ":");
+        make_formula(t, size > 0 ? size - 1 : 0);
+        t->in_use = before;
+    } else if (size == 0) {
+        make_atom(t);
+    } else if (below(4) == 0) {
+        add(t, "~(");
+        make_formula(t, size - 1);
+        add(t, ")");
+    } else {
+        add(t, "(");
+        make_formula(t, below(size));
+        add(t, ")");
+        add(t, joining[below(4)]);
+        add(t, "(");
+        make_formula(t, size - 1);
+        add(t, ")");
+    }
+}
+
+static void make_text(struct text *t)
+{
+    memset(t, 0, sizeof *t);
+    add(t, "ws2s");
+    add(t, ";");
+    for (unsigned declarations = below(4); declarations > 0 && t->in_use < 5; declarations--) {
+        bool place = below(2);
+        add(t, place ? "var1" : "var2");
+        new_name(t, place);
+        while (t->in_use < 6 && below(3) == 0) {
+            add(t, ",");
+            new_name(t, place);
+        }
+        add(t, ";");
+    }
+    make_formula(t, below(8));
+    add(t, ";");
+}
+
+static void damage_text(struct text *t)
+{
+    static const char *const pieces[] = { "x", "X sub", " = ", "(", ")", "~", ";", ",", ":", ".0", ".1", ".", "<", "<=>", "ex1 ", "root",
+        "\xC3\xA9", "\xE2\x80\x8B", "\xFF", "\033[2J", "_", "7", "var1 ", "ws2s", "\n", "\r\n", "\t", "notAName" };
+    size_t at = below((unsigned)t->length + 1), length, gone;
+    switch (below(5)) {
+    case 0:
+        t->length = at;
+        break;
+    case 1:
+        if (at < t->length)
+            t->byte[at] = (uint8_t)below(256);
+        break;
+    case 2:
+        gone = below(12);
+        if (at + gone <= t->length) {
+            memmove(t->byte + at, t->byte + at + gone, t->length - at - gone);
+            t->length -= gone;
+        }
+        break;
+    default: {
+        const char *piece = pieces[below(sizeof pieces / sizeof pieces[0])];
+        length = strlen(piece);
+        if (t->length + length + 4 > MOST_TEXT)
+            return;
+        memmove(t->byte + at + length, t->byte + at, t->length - at);
+        memcpy(t->byte + at, piece, length);
+        t->length += length;
+    }
+    }
+}
+
+static void count_text(bool right, char **words, int status, const struct text *t)
+{
+    if (right) {
+        passed++;
+        return;
+    }
+    failed++;
+    for (int i = 0; words[i]; i++)
+        printf("%s ", words[i]);
+    printf(": status %d, for the text\n", status);
+    fwrite(t->byte, 1, t->length, stdout);
+    printf("\nsaid\n%s\n%s\n", said, complained);
+}
+
+static bool between_tokens(uint8_t byte)
+{
+    return byte == ' ' || byte == '\t' || byte == '\r' || byte == '\n';
+}
+
+/* What the command may show for a byte of the text; of one above 127 that byte. */
+static bool shows(char shown, uint8_t byte)
+{
+    if (byte == '\r' || byte == '\t' || (byte >= 32 && byte < 127))
+        return shown == (byte == '\r' ? ' ' : (char)byte);
+    return shown == '?' || (byte > 127 && (uint8_t)shown == byte);
+}
+
+/* The line that is shown and the mark below it, which is under the token: from
+ * there back and for the token itself the line has the text's bytes. */
+static bool marks(const struct text *t, const ws2s_fault *fault, size_t at, const char *line, const char *mark)
+{
+    size_t before = strspn(mark, " \t"), long_mark = 1 + strspn(mark + before + (mark[before] != 0), "~");
+    size_t length = (size_t)(mark - line) - 1, back = 0;
+    bool cut = strncmp(line, "    ...", 7) == 0;
+    if (mark[before] != '^' || strcmp(mark + before + long_mark, "\n") != 0 || long_mark != (fault->length > 0 ? fault->length : 1))
+        return false;
+    for (; back < before - (cut ? 7 : 4); back++)
+        if (at == back || !shows(line[before - back - 1], t->byte[at - back - 1]) || (mark[before - back - 1] == '\t') != (line[before - back - 1] == '\t'))
+            return false;
+    if (!cut && at > back && t->byte[at - back - 1] != '\n')
+        return false;
+    if (fault->length == 0)
+        return strspn(line + before, " \t\n") >= length - before + 1;
+    for (size_t i = 0; i < fault->length; i++)
+        if (before + i >= length || !shows(line[before + i], t->byte[at + i]))
+            return false;
+    return true;
+}
+
+/* The sentence has the number, line and column, and the mark is right. */
+static bool complains_right(const struct text *t)
+{
+    ws2s_fault fault = ws2s_text_fault(t->byte, t->length);
+    size_t at = fault.start, line = 1, column = 1;
+    char start[160];
+    for (const char *c = complained; *c; c++)
+        if (((uint8_t)*c < 32 && *c != '\n' && *c != '\t') || *c == 127)
+            return false;
+    const char *shown = strchr(complained, '\n'), *mark = shown ? strchr(shown + 1, '\n') : NULL;
+    if (fault.refusal == WS2S_REFUSED_TEXT_RECORDS) {
+        snprintf(start, sizeof start, "ws2s: %s: refused 26: ", text_name);
+        return strncmp(complained, start, strlen(start)) == 0 && shown && shown[1] == 0;
+    }
+    if (at == t->length) /* the end of the text is told where its last token ends */
+        while (at > 0 && between_tokens(t->byte[at - 1]))
+            at--;
+    for (size_t i = 0; i < at; i++)
+        if (t->byte[i] == '\n')
+            line++, column = 1;
+        else
+            column++;
+    snprintf(start, sizeof start, "ws2s: %s: refused %d at line %zu, column %zu: ", text_name, (int)fault.refusal, line, column);
+    return strncmp(complained, start, strlen(start)) == 0 && mark && marks(t, &fault, at, shown + 1, mark + 1);
+}
+
+/* Each name in what was said by its variable's number. */
+static void number_names(const struct text *t, char *listing, size_t room_for)
+{
+    size_t length = 0;
+    for (const char *c = said; *c && length + 16 < room_for;) {
+        char *end;
+        unsigned long name = (*c == 'p' || *c == 'S') && c[1] >= '0' && c[1] <= '9' ? strtoul(c + 1, &end, 10) : MOST_NAMES;
+        if (name < t->names && t->place[name] == (*c == 'p')) {
+            length += (size_t)sprintf(listing + length, "X%u", t->number[name]);
+            c = end;
+        } else {
+            listing[length++] = *c++;
+        }
+    }
+    listing[length] = 0;
+}
+
+/* "whole" says that the text is as it was made, with each name for one variable. */
+static void try_text(const struct text *t, bool whole)
+{
+    static char numbered[sizeof said], of_strip[sizeof said], made[400];
+    static uint8_t workspace[128 << 8 << 2 << 2], tree[WS2S_MAX_TREE_BYTES];
+    static const int statuses[] = { [WS2S_SHOWN] = 0, [WS2S_NONE] = 1, [WS2S_LARGER] = 2, [WS2S_REFUSED] = 3 };
+    static const char before[] = "what was there before";
+    uint8_t strip[WS2S_MAX_RULE_BYTES];
+    ws2s_written w = ws2s_import(t->byte, t->length, strip, sizeof strip);
+    bool good = w.refusal == 0;
+    (good ? accepted++ : refused++);
+    save_bytes(text_name, t->byte, t->length);
+    save_bytes(made_name, before, strlen(before));
+
+    char **words = WORDS((char *)"import", text_name, (char *)"-o", made_name);
+    int status = run(words);
+    size_t length = load(made_name, made, sizeof made);
+    count_text(said_length == 0 && (good ? status == 0 && !*complained && length == w.length && memcmp(made, strip, length) == 0
+                                         : status == 3 && complains_right(t) && strcmp(made, before) == 0), words, status, t);
+    words = WORDS((char *)"import", text_name);
+    status = run(words);
+    count_text(good ? status == 0 && said_length == w.length && memcmp(said, strip, said_length) == 0
+                    : status == 3 && said_length == 0 && complains_right(t), words, status, t);
+    if (!taken_for_text(t->byte, t->length))
+        return;
+
+    if (good) { /* the strip's listing: what the text's is held to */
+        words = WORDS((char *)"print", made_name);
+        count_text(run(words) == 0, words, 0, t);
+        memcpy(of_strip, said, said_length + 1);
+    }
+    words = WORDS((char *)"print", text_name);
+    status = run(words);
+    number_names(t, numbered, sizeof numbered);
+    count_text(good ? status == 0 && (!whole || strcmp(numbered, of_strip) == 0)
+                    : status == 3 && said_length == 0 && complains_right(t), words, status, t);
+    if (good) {
+        words = WORDS((char *)"print", text_name, (char *)"X0", (char *)"X1", (char *)"X2", (char *)"X3", (char *)"X4", (char *)"X5",
+                      (char *)"X6", (char *)"X7");
+        words[3 + w.variables] = NULL;
+        status = run(words);
+        count_text(status == 0 && strcmp(said, of_strip) == 0, words, status, t);
+    }
+    words = WORDS((char *)"decide", (char *)"-c", (char *)"4", (char *)"-p", (char *)"3", forms[below(4)], text_name);
+    status = run(words);
+    if (good) {
+        ws2s_verdict v = ws2s_decide(strip, w.length, 4, 3, workspace, sizeof workspace, tree, sizeof tree);
+        count_text(status == statuses[v.kind] && (v.kind != WS2S_REFUSED || strstr(complained, ": refused 14: ")), words, status, t);
+    } else {
+        count_text(status == 3 && said_length == 0 && complains_right(t), words, status, t);
+    }
 }
 
 int main(int argc, char **argv)
 {
     static struct strip rule, tree;
+    static struct text text;
     chance = argc > 1 ? strtoull(argv[1], NULL, 10) : 1;
     unsigned long strips = argc > 2 ? strtoul(argv[2], NULL, 10) : 1000;
     const char *temporary = getenv("TMPDIR");
@@ -255,6 +589,8 @@ int main(int argc, char **argv)
         return 2;
     snprintf(rule_name, sizeof rule_name, "%s/rule", room);
     snprintf(tree_name, sizeof tree_name, "%s/tree", room);
+    snprintf(text_name, sizeof text_name, "%s/text", room);
+    snprintf(made_name, sizeof made_name, "%s/made", room);
     snprintf(out_name, sizeof out_name, "%s/out", room);
     snprintf(err_name, sizeof err_name, "%s/err", room);
     for (unsigned long i = 0; i < strips && failed < 10; i++) {
@@ -268,12 +604,20 @@ int main(int argc, char **argv)
             damage(&tree);
         try_rule(&rule, &bad);
         try_tree(&rule, &tree);
+        make_text(&text);
+        bool whole = below(2);
+        for (unsigned times = whole ? 0 : 1 + below(2); times > 0; times--)
+            damage_text(&text);
+        try_text(&text, whole);
     }
     remove(rule_name);
     remove(tree_name);
+    remove(text_name);
+    remove(made_name);
     remove(out_name);
     remove(err_name);
     rmdir(room);
-    printf("the command on strips at random: %lu passed, %lu failed\n", passed, failed);
-    return failed || !passed;
+    printf("the command on strips and texts at random: %lu passed, %lu failed (%lu texts accepted, %lu refused)\n", passed, failed,
+           accepted, refused);
+    return failed || accepted < strips / 4 || refused < strips / 4;
 }

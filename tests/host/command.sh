@@ -584,7 +584,8 @@ input=
 expect 0 'yes: the tree satisfies the rule' '' judge "$room/inside.mona" "$room/fits"
 printf '\022\254\000' >"$room/beside"
 expect 1 'no: the tree does not satisfy the rule' '' judge "$room/inside.mona" "$room/beside"
-expect 3 '' "ws2s: $room/empty: refused 22: tree and rule have different numbers of variables; give the tree the rule's number" judge "$room/inside.mona" "$room/empty"
+expect 3 '' "ws2s: $room/empty: refused 22: tree and rule have different numbers of variables; give the tree the rule's number" \
+    judge "$room/inside.mona" "$room/empty"
 expect 2 'larger: finite sets satisfy the rule, but all of them take more than 1 place' '' decide -p 1 "$room/inside.mona"
 text none.mona 'ws2s; var1 x; x = x.0;'
 expect 1 'none: no finite sets satisfy the rule' '' decide "$room/none.mona"
@@ -794,7 +795,8 @@ told() { # WHAT STATUS: standard error has this, once
 : >"$room/out"
 for words in "decide $samples/first_inside.rul" "decide --svg $samples/first_inside.rul" "decide --strip $samples/first_inside.rul" \
     "decide $samples/kinds_in_a_circle.rul" "decide -p 1 $samples/first_inside.rul" "judge $samples/crash_report.rul $room/tree" \
-    "import $room/inside.mona" "print $room/inside.mona" "check rule $samples/one_part.rul" "print $samples/one_part.rul" "print $samples/cut_short.rul" "tree $room/tree" '--help' '--version'; do
+    "import $room/inside.mona" "print $room/inside.mona" \
+    "check rule $samples/one_part.rul" "print $samples/one_part.rul" "print $samples/cut_short.rul" "tree $room/tree" '--help' '--version'; do
     # shellcheck disable=SC2086
     "$command" $words >/dev/full 2>"$room/err"
     status=$?
