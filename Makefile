@@ -136,6 +136,7 @@ host-test: $(foreach t,vectors vectors-shared attack header stack verdict comman
 	tests/host/command.sh $(COMMAND)
 	$(HOST)/command 1 1000
 	tests/host/documents.sh $(VERDICT) $(COMMAND) $(ARCHIVE)
+	tests/host/texts.sh $(COMMAND)
 	tests/host/install.sh
 	tests/host/make_notices.sh
 
