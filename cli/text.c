@@ -51,7 +51,7 @@ bool blank(uint8_t byte)
 
 /* ---- Names ---- */
 
-static bool is(const char *word, const uint8_t *from, size_t length)
+static bool spells(const char *word, const uint8_t *from, size_t length)
 {
     return strlen(word) == length && memcmp(word, from, length) == 0;
 }
@@ -80,10 +80,10 @@ void add_names(struct names *names, struct text *text, const struct strip *rule)
             next = NOTHING;
         }
         for (unsigned i = 0; i < 2; i++)
-            if (is(declaring[i], text->byte + at, end - at))
+            if (spells(declaring[i], text->byte + at, end - at))
                 next = DECLARED;
         for (unsigned i = 0; i < 4; i++)
-            if (is(binding[i], text->byte + at, end - at))
+            if (spells(binding[i], text->byte + at, end - at))
                 next = BOUND;
         if (closed)
             next = NOTHING;

@@ -483,12 +483,12 @@ static enum status tree(const struct arguments *a)
     return GOOD;
 }
 
-/* Whether both are one file. */
+/* Whether both are one file, by whatever names. */
 static bool same_file(const char *input, const char *output)
 {
     struct stat one, other;
     return (strcmp(input, "-") == 0 ? fstat(0, &one) : stat(input, &one)) == 0 && stat(output, &other) == 0
-        && one.st_dev == other.st_dev && one.st_ino == other.st_ino;
+        && S_ISREG(one.st_mode) && one.st_dev == other.st_dev && one.st_ino == other.st_ino;
 }
 
 static enum status import(const struct arguments *a)

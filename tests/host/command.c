@@ -277,12 +277,14 @@ static void try_tree(const struct strip *rule, const struct strip *s)
 
 enum { MOST_TEXT = 1 << 13, MOST_NAMES = 200 };
 
-/* A text, and its names: each is given to one variable alone, whose number it has. */
+/* A text, and its names: each is given to one variable alone, whose number it has.
+ * "atoms" has those that stand in atoms, in the order of the text. */
 struct text {
     uint8_t byte[MOST_TEXT];
     size_t length;
     unsigned names, number[MOST_NAMES], in_use, used[WS2S_MAX_VARIABLES];
     bool place[MOST_NAMES];
+    char atoms[MOST_TEXT];
 };
 
 static void add(struct text *t, const char *token)
@@ -305,9 +307,18 @@ static void add_name(struct text *t, unsigned name)
     add(t, word);
 }
 
+/* The same in an atom. */
+static void use_name(struct text *t, unsigned name)
+{
+    sprintf(t->atoms + strlen(t->atoms), "%s%u ", t->place[name] ? "p" : "S", name);
+    add_name(t, name);
+}
+
 /* A name that is new and in use from here on. */
 static void new_name(struct text *t, bool place)
 {
+    if (t->names == MOST_NAMES)
+        exit(2);
     t->number[t->names] = t->in_use;
     t->place[t->names] = place;
     t->used[t->in_use++] = t->names;
@@ -332,16 +343,16 @@ static void make_atom(struct text *t)
     unsigned place, other, set;
     bool has_place = old_name(t, true, &place), has_set = old_name(t, false, &set);
     if (has_set && (!has_place || below(3) == 0)) {
-        add_name(t, set);
+        use_name(t, set);
         add(t, "sub");
         old_name(t, false, &set);
-        add_name(t, set);
+        use_name(t, set);
         return;
     }
-    add_name(t, place);
+    use_name(t, place);
     if (has_set && below(2)) {
         add(t, "in");
-        add_name(t, set);
+        use_name(t, set);
         return;
     }
     add(t, "=");
@@ -350,7 +361,7 @@ static void make_atom(struct text *t)
         add(t, "root");
         return;
     }
-    add_name(t, other);
+    use_name(t, other);
     add(t, branches[below(3)]);
 }
 
@@ -395,6 +406,11 @@ static void make_text(struct text *t)
             new_name(t, place);
         }
         add(t, ";");
+    }
+    for (unsigned more = below(20) ? 0 : 20 + below(20); more > 0; more--) { /* near 128 records, and beyond */
+        add(t, "(");
+        make_formula(t, below(3));
+        add(t, ") &");
     }
     make_formula(t, below(8));
     add(t, ";");
@@ -507,27 +523,40 @@ static bool complains_right(const struct text *t)
     return strncmp(complained, start, strlen(start)) == 0 && mark && marks(t, &fault, at, shown + 1, mark + 1);
 }
 
-/* Each name in what was said by its variable's number. */
-static void number_names(const struct text *t, char *listing, size_t room_for)
+/* Whether what was said is the strip's listing, with the names of the text: by their
+ * numbers they are its variables, and in the records of atoms, which stand in the
+ * order of the text, they are the names that stand there. */
+static bool names_right(const struct text *t, const char *of_strip)
 {
-    size_t length = 0;
-    for (const char *c = said; *c && length + 16 < room_for;) {
+    static char numbered[sizeof said], atoms[sizeof said];
+    size_t length = 0, named = 0;
+    bool atom = true;
+    for (const char *c = said; *c;) {
         char *end;
         unsigned long name = (*c == 'p' || *c == 'S') && c[1] >= '0' && c[1] <= '9' ? strtoul(c + 1, &end, 10) : MOST_NAMES;
+        if (*c == '\n')
+            atom = true;
+        if (strncmp(c, "Sing", 4) == 0 || strncmp(c, "exists", 6) == 0)
+            atom = false;
+        if (*c == 'X' || length + 16 > sizeof numbered)
+            return false;
         if (name < t->names && t->place[name] == (*c == 'p')) {
-            length += (size_t)sprintf(listing + length, "X%u", t->number[name]);
+            length += (size_t)sprintf(numbered + length, "X%u", t->number[name]);
+            if (atom)
+                named += (size_t)sprintf(atoms + named, "%.*s ", (int)(end - c), c);
             c = end;
         } else {
-            listing[length++] = *c++;
+            numbered[length++] = *c++;
         }
     }
-    listing[length] = 0;
+    numbered[length] = atoms[named] = 0;
+    return strcmp(numbered, of_strip) == 0 && strcmp(atoms, t->atoms) == 0;
 }
 
 /* "whole" says that the text is as it was made, with each name for one variable. */
 static void try_text(const struct text *t, bool whole)
 {
-    static char numbered[sizeof said], of_strip[sizeof said], made[400];
+    static char of_strip[sizeof said], made[400];
     static uint8_t workspace[128 << 8 << 2 << 2], tree[WS2S_MAX_TREE_BYTES];
     static const int statuses[] = { [WS2S_SHOWN] = 0, [WS2S_NONE] = 1, [WS2S_LARGER] = 2, [WS2S_REFUSED] = 3 };
     static const char before[] = "what was there before";
@@ -557,8 +586,7 @@ static void try_text(const struct text *t, bool whole)
     }
     words = WORDS((char *)"print", text_name);
     status = run(words);
-    number_names(t, numbered, sizeof numbered);
-    count_text(good ? status == 0 && (!whole || strcmp(numbered, of_strip) == 0)
+    count_text(good ? status == 0 && (!whole || names_right(t, of_strip))
                     : status == 3 && said_length == 0 && complains_right(t), words, status, t);
     if (good) {
         words = WORDS((char *)"print", text_name, (char *)"X0", (char *)"X1", (char *)"X2", (char *)"X3", (char *)"X4", (char *)"X5",

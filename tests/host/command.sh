@@ -632,6 +632,9 @@ expect 0 'n=4
 "$command" import "$room/names.mona" >"$room/names"
 expect 0 "$("$command" print "$room/names" a b c d)" '' print "$room/names.mona" a b c d
 expect 0 "$("$command" print "$room/names")" '' print "$room/names.mona" X0 X1 X2 X3
+# a name that is given may make a namesake, or leave none
+expect 0 "$("$command" print "$room/names.mona" | sed 's/\<x\>/q/g; s/x_3/x/g')" '' print "$room/names.mona" q
+expect 0 "$("$command" print "$room/names.mona" | sed 's/\<z\>/z_2/; s/\<x\>/z/g; s/x_3/x/g')" '' print "$room/names.mona" z
 text names.mona 'ws2s; ex1 x: all1 y: ex2 Z: x in Z <=> y in Z;'
 expect 0 'n=3
 0: x ⊆ Z
@@ -786,6 +789,19 @@ refuses 64 'the strip would replace the text' import - -o "$room/own.mona"
 input=
 cmp -s "$room/inside.mona" "$room/own.mona" && right=yes || right=no
 verdict $right 'the text is as it was'
+cat "$room/inside.mona" | "$command" import - -o /dev/null >"$room/out" 2>"$room/err"
+status=$?
+same "$room/out" /dev/null 'import into nothing'
+input=/dev/null
+expect 3 '' "ws2s: standard input: refused 23 at line 1, column 1: $grammar (the text is empty); $allowed
+    
+    ^" import - -o /dev/null
+input=
+# a text that there is no memory for
+head -c 67108864 /dev/zero | tr '\000' ' ' | (ulimit -v 40000 && exec "$command" decide -) >"$room/out" 2>"$room/err"
+status=$?
+[ $status -eq 74 ] && [ "$(cat "$room/err")" = 'ws2s: standard input: Cannot allocate memory' ] && [ ! -s "$room/out" ] && right=yes || right=no
+verdict $right 'decide of 64 MiB of blanks with less memory'
 
 told() { # WHAT STATUS: standard error has this, once
     right=no
