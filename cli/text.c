@@ -148,12 +148,13 @@ static void put_found(FILE *to, const struct text *text, const ws2s_fault *fault
         return;
     }
     if (visible(take_character(&after, end))) {
+        bool more = fault->length > QUOTED || (!text->whole && fault->start + fault->length == text->length);
         fputc('`', to);
         if (fault->length <= 1)
             fwrite(at, 1, (size_t)(after - at), to);
         else
             fwrite(at, 1, fault->length <= QUOTED ? (size_t)fault->length : QUOTED, to);
-        fputs(fault->length <= QUOTED ? "`" : "...`", to);
+        fputs(more ? "...`" : "`", to);
         if (*at < 0x80)
             return;
         fputs(", ", to);

@@ -488,6 +488,10 @@ text fault.mona 'ws2s; var2 X; X sub X ∧ X sub X; \342\200\213\n'
 at_fault 23 1 23 '`∧`, byte 0xE2' 'ws2s; var2 X; X sub X ∧ X sub X; ?' '                      ^'
 text fault.mona 'ws2s; var2 X; X \342\200\213sub X;\n'
 at_fault 23 1 17 'byte 0xE2' 'ws2s; var2 X; X ?sub X;' '                ^'
+text fault.mona 'ws2s; var2 X; X \342\201\246sub X; \342\200\250 \357\273\277\n'
+at_fault 23 1 17 'byte 0xE2' 'ws2s; var2 X; X ?sub X; ? ?' '                ^'
+text fault.mona 'ws2s; \357\273\277var2 X; X sub X;\n'
+at_fault 23 1 7 'byte 0xEF' 'ws2s; ?var2 X; X sub X;' '      ^'
 text fault.mona 'ws2s; var2 X; X \342\200'
 at_fault 23 1 17 'byte 0xE2' 'ws2s; var2 X; X ??' '                ^'
 text fault.mona 'ws2s; var2 X; X _ sub;'
@@ -510,6 +514,8 @@ text fault.mona "ws2s; var2 X; $(row 20 'X sub X & ')Y sub X & $(row 20 'X sub X
 at_fault 24 1 215 '`Y`' '...b X & X sub X & X sub X & X sub X & Y sub X & X sub X & X sub X & X sub ...' "   $(row 36 ' ')^"
 text fault.mona "ws2s; var2 X; $(row 5 'X sub X & ')Long sub X & $(row 20 'X sub X & ')X sub X;\\n"
 at_fault 24 1 65 '`Long`' 'ws2s; var2 X; X sub X & X sub X & X sub X & X sub X & X sub X & Long sub...' "$(row 64 ' ')^~~~"
+text fault.mona "ws2s; var2 X; $(row 5 'X sub X & ')Limits78 sub X;\\n" # ends with the window
+at_fault 24 1 65 '`Limits78`' "ws2s; var2 X; $(row 5 'X sub X & ')Limits78..." "$(row 64 ' ')^~~~~~~~"
 text fault.mona "ws2s; var2 X; $(row 5 'X sub X & ')TooLong99 sub X;\\n"
 at_fault 24 1 65 '`TooLong99`' '...b X & X sub X & X sub X & X sub X & TooLong99 sub X;' "   $(row 36 ' ')^~~~~~~~~"
 text fault.mona "ws2s; var2 X; $(row 50 a) sub X;"
@@ -721,6 +727,8 @@ expect 3 '' "ws2s: standard input: refused 23 at line 1, column 1: $grammar (byt
     $(row 72 '?')...
     ^" import -
 input=
+{ row 285 ' ' && printf 'nothing like a rule'; } >"$room/fault.mona" # of which 291 bytes are read
+at_fault 23 1 286 '`nothin...`' "...$(row 36 ' ')nothin..." "   $(row 36 ' ')^~~~~~"
 yes 'not a rule' 2>/dev/null | "$command" decide - >"$room/out" 2>"$room/err"
 status=$?
 [ $status -eq 3 ] && grep -qF "standard input: refused 23 at line 1, column 1: $grammar (\`not\`)" "$room/err" && right=yes || right=no
