@@ -1,12 +1,12 @@
 -- Tokens by their kinds. Assumes nothing.
 use Prim.Native.Nat.{ℕ, _≤_, _<_}
-use mathlib.Core.Path.{_≡_, refl, sym}
+use mathlib.Core.Path.{_≡_, refl, sym, _∙_}
 use mathlib.Core.Bool.{Bool, true, false, not, true≢false}
 use native.Mathlib.Omega.{arith}
 use borrow.Author.Tests.{eq-eqb, ne-eqb, le-leb, lt-leb}
 use lib.Dec.{eqb, leb}
 use Rattle.tokens.specs.InUse.{orderOf}
-use Rattle.formulas.specs.Reading.{opensBy, orderBy}
+use Rattle.formulas.specs.Reading.{opensBy, placeBy, orderBy}
 
 pub opens-low : (n : ℕ) → n < 3 → false ≡ opensBy n
 unfolding opensBy
@@ -24,14 +24,17 @@ pub opens-not : (n : ℕ) → 6 < n → (n ≡ 13 → ⊥) → eqb n 15 ≡ open
 unfolding opensBy
 opens-not n h k = rw (le-leb 3 n (omega arith), lt-leb n 6 h, ne-eqb n 13 k) refl
 
-pub order-first : (n : ℕ) → n ≡ 3 → orderOf 1 ≡ orderBy n
-order-first n e = rw e refl
+pub place-some : (n : ℕ) → n ≡ 3 → true ≡ placeBy n
+place-some n e = rw e refl
 
-pub order-every : (n : ℕ) → n ≡ 5 → orderOf 1 ≡ orderBy n
-order-every n e = rw e refl
+pub place-every : (n : ℕ) → (n ≡ 3 → ⊥) → eqb n 5 ≡ placeBy n
+place-every n h = rw (ne-eqb n 3 h) refl
 
-pub order-second : (n : ℕ) → (n ≡ 3 → ⊥) → (n ≡ 5 → ⊥) → orderOf 2 ≡ orderBy n
-order-second n h k = rw (ne-eqb n 3 h, ne-eqb n 5 k) refl
+pub order-place : (n : ℕ) (b : Bool) → b ≡ placeBy n → b ≡ true → orderOf 1 ≡ orderBy n
+order-place n b e h = rw (sym e ∙ h) refl
+
+pub order-set : (n : ℕ) (b : Bool) → b ≡ placeBy n → b ≡ false → orderOf 2 ≡ orderBy n
+order-set n b e h = rw (sym e ∙ h) refl
 
 -- what the test says, which is of the contrary
 pub opened-by : (n : ℕ) (b : Bool) → b ≡ opensBy n → not b ≡ false → opensBy n ≡ true

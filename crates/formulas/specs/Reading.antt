@@ -44,8 +44,11 @@ unfoldable pub bracketAt : ℕ → Reader
 bracketAt d sc ts = andThen (levelAt d 0 sc ts) (λ f us. accept (or23 (spells ")" (next us))) us (λ _ vs. got f vs))
 
 -- the order of what a quantifier word of that kind binds, and the sentence that it makes: 3 `ex1`, 4 `ex2`, 5 `all1`, 6 `all2`
+abbrev pub placeBy : ℕ → Bool
+placeBy kind = eqb kind 3 || eqb kind 5
+
 abbrev pub orderBy : ℕ → Order
-orderBy kind = cond (eqb kind 3) first (cond (eqb kind 5) first second)
+orderBy kind = cond (placeBy kind) first second
 
 abbrev pub quantifierBy : ℕ → Order → Name → Sentence → Sentence
 quantifierBy kind = cond (leb kind 4) forSome forEvery

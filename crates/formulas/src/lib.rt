@@ -5,7 +5,7 @@ ghost use mathlib.Core.Path.{_≡_};
 ghost use Prim.Native.Nat.{ℕ, suc, _<_, _≤_, max};
 ghost use Rattle.text.specs.Grammar.{atomOf};
 ghost use Rattle.tokens.specs.InUse.{orderOf, scopeOf, NamesFit};
-ghost use Rattle.formulas.specs.Reading.{levelAt, opensBy, bracketAt, orderBy, quantifiedAt, Joining, Reads, Owns, Finishes, After, Closes};
+ghost use Rattle.formulas.specs.Reading.{levelAt, opensBy, bracketAt, placeBy, orderBy, quantifiedAt, Joining, Reads, Owns, Finishes, After, Closes};
 
 // Where reading has come to: the place from which the next token is looked for, the records so far (129 for any more than 128), and how many
 // tracks were taken.
@@ -50,6 +50,16 @@ fn opens(kind: usize) -> bool
         return true;
     }
     kind == NOT
+}
+
+// Whether a quantifier word of that kind binds a place, as `ex1` and `all1` do, or else a set.
+fn binds_place(kind: usize) -> bool
+    ensures { λ r. ⌜ r ≡ placeBy kind ⌝ }
+{
+    if kind == 3 {
+        return true;
+    }
+    kind == 5
 }
 
 fn greater(a: usize, b: usize) -> usize
@@ -280,7 +290,10 @@ fn operand(
         let inner = operand(text, names, in_use, words, depth - 1, behind);
         return finish(words, NOT, 0, inner);
     }
-    quantified(text, names, in_use, words, depth - 1, t.kind, behind)
+    if binds_place(t.kind) {
+        return quantified(text, names, in_use, words, depth - 1, t.kind, 1, behind);
+    }
+    quantified(text, names, in_use, words, depth - 1, t.kind, 2, behind)
 }
 
 // A formula and its closing bracket, behind the opening one.
@@ -300,7 +313,8 @@ fn bracket(
     close(text, inner)
 }
 
-// What a quantifier word of that kind binds, and the formula that it reaches over.
+// What a quantifier word of that kind and order binds, and the formula that it reaches over. The names in use are copied here alone, which
+// happens at most eight times on the way down.
 fn quantified(
     text: &[u8],
     names: &[usize; 24],
@@ -308,16 +322,18 @@ fn quantified(
     words: &mut [u64; 128],
     depth: usize,
     kind: usize,
+    order: usize,
     here: Here,
 ) -> Reading
     requires { ⌜ NamesFit (now text) (now names) «in_use» ⌝ }
     requires { ⌜ (3 ≤ kind) × (kind ≤ 6) ⌝ }
+    requires { ⌜ orderOf order ≡ orderBy kind ⌝ }
     ensures { λ r. ⌜ Reads (quantifiedAt depth kind) (now (text .entry)) (scopeOf (now (text .entry)) (now (names .entry)) «in_use») (now (words .entry))
         here (now (words .exit)) r ⌝ }
 {
     match phrases::read_binder(text, in_use, here.next) {
         phrases::Binder::Bound { start, stop, next } => {
-            let inner = tokens::names::bound(names, in_use, start, stop, order(kind));
+            let inner = tokens::names::bound(names, in_use, start, stop, order);
             let behind = Here {
                 next,
                 count: here.count,
@@ -336,17 +352,4 @@ fn quantified(
             stop,
         },
     }
-}
-
-// The order of what a quantifier word of that kind binds: `ex1` and `all1` are of first order.
-fn order(kind: usize) -> usize
-    ensures { λ r. ⌜ orderOf r ≡ orderBy kind ⌝ }
-{
-    if kind == 3 {
-        return 1;
-    }
-    if kind == 5 {
-        return 1;
-    }
-    2
 }

@@ -7,7 +7,7 @@ use Rattle.formulas.proofs.Levels.{joining-most, leftOf, Joined, joined
 use Rattle.formulas.proofs.Levels.{implication-refused, implication-none, implication-deep, implication-on}
 use Rattle.formulas.proofs.Levels.{operand-atom, operand-deep, operand-bracket, operand-not, operand-quantifier, opens-quantifier, bracket-reads}
 use Rattle.formulas.proofs.Levels.{binder-there}
-use Rattle.formulas.proofs.TokenKinds.{closed-by, opened-by}
+use Rattle.formulas.proofs.TokenKinds.{closed-by, opened-by, order-place, order-set}
 use Rattle.formulas.proofs.Levels.{bound-fits, quantified-done, quantified-unbound}
 use Prim.Native.Nat.{ℕ, _<_}
 use borrow.Fn.Kinds.{In}
@@ -32,11 +32,11 @@ use Rattle.formulas.proofs.tighter.Kinds as tighter-kinds
 use Rattle.formulas.proofs.+bracket+formula+implication+operand+quantified+tighter.Lts-tighter as tighter-lts
 use Rattle.drafting.proofs.put_not.Reads as put-not-reads
 use Rattle.formulas.proofs.atom.Reads as atom-reads
+use Rattle.formulas.proofs.binds_place.Reads as binds-place-reads
 use Rattle.formulas.proofs.close.Reads as close-reads
 use Rattle.formulas.proofs.finish.Reads as finish-reads
 use Rattle.formulas.proofs.greater.Reads as greater-reads
 use Rattle.formulas.proofs.opens.Reads as opens-reads
-use Rattle.formulas.proofs.order.Reads as order-reads
 use Rattle.phrases.proofs.read_binder.Reads as read-binder-reads
 use Rattle.tokens.proofs.names.bound.Reads as bound-reads
 use Rattle.tokens.proofs.token_at.Reads as token-at-reads
@@ -105,7 +105,7 @@ tighter-at t = and 3 tighter-kinds.ps (is 3 tighter-kinds.ps μ-tighter t) tight
 abbrev tighter-below : ℕ → In 3 tighter-kinds.ps
 tighter-below t = and 3 tighter-kinds.ps (falls 3 tighter-kinds.ps _<_ μ-tighter t) tighter.Pre
 
--- src/lib.rt:268:9
+-- src/lib.rt:312:9
 bracket-formula-requires : (t : ℕ) → bracket-lts.Need-formula-requires (
   formula-below t,
   formula.Post,
@@ -114,7 +114,7 @@ bracket-formula-requires : (t : ℕ) → bracket-lts.Need-formula-requires (
 ) (bracket-at t) bracket.Post
 bracket-formula-requires t c κs = let m = c .before .before .pre .0 in (omega arith, (c .before .before .pre .1, joins-alike))
 
--- src/lib.rt:269:5
+-- src/lib.rt:313:5
 bracket-close-requires : (t : ℕ) → bracket-lts.Need-close-requires (
   formula-below t,
   formula.Post,
@@ -123,7 +123,7 @@ bracket-close-requires : (t : ℕ) → bracket-lts.Need-close-requires (
 ) (bracket-at t) bracket.Post
 bracket-close-requires t c κs = search needs
 
--- src/lib.rt:263:1
+-- src/lib.rt:300:1
 bracket-returns : (t : ℕ) → bracket-lts.Need-returns (
   formula-below t,
   formula.Post,
@@ -138,7 +138,7 @@ formula-Inv-loop text names in-use words₀ depth strength reading₀ words read
 abbrev formula-μ-loop : formula-lts.MeasureT-loop
 formula-μ-loop text names in-use words₀ depth strength reading₀ words reading = leftOf text reading
 
--- src/lib.rt:156:9
+-- src/lib.rt:176:9
 formula-tighter-requires : (t : ℕ) → formula-lts.Need-tighter-requires (
   tighter-below t,
   tighter.Post,
@@ -149,7 +149,7 @@ formula-tighter-requires : (t : ℕ) → formula-lts.Need-tighter-requires (
 ) (formula-at t) formula.Post formula-Inv-loop formula-μ-loop
 formula-tighter-requires t c κs = let m = c .before .before .pre .0 in let l = joining-most (c .before .before .pre .1 .1) in (omega arith, c .before .before .pre .1)
 
--- src/lib.rt:157:5
+-- src/lib.rt:177:5
 formula-loop-holds : (t : ℕ) → formula-lts.Need-loop-holds (
   tighter-below t,
   tighter.Post,
@@ -160,7 +160,7 @@ formula-loop-holds : (t : ℕ) → formula-lts.Need-loop-holds (
 ) (formula-at t) formula.Post formula-Inv-loop formula-μ-loop
 formula-loop-holds t c = joined-first (c .before .before .before .pre .1 .1)
 
--- src/lib.rt:158:26
+-- src/lib.rt:178:26
 formula-enum-known-reading : (t : ℕ) → formula-lts.Need-enum-known-reading (
   tighter-below t,
   tighter.Post,
@@ -171,7 +171,7 @@ formula-enum-known-reading : (t : ℕ) → formula-lts.Need-enum-known-reading (
 ) (formula-at t) formula.Post formula-Inv-loop formula-μ-loop
 formula-enum-known-reading t c = search needs
 
--- src/lib.rt:159:13
+-- src/lib.rt:179:13
 formula-enum-told : (t : ℕ) → formula-lts.Need-enum-told (
   tighter-below t,
   tighter.Post,
@@ -182,7 +182,7 @@ formula-enum-told : (t : ℕ) → formula-lts.Need-enum-told (
 ) (formula-at t) formula.Post formula-Inv-loop formula-μ-loop
 formula-enum-told t c = search needs
 
--- src/lib.rt:159:13
+-- src/lib.rt:179:13
 formula-returns : (t : ℕ) → formula-lts.Need-returns (
   tighter-below t,
   tighter.Post,
@@ -193,7 +193,7 @@ formula-returns : (t : ℕ) → formula-lts.Need-returns (
 ) (formula-at t) formula.Post formula-Inv-loop formula-μ-loop
 formula-returns t c = joined-refused (c .before .before .loop .inv) (c .before .before .before .tighter .ensures) (c .enum-told .given .1)
 
--- src/lib.rt:161:13
+-- src/lib.rt:181:13
 formula-token-at-requires : (t : ℕ) → formula-lts.Need-token-at-requires (
   tighter-below t,
   tighter.Post,
@@ -204,7 +204,7 @@ formula-token-at-requires : (t : ℕ) → formula-lts.Need-token-at-requires (
 ) (formula-at t) formula.Post formula-Inv-loop formula-μ-loop
 formula-token-at-requires t c κs = search needs
 
--- src/lib.rt:162:22
+-- src/lib.rt:182:22
 formula-sub-if1 : (t : ℕ) → formula-lts.Need-sub-if1 (
   tighter-below t,
   tighter.Post,
@@ -215,7 +215,7 @@ formula-sub-if1 : (t : ℕ) → formula-lts.Need-sub-if1 (
 ) (formula-at t) formula.Post formula-Inv-loop formula-μ-loop
 formula-sub-if1 t c = let l = joining-most (c .before .before .before .before .before .before .before .before .pre .1 .1) in omega arith
 
--- src/lib.rt:163:13
+-- src/lib.rt:183:13
 formula-returns-2 : (t : ℕ) → formula-lts.Need-returns-2 (
   tighter-below t,
   tighter.Post,
@@ -226,7 +226,7 @@ formula-returns-2 : (t : ℕ) → formula-lts.Need-returns-2 (
 ) (formula-at t) formula.Post formula-Inv-loop formula-μ-loop
 formula-returns-2 t c = joined-ends (c .before .before .before .before .before .before .loop .inv) _ (c .before .before .before .before .reading .given .1) (c .before .before .token-at .ensures) (c .before .before .before .before .before .before .before .tighter .ensures) (c .if1 .taken)
 
--- src/lib.rt:170:13
+-- src/lib.rt:190:13
 formula-tighter-requires-2 : (t : ℕ) → formula-lts.Need-tighter-requires-2 (
   tighter-below t,
   tighter.Post,
@@ -237,7 +237,7 @@ formula-tighter-requires-2 : (t : ℕ) → formula-lts.Need-tighter-requires-2 (
 ) (formula-at t) formula.Post formula-Inv-loop formula-μ-loop
 formula-tighter-requires-2 t c κs = let m = c .before .before .before .before .before .before .before .before .before .before .before .pre .0 in let l = joining-most (c .before .before .before .before .before .before .before .before .before .before .before .pre .1 .1) in (omega arith, c .before .before .before .before .before .before .before .before .before .before .before .pre .1)
 
--- src/lib.rt:171:9
+-- src/lib.rt:191:9
 formula-finish-requires : (t : ℕ) → formula-lts.Need-finish-requires (
   tighter-below t,
   tighter.Post,
@@ -248,7 +248,7 @@ formula-finish-requires : (t : ℕ) → formula-lts.Need-finish-requires (
 ) (formula-at t) formula.Post formula-Inv-loop formula-μ-loop
 formula-finish-requires t c κs = let k = operator-kind (c .before .before .before .before .before .before .before .before .before .loop .inv) _ (c .before .before .before .before .before .before .before .reading .given .1) (c .before .before .before .before .before .token-at .ensures) (c .before .before .before .if1 .left) in let a = k .0 in let b = k .1 in ((omega arith, b), λ h. absurd (omega arith))
 
--- src/lib.rt:157:5
+-- src/lib.rt:177:5
 formula-loop-less : (t : ℕ) → formula-lts.Need-loop-less (
   tighter-below t,
   tighter.Post,
@@ -259,7 +259,7 @@ formula-loop-less : (t : ℕ) → formula-lts.Need-loop-less (
 ) (formula-at t) formula.Post formula-Inv-loop formula-μ-loop
 formula-loop-less t c = joined-less (c .before .before .before .before .before .before .before .before .before .before .loop .inv) _ (c .before .before .before .before .before .before .before .before .reading .given .1) (c .before .before .before .before .before .before .token-at .ensures) (c .before .before .before .before .if1 .left) (c .before .before .tighter2 .ensures) (c .finish .ensures)
 
--- src/lib.rt:157:5
+-- src/lib.rt:177:5
 formula-loop-again : (t : ℕ) → formula-lts.Need-loop-again (
   tighter-below t,
   tighter.Post,
@@ -270,7 +270,7 @@ formula-loop-again : (t : ℕ) → formula-lts.Need-loop-again (
 ) (formula-at t) formula.Post formula-Inv-loop formula-μ-loop
 formula-loop-again t c = joined-on (c .before .before .before .before .before .before .before .before .before .before .loop .inv) _ (c .before .before .before .before .before .before .before .before .reading .given .1) (c .before .before .before .before .before .before .token-at .ensures) (c .before .before .before .before .if1 .left) (c .before .before .tighter2 .ensures) (c .finish .ensures)
 
--- src/lib.rt:205:9
+-- src/lib.rt:232:9
 implication-formula-requires : (t : ℕ) → implication-lts.Need-formula-requires (
   formula-below t,
   formula.Post,
@@ -285,7 +285,7 @@ implication-formula-requires : (t : ℕ) → implication-lts.Need-formula-requir
 ) (implication-at t) implication.Post
 implication-formula-requires t c κs = let m = c .before .before .pre .0 in (omega arith, (c .before .before .pre .1, joins-either))
 
--- src/lib.rt:206:22
+-- src/lib.rt:233:22
 implication-enum-known-reading : (t : ℕ) → implication-lts.Need-enum-known-reading (
   formula-below t,
   formula.Post,
@@ -300,7 +300,7 @@ implication-enum-known-reading : (t : ℕ) → implication-lts.Need-enum-known-r
 ) (implication-at t) implication.Post
 implication-enum-known-reading t c = search needs
 
--- src/lib.rt:207:9
+-- src/lib.rt:234:9
 implication-enum-told : (t : ℕ) → implication-lts.Need-enum-told (
   formula-below t,
   formula.Post,
@@ -315,7 +315,7 @@ implication-enum-told : (t : ℕ) → implication-lts.Need-enum-told (
 ) (implication-at t) implication.Post
 implication-enum-told t c = search needs
 
--- src/lib.rt:207:9
+-- src/lib.rt:234:9
 implication-returns : (t : ℕ) → implication-lts.Need-returns (
   formula-below t,
   formula.Post,
@@ -330,7 +330,7 @@ implication-returns : (t : ℕ) → implication-lts.Need-returns (
 ) (implication-at t) implication.Post
 implication-returns t c = implication-refused _ (c .before .before .formula .ensures) (c .enum-told .given .1)
 
--- src/lib.rt:209:9
+-- src/lib.rt:236:9
 implication-token-at-requires : (t : ℕ) → implication-lts.Need-token-at-requires (
   formula-below t,
   formula.Post,
@@ -345,7 +345,7 @@ implication-token-at-requires : (t : ℕ) → implication-lts.Need-token-at-requ
 ) (implication-at t) implication.Post
 implication-token-at-requires t c κs = search needs
 
--- src/lib.rt:211:9
+-- src/lib.rt:238:9
 implication-returns-2 : (t : ℕ) → implication-lts.Need-returns-2 (
   formula-below t,
   formula.Post,
@@ -360,7 +360,7 @@ implication-returns-2 : (t : ℕ) → implication-lts.Need-returns-2 (
 ) (implication-at t) implication.Post
 implication-returns-2 t c = implication-none _ (c .before .before .before .before .before .before .formula .ensures) _ (c .before .before .before .before .reading .given .1) (c .before .before .token-at .ensures) (c .if1 .taken)
 
--- src/lib.rt:214:9
+-- src/lib.rt:241:9
 implication-returns-3 : (t : ℕ) → implication-lts.Need-returns-3 (
   formula-below t,
   formula.Post,
@@ -375,7 +375,7 @@ implication-returns-3 : (t : ℕ) → implication-lts.Need-returns-3 (
 ) (implication-at t) implication.Post
 implication-returns-3 t c = implication-deep _ (c .before .before .before .before .before .before .before .formula .ensures) _ (c .before .before .before .before .before .reading .given .1) (c .before .before .before .token-at .ensures) (c .before .if1 .left) (c .if2 .taken)
 
--- src/lib.rt:220:9
+-- src/lib.rt:247:9
 implication-put-not-requires : (t : ℕ) → implication-lts.Need-put-not-requires (
   formula-below t,
   formula.Post,
@@ -390,7 +390,7 @@ implication-put-not-requires : (t : ℕ) → implication-lts.Need-put-not-requir
 ) (implication-at t) implication.Post
 implication-put-not-requires t c κs = search needs
 
--- src/lib.rt:226:57
+-- src/lib.rt:253:57
 implication-sub-implication : (t : ℕ) → implication-lts.Need-sub-implication (
   formula-below t,
   formula.Post,
@@ -405,7 +405,7 @@ implication-sub-implication : (t : ℕ) → implication-lts.Need-sub-implication
 ) (implication-at t) implication.Post
 implication-sub-implication t c = let z = c .before .before .before .if2 .left in omega arith
 
--- src/lib.rt:226:9
+-- src/lib.rt:253:9
 implication-implication-requires : (t : ℕ) → implication-lts.Need-implication-requires (
   formula-below t,
   formula.Post,
@@ -420,7 +420,7 @@ implication-implication-requires : (t : ℕ) → implication-lts.Need-implicatio
 ) (implication-at t) implication.Post
 implication-implication-requires t c κs = let m = c .before .before .before .before .before .before .before .before .before .before .before .before .before .pre .0 in let z = c .before .before .before .if2 .left in (omega arith, c .before .before .before .before .before .before .before .before .before .before .before .before .before .pre .1)
 
--- src/lib.rt:227:5
+-- src/lib.rt:254:5
 implication-finish-requires : (t : ℕ) → implication-lts.Need-finish-requires (
   formula-below t,
   formula.Post,
@@ -435,7 +435,7 @@ implication-finish-requires : (t : ℕ) → implication-lts.Need-finish-requires
 ) (implication-at t) implication.Post
 implication-finish-requires t c κs = ((omega arith, omega arith), λ h. absurd (omega arith))
 
--- src/lib.rt:200:1
+-- src/lib.rt:220:1
 implication-returns-4 : (t : ℕ) → implication-lts.Need-returns-4 (
   formula-below t,
   formula.Post,
@@ -450,7 +450,7 @@ implication-returns-4 : (t : ℕ) → implication-lts.Need-returns-4 (
 ) (implication-at t) implication.Post
 implication-returns-4 t c = implication-on _ (c .before .before .before .before .before .before .before .before .before .before .before .before .before .formula .ensures) _ (c .before .before .before .before .before .before .before .before .before .before .before .reading .given .1) (c .before .before .before .before .before .before .before .before .before .token-at .ensures) (c .before .before .before .before .before .before .before .if1 .left) (c .before .before .before .before .before .before .if2 .left) (c .before .before .before .before .put-not .ensures) (c .before .before .implication .ensures) (c .finish .ensures)
 
--- src/lib.rt:236:9
+-- src/lib.rt:270:9
 operand-token-at-requires : (t : ℕ) → operand-lts.Need-token-at-requires (
   token-at-reads.Asked,
   token-at-reads.Learnt,
@@ -464,12 +464,14 @@ operand-token-at-requires : (t : ℕ) → operand-lts.Need-token-at-requires (
   operand.Post,
   finish-reads.Asked,
   finish-reads.Learnt,
+  binds-place-reads.Asked,
+  binds-place-reads.Learnt,
   quantified-below t,
   quantified.Post,
 ) (operand-at t) operand.Post
 operand-token-at-requires t c κs = search needs
 
--- src/lib.rt:237:9
+-- src/lib.rt:271:9
 operand-opens-requires : (t : ℕ) → operand-lts.Need-opens-requires (
   token-at-reads.Asked,
   token-at-reads.Learnt,
@@ -483,12 +485,14 @@ operand-opens-requires : (t : ℕ) → operand-lts.Need-opens-requires (
   operand.Post,
   finish-reads.Asked,
   finish-reads.Learnt,
+  binds-place-reads.Asked,
+  binds-place-reads.Learnt,
   quantified-below t,
   quantified.Post,
 ) (operand-at t) operand.Post
 operand-opens-requires t c κs = search needs
 
--- src/lib.rt:238:9
+-- src/lib.rt:272:9
 operand-atom-requires : (t : ℕ) → operand-lts.Need-atom-requires (
   token-at-reads.Asked,
   token-at-reads.Learnt,
@@ -502,12 +506,14 @@ operand-atom-requires : (t : ℕ) → operand-lts.Need-atom-requires (
   operand.Post,
   finish-reads.Asked,
   finish-reads.Learnt,
+  binds-place-reads.Asked,
+  binds-place-reads.Learnt,
   quantified-below t,
   quantified.Post,
 ) (operand-at t) operand.Post
 operand-atom-requires t c κs = c .before .before .before .before .before .pre .1
 
--- src/lib.rt:238:9
+-- src/lib.rt:272:9
 operand-returns : (t : ℕ) → operand-lts.Need-returns (
   token-at-reads.Asked,
   token-at-reads.Learnt,
@@ -521,12 +527,14 @@ operand-returns : (t : ℕ) → operand-lts.Need-returns (
   operand.Post,
   finish-reads.Asked,
   finish-reads.Learnt,
+  binds-place-reads.Asked,
+  binds-place-reads.Learnt,
   quantified-below t,
   quantified.Post,
 ) (operand-at t) operand.Post
 operand-returns t c = operand-atom _ _ (c .before .before .before .before .token-at .ensures) (closed-by _ _ (c .before .before .before .opens .ensures) (c .before .before .if1 .taken)) (c .atom .ensures)
 
--- src/lib.rt:241:9
+-- src/lib.rt:275:9
 operand-returns-2 : (t : ℕ) → operand-lts.Need-returns-2 (
   token-at-reads.Asked,
   token-at-reads.Learnt,
@@ -540,12 +548,14 @@ operand-returns-2 : (t : ℕ) → operand-lts.Need-returns-2 (
   operand.Post,
   finish-reads.Asked,
   finish-reads.Learnt,
+  binds-place-reads.Asked,
+  binds-place-reads.Learnt,
   quantified-below t,
   quantified.Post,
 ) (operand-at t) operand.Post
 operand-returns-2 t c = operand-deep _ _ (c .before .before .before .token-at .ensures) (opened-by _ _ (c .before .before .opens .ensures) (c .before .if1 .left)) (c .if2 .taken)
 
--- src/lib.rt:253:52
+-- src/lib.rt:287:52
 operand-sub-bracket : (t : ℕ) → operand-lts.Need-sub-bracket (
   token-at-reads.Asked,
   token-at-reads.Learnt,
@@ -559,12 +569,14 @@ operand-sub-bracket : (t : ℕ) → operand-lts.Need-sub-bracket (
   operand.Post,
   finish-reads.Asked,
   finish-reads.Learnt,
+  binds-place-reads.Asked,
+  binds-place-reads.Learnt,
   quantified-below t,
   quantified.Post,
 ) (operand-at t) operand.Post
 operand-sub-bracket t c = let z = c .before .before .before .if2 .left in omega arith
 
--- src/lib.rt:253:9
+-- src/lib.rt:287:9
 operand-bracket-requires : (t : ℕ) → operand-lts.Need-bracket-requires (
   token-at-reads.Asked,
   token-at-reads.Learnt,
@@ -578,12 +590,14 @@ operand-bracket-requires : (t : ℕ) → operand-lts.Need-bracket-requires (
   operand.Post,
   finish-reads.Asked,
   finish-reads.Learnt,
+  binds-place-reads.Asked,
+  binds-place-reads.Learnt,
   quantified-below t,
   quantified.Post,
 ) (operand-at t) operand.Post
 operand-bracket-requires t c κs = let m = c .before .before .before .before .before .before .before .before .pre .0 in let z = c .before .before .before .if2 .left in (omega arith, c .before .before .before .before .before .before .before .before .pre .1)
 
--- src/lib.rt:253:9
+-- src/lib.rt:287:9
 operand-returns-3 : (t : ℕ) → operand-lts.Need-returns-3 (
   token-at-reads.Asked,
   token-at-reads.Learnt,
@@ -597,12 +611,14 @@ operand-returns-3 : (t : ℕ) → operand-lts.Need-returns-3 (
   operand.Post,
   finish-reads.Asked,
   finish-reads.Learnt,
+  binds-place-reads.Asked,
+  binds-place-reads.Learnt,
   quantified-below t,
   quantified.Post,
 ) (operand-at t) operand.Post
 operand-returns-3 t c = operand-bracket _ _ (c .before .before .before .before .before .before .before .token-at .ensures) (c .before .before .before .before .if2 .left) (c .before .before .if3 .taken) (c .bracket .ensures)
 
--- src/lib.rt:256:57
+-- src/lib.rt:290:57
 operand-sub-operand : (t : ℕ) → operand-lts.Need-sub-operand (
   token-at-reads.Asked,
   token-at-reads.Learnt,
@@ -616,12 +632,14 @@ operand-sub-operand : (t : ℕ) → operand-lts.Need-sub-operand (
   operand.Post,
   finish-reads.Asked,
   finish-reads.Learnt,
+  binds-place-reads.Asked,
+  binds-place-reads.Learnt,
   quantified-below t,
   quantified.Post,
 ) (operand-at t) operand.Post
 operand-sub-operand t c = let z = c .before .before .before .before .before .if2 .left in omega arith
 
--- src/lib.rt:256:13
+-- src/lib.rt:290:13
 operand-operand-requires : (t : ℕ) → operand-lts.Need-operand-requires (
   token-at-reads.Asked,
   token-at-reads.Learnt,
@@ -635,12 +653,14 @@ operand-operand-requires : (t : ℕ) → operand-lts.Need-operand-requires (
   operand.Post,
   finish-reads.Asked,
   finish-reads.Learnt,
+  binds-place-reads.Asked,
+  binds-place-reads.Learnt,
   quantified-below t,
   quantified.Post,
 ) (operand-at t) operand.Post
 operand-operand-requires t c κs = let m = c .before .before .before .before .before .before .before .before .before .before .pre .0 in let z = c .before .before .before .before .before .if2 .left in (omega arith, c .before .before .before .before .before .before .before .before .before .before .pre .1)
 
--- src/lib.rt:257:9
+-- src/lib.rt:291:9
 operand-finish-requires : (t : ℕ) → operand-lts.Need-finish-requires (
   token-at-reads.Asked,
   token-at-reads.Learnt,
@@ -654,12 +674,14 @@ operand-finish-requires : (t : ℕ) → operand-lts.Need-finish-requires (
   operand.Post,
   finish-reads.Asked,
   finish-reads.Learnt,
+  binds-place-reads.Asked,
+  binds-place-reads.Learnt,
   quantified-below t,
   quantified.Post,
 ) (operand-at t) operand.Post
 operand-finish-requires t c κs = ((omega arith, omega arith), λ h. absurd (omega arith))
 
--- src/lib.rt:257:9
+-- src/lib.rt:291:9
 operand-returns-4 : (t : ℕ) → operand-lts.Need-returns-4 (
   token-at-reads.Asked,
   token-at-reads.Learnt,
@@ -673,12 +695,35 @@ operand-returns-4 : (t : ℕ) → operand-lts.Need-returns-4 (
   operand.Post,
   finish-reads.Asked,
   finish-reads.Learnt,
+  binds-place-reads.Asked,
+  binds-place-reads.Learnt,
   quantified-below t,
   quantified.Post,
 ) (operand-at t) operand.Post
 operand-returns-4 t c = operand-not _ _ (c .before .before .before .before .before .before .before .before .before .before .before .token-at .ensures) (c .before .before .before .before .before .before .before .before .if2 .left) (c .before .before .before .before .if4 .taken) (c .before .before .operand .ensures) (c .finish .ensures)
 
--- src/lib.rt:259:44
+-- src/lib.rt:293:8
+operand-binds-place-requires : (t : ℕ) → operand-lts.Need-binds-place-requires (
+  token-at-reads.Asked,
+  token-at-reads.Learnt,
+  opens-reads.Asked,
+  opens-reads.Learnt,
+  atom-reads.Asked,
+  atom-reads.Learnt,
+  bracket-below t,
+  bracket.Post,
+  operand-below t,
+  operand.Post,
+  finish-reads.Asked,
+  finish-reads.Learnt,
+  binds-place-reads.Asked,
+  binds-place-reads.Learnt,
+  quantified-below t,
+  quantified.Post,
+) (operand-at t) operand.Post
+operand-binds-place-requires t c κs = search needs
+
+-- src/lib.rt:294:55
 operand-sub-quantified : (t : ℕ) → operand-lts.Need-sub-quantified (
   token-at-reads.Asked,
   token-at-reads.Learnt,
@@ -692,12 +737,14 @@ operand-sub-quantified : (t : ℕ) → operand-lts.Need-sub-quantified (
   operand.Post,
   finish-reads.Asked,
   finish-reads.Learnt,
+  binds-place-reads.Asked,
+  binds-place-reads.Learnt,
   quantified-below t,
   quantified.Post,
 ) (operand-at t) operand.Post
-operand-sub-quantified t c = let z = c .before .before .before .before .before .if2 .left in omega arith
+operand-sub-quantified t c = let z = c .before .before .before .before .before .before .before .if2 .left in omega arith
 
--- src/lib.rt:259:5
+-- src/lib.rt:294:9
 operand-quantified-requires : (t : ℕ) → operand-lts.Need-quantified-requires (
   token-at-reads.Asked,
   token-at-reads.Learnt,
@@ -711,12 +758,14 @@ operand-quantified-requires : (t : ℕ) → operand-lts.Need-quantified-requires
   operand.Post,
   finish-reads.Asked,
   finish-reads.Learnt,
+  binds-place-reads.Asked,
+  binds-place-reads.Learnt,
   quantified-below t,
   quantified.Post,
 ) (operand-at t) operand.Post
-operand-quantified-requires t c κs = let m = c .before .before .before .before .before .before .before .before .before .before .pre .0 in let z = c .before .before .before .before .before .if2 .left in (omega arith, (c .before .before .before .before .before .before .before .before .before .before .pre .1, opens-quantifier _ (opened-by _ _ (c .before .before .before .before .before .before .before .opens .ensures) (c .before .before .before .before .before .before .if1 .left)) (c .before .before .before .if3 .left) (c .before .if4 .left)))
+operand-quantified-requires t c κs = let m = c .before .before .before .before .before .before .before .before .before .before .before .before .pre .0 in let z = c .before .before .before .before .before .before .before .if2 .left in (omega arith, (c .before .before .before .before .before .before .before .before .before .before .before .before .pre .1, (opens-quantifier _ (opened-by _ _ (c .before .before .before .before .before .before .before .before .before .opens .ensures) (c .before .before .before .before .before .before .before .before .if1 .left)) (c .before .before .before .before .before .if3 .left) (c .before .before .before .if4 .left), order-place (c .before .before .before .before .before .before .before .before .before .before .token-at .result .kind) _ (c .before .before .binds-place .ensures) (c .before .if5 .taken))))
 
--- src/lib.rt:231:1
+-- src/lib.rt:294:9
 operand-returns-5 : (t : ℕ) → operand-lts.Need-returns-5 (
   token-at-reads.Asked,
   token-at-reads.Learnt,
@@ -730,17 +779,80 @@ operand-returns-5 : (t : ℕ) → operand-lts.Need-returns-5 (
   operand.Post,
   finish-reads.Asked,
   finish-reads.Learnt,
+  binds-place-reads.Asked,
+  binds-place-reads.Learnt,
   quantified-below t,
   quantified.Post,
 ) (operand-at t) operand.Post
-operand-returns-5 t c = let q = opens-quantifier _ (opened-by _ _ (c .before .before .before .before .before .before .before .before .opens .ensures) (c .before .before .before .before .before .before .before .if1 .left)) (c .before .before .before .before .if3 .left) (c .before .before .if4 .left) in operand-quantifier _ _ (c .before .before .before .before .before .before .before .before .before .token-at .ensures) (c .before .before .before .before .before .before .if2 .left) (q .0) (q .1) (c .quantified .ensures)
+operand-returns-5 t c = let q = opens-quantifier _ (opened-by _ _ (c .before .before .before .before .before .before .before .before .before .before .opens .ensures) (c .before .before .before .before .before .before .before .before .before .if1 .left)) (c .before .before .before .before .before .before .if3 .left) (c .before .before .before .before .if4 .left) in operand-quantifier _ _ (c .before .before .before .before .before .before .before .before .before .before .before .token-at .ensures) (c .before .before .before .before .before .before .before .before .if2 .left) (q .0) (q .1) (c .quantified .ensures)
 
--- src/lib.rt:287:11
+-- src/lib.rt:296:44
+operand-sub-quantified-2 : (t : ℕ) → operand-lts.Need-sub-quantified-2 (
+  token-at-reads.Asked,
+  token-at-reads.Learnt,
+  opens-reads.Asked,
+  opens-reads.Learnt,
+  atom-reads.Asked,
+  atom-reads.Learnt,
+  bracket-below t,
+  bracket.Post,
+  operand-below t,
+  operand.Post,
+  finish-reads.Asked,
+  finish-reads.Learnt,
+  binds-place-reads.Asked,
+  binds-place-reads.Learnt,
+  quantified-below t,
+  quantified.Post,
+) (operand-at t) operand.Post
+operand-sub-quantified-2 t c = let z = c .before .before .before .before .before .before .before .if2 .left in omega arith
+
+-- src/lib.rt:296:5
+operand-quantified-requires-2 : (t : ℕ) → operand-lts.Need-quantified-requires-2 (
+  token-at-reads.Asked,
+  token-at-reads.Learnt,
+  opens-reads.Asked,
+  opens-reads.Learnt,
+  atom-reads.Asked,
+  atom-reads.Learnt,
+  bracket-below t,
+  bracket.Post,
+  operand-below t,
+  operand.Post,
+  finish-reads.Asked,
+  finish-reads.Learnt,
+  binds-place-reads.Asked,
+  binds-place-reads.Learnt,
+  quantified-below t,
+  quantified.Post,
+) (operand-at t) operand.Post
+operand-quantified-requires-2 t c κs = let m = c .before .before .before .before .before .before .before .before .before .before .before .before .pre .0 in let z = c .before .before .before .before .before .before .before .if2 .left in (omega arith, (c .before .before .before .before .before .before .before .before .before .before .before .before .pre .1, (opens-quantifier _ (opened-by _ _ (c .before .before .before .before .before .before .before .before .before .opens .ensures) (c .before .before .before .before .before .before .before .before .if1 .left)) (c .before .before .before .before .before .if3 .left) (c .before .before .before .if4 .left), order-set (c .before .before .before .before .before .before .before .before .before .before .token-at .result .kind) _ (c .before .before .binds-place .ensures) (c .before .if5 .left))))
+
+-- src/lib.rt:258:1
+operand-returns-6 : (t : ℕ) → operand-lts.Need-returns-6 (
+  token-at-reads.Asked,
+  token-at-reads.Learnt,
+  opens-reads.Asked,
+  opens-reads.Learnt,
+  atom-reads.Asked,
+  atom-reads.Learnt,
+  bracket-below t,
+  bracket.Post,
+  operand-below t,
+  operand.Post,
+  finish-reads.Asked,
+  finish-reads.Learnt,
+  binds-place-reads.Asked,
+  binds-place-reads.Learnt,
+  quantified-below t,
+  quantified.Post,
+) (operand-at t) operand.Post
+operand-returns-6 t c = let q = opens-quantifier _ (opened-by _ _ (c .before .before .before .before .before .before .before .before .before .before .opens .ensures) (c .before .before .before .before .before .before .before .before .before .if1 .left)) (c .before .before .before .before .before .before .if3 .left) (c .before .before .before .before .if4 .left) in operand-quantifier _ _ (c .before .before .before .before .before .before .before .before .before .before .before .token-at .ensures) (c .before .before .before .before .before .before .before .before .if2 .left) (q .0) (q .1) (c .quantified2 .ensures)
+
+-- src/lib.rt:334:11
 quantified-read-binder-requires : (t : ℕ) → quantified-lts.Need-read-binder-requires (
   read-binder-reads.Asked,
   read-binder-reads.Learnt,
-  order-reads.Asked,
-  order-reads.Learnt,
   bound-reads.Asked,
   bound-reads.Learnt,
   greater-reads.Asked,
@@ -752,12 +864,10 @@ quantified-read-binder-requires : (t : ℕ) → quantified-lts.Need-read-binder-
 ) (quantified-at t) quantified.Post
 quantified-read-binder-requires t c κs = search needs
 
--- src/lib.rt:288:34
+-- src/lib.rt:335:34
 quantified-enum-known-start : (t : ℕ) → quantified-lts.Need-enum-known-start (
   read-binder-reads.Asked,
   read-binder-reads.Learnt,
-  order-reads.Asked,
-  order-reads.Learnt,
   bound-reads.Asked,
   bound-reads.Learnt,
   greater-reads.Asked,
@@ -769,29 +879,10 @@ quantified-enum-known-start : (t : ℕ) → quantified-lts.Need-enum-known-start
 ) (quantified-at t) quantified.Post
 quantified-enum-known-start t c = search needs
 
--- src/lib.rt:289:74
-quantified-order-requires : (t : ℕ) → quantified-lts.Need-order-requires (
-  read-binder-reads.Asked,
-  read-binder-reads.Learnt,
-  order-reads.Asked,
-  order-reads.Learnt,
-  bound-reads.Asked,
-  bound-reads.Learnt,
-  greater-reads.Asked,
-  greater-reads.Learnt,
-  formula-below t,
-  formula.Post,
-  finish-reads.Asked,
-  finish-reads.Learnt,
-) (quantified-at t) quantified.Post
-quantified-order-requires t c κs = search needs
-
--- src/lib.rt:289:25
+-- src/lib.rt:336:25
 quantified-bound-requires : (t : ℕ) → quantified-lts.Need-bound-requires (
   read-binder-reads.Asked,
   read-binder-reads.Learnt,
-  order-reads.Asked,
-  order-reads.Learnt,
   bound-reads.Asked,
   bound-reads.Learnt,
   greater-reads.Asked,
@@ -801,14 +892,12 @@ quantified-bound-requires : (t : ℕ) → quantified-lts.Need-bound-requires (
   finish-reads.Asked,
   finish-reads.Learnt,
 ) (quantified-at t) quantified.Post
-quantified-bound-requires t c κs = (binder-there (c .before .before .before .before .read-binder .ensures) (c .before .before .start .given .1)) .few
+quantified-bound-requires t c κs = (binder-there (c .before .before .before .read-binder .ensures) (c .before .start .given .1)) .few
 
--- src/lib.rt:293:46
+-- src/lib.rt:340:46
 quantified-add-greater : (t : ℕ) → quantified-lts.Need-add-greater (
   read-binder-reads.Asked,
   read-binder-reads.Learnt,
-  order-reads.Asked,
-  order-reads.Learnt,
   bound-reads.Asked,
   bound-reads.Learnt,
   greater-reads.Asked,
@@ -818,14 +907,12 @@ quantified-add-greater : (t : ℕ) → quantified-lts.Need-add-greater (
   finish-reads.Asked,
   finish-reads.Learnt,
 ) (quantified-at t) quantified.Post
-quantified-add-greater t c = let l = (binder-there (c .before .before .before .before .before .read-binder .ensures) (c .before .before .before .start .given .1)) .few in omega arith
+quantified-add-greater t c = let l = (binder-there (c .before .before .before .before .read-binder .ensures) (c .before .before .start .given .1)) .few in omega arith
 
--- src/lib.rt:293:25
+-- src/lib.rt:340:25
 quantified-greater-requires : (t : ℕ) → quantified-lts.Need-greater-requires (
   read-binder-reads.Asked,
   read-binder-reads.Learnt,
-  order-reads.Asked,
-  order-reads.Learnt,
   bound-reads.Asked,
   bound-reads.Learnt,
   greater-reads.Asked,
@@ -837,12 +924,10 @@ quantified-greater-requires : (t : ℕ) → quantified-lts.Need-greater-requires
 ) (quantified-at t) quantified.Post
 quantified-greater-requires t c κs = search needs
 
--- src/lib.rt:295:46
+-- src/lib.rt:342:46
 quantified-add-formula : (t : ℕ) → quantified-lts.Need-add-formula (
   read-binder-reads.Asked,
   read-binder-reads.Learnt,
-  order-reads.Asked,
-  order-reads.Learnt,
   bound-reads.Asked,
   bound-reads.Learnt,
   greater-reads.Asked,
@@ -852,14 +937,12 @@ quantified-add-formula : (t : ℕ) → quantified-lts.Need-add-formula (
   finish-reads.Asked,
   finish-reads.Learnt,
 ) (quantified-at t) quantified.Post
-quantified-add-formula t c = let l = (binder-there (c .before .before .before .before .before .before .before .read-binder .ensures) (c .before .before .before .before .before .start .given .1)) .few in omega arith
+quantified-add-formula t c = let l = (binder-there (c .before .before .before .before .before .before .read-binder .ensures) (c .before .before .before .before .start .given .1)) .few in omega arith
 
--- src/lib.rt:295:17
+-- src/lib.rt:342:17
 quantified-formula-requires : (t : ℕ) → quantified-lts.Need-formula-requires (
   read-binder-reads.Asked,
   read-binder-reads.Learnt,
-  order-reads.Asked,
-  order-reads.Learnt,
   bound-reads.Asked,
   bound-reads.Learnt,
   greater-reads.Asked,
@@ -869,14 +952,12 @@ quantified-formula-requires : (t : ℕ) → quantified-lts.Need-formula-requires
   finish-reads.Asked,
   finish-reads.Learnt,
 ) (quantified-at t) quantified.Post
-quantified-formula-requires t c κs = let m = c .before .before .before .before .before .before .before .before .before .before .pre .0 in (omega arith, (bound-fits (c .before .before .before .bound .ensures) (c .before .before .before .before .before .before .before .before .before .before .pre .1 .0) ((binder-there (c .before .before .before .before .before .before .before .before .read-binder .ensures) (c .before .before .before .before .before .before .start .given .1)) .span), joins-alike))
+quantified-formula-requires t c κs = let m = c .before .before .before .before .before .before .before .before .before .pre .0 in (omega arith, (bound-fits (c .before .before .before .bound .ensures) (c .before .before .before .before .before .before .before .before .before .pre .1 .0) ((binder-there (c .before .before .before .before .before .before .before .read-binder .ensures) (c .before .before .before .before .before .start .given .1)) .span), joins-alike))
 
--- src/lib.rt:296:13
+-- src/lib.rt:343:13
 quantified-finish-requires : (t : ℕ) → quantified-lts.Need-finish-requires (
   read-binder-reads.Asked,
   read-binder-reads.Learnt,
-  order-reads.Asked,
-  order-reads.Learnt,
   bound-reads.Asked,
   bound-reads.Learnt,
   greater-reads.Asked,
@@ -886,14 +967,12 @@ quantified-finish-requires : (t : ℕ) → quantified-lts.Need-finish-requires (
   finish-reads.Asked,
   finish-reads.Learnt,
 ) (quantified-at t) quantified.Post
-quantified-finish-requires t c κs = let p = c .before .before .before .before .before .before .before .before .before .before .before .before .pre .1 .1 in let l = p .0 in let h = p .1 in let f = (binder-there (c .before .before .before .before .before .before .before .before .before .before .read-binder .ensures) (c .before .before .before .before .before .before .before .before .start .given .1)) .few in ((l, omega arith), λ x. (h, omega arith))
+quantified-finish-requires t c κs = let p = c .before .before .before .before .before .before .before .before .before .before .before .pre .1 .1 .0 in let l = p .0 in let h = p .1 in let f = (binder-there (c .before .before .before .before .before .before .before .before .before .read-binder .ensures) (c .before .before .before .before .before .before .before .start .given .1)) .few in ((l, omega arith), λ x. (h, omega arith))
 
--- src/lib.rt:299:13
+-- src/lib.rt:346:13
 quantified-enum-known-number : (t : ℕ) → quantified-lts.Need-enum-known-number (
   read-binder-reads.Asked,
   read-binder-reads.Learnt,
-  order-reads.Asked,
-  order-reads.Learnt,
   bound-reads.Asked,
   bound-reads.Learnt,
   greater-reads.Asked,
@@ -905,12 +984,10 @@ quantified-enum-known-number : (t : ℕ) → quantified-lts.Need-enum-known-numb
 ) (quantified-at t) quantified.Post
 quantified-enum-known-number t c = search needs
 
--- src/lib.rt:273:1
+-- src/lib.rt:318:1
 quantified-returns : (t : ℕ) → quantified-lts.Need-returns (
   read-binder-reads.Asked,
   read-binder-reads.Learnt,
-  order-reads.Asked,
-  order-reads.Learnt,
   bound-reads.Asked,
   bound-reads.Learnt,
   greater-reads.Asked,
@@ -920,14 +997,12 @@ quantified-returns : (t : ℕ) → quantified-lts.Need-returns (
   finish-reads.Asked,
   finish-reads.Learnt,
 ) (quantified-at t) quantified.Post
-quantified-returns t c = quantified-done _ _ _ (binder-there (c .before .before .before .before .before .before .before .before .before .before .before .read-binder .ensures) (c .before .before .before .before .before .before .before .before .before .start .given .1)) (c .before .before .before .before .before .before .before .before .before .before .before .before .before .pre .1 .1) (c .before .before .before .before .before .before .bound .ensures) (c .before .before .before .before .before .before .before .order .ensures) (c .before .before .before .before .before .greater .ensures) (c .before .before .formula .ensures) (c .finish .ensures)
+quantified-returns t c = quantified-done _ _ _ (binder-there (c .before .before .before .before .before .before .before .before .before .before .read-binder .ensures) (c .before .before .before .before .before .before .before .before .start .given .1)) (c .before .before .before .before .before .before .before .before .before .before .before .before .pre .1 .1 .0) (c .before .before .before .before .before .before .bound .ensures) (c .before .before .before .before .before .before .before .before .before .before .before .before .pre .1 .1 .1) (c .before .before .before .before .before .greater .ensures) (c .before .before .formula .ensures) (c .finish .ensures)
 
--- src/lib.rt:273:1
+-- src/lib.rt:318:1
 quantified-returns-2 : (t : ℕ) → quantified-lts.Need-returns-2 (
   read-binder-reads.Asked,
   read-binder-reads.Learnt,
-  order-reads.Asked,
-  order-reads.Learnt,
   bound-reads.Asked,
   bound-reads.Learnt,
   greater-reads.Asked,
@@ -939,7 +1014,7 @@ quantified-returns-2 : (t : ℕ) → quantified-lts.Need-returns-2 (
 ) (quantified-at t) quantified.Post
 quantified-returns-2 t c = quantified-unbound _ _ _ _ (c .before .before .before .read-binder .ensures) (c .before .number .given .1)
 
--- src/lib.rt:191:9
+-- src/lib.rt:211:9
 tighter-implication-requires : (t : ℕ) → tighter-lts.Need-implication-requires (
   implication-below t,
   implication.Post,
@@ -950,7 +1025,7 @@ tighter-implication-requires : (t : ℕ) → tighter-lts.Need-implication-requir
 ) (tighter-at t) tighter.Post
 tighter-implication-requires t c κs = let m = c .before .before .before .pre .0 in let e = c .before .if1 .taken in (omega arith, c .before .before .before .pre .1 .0)
 
--- src/lib.rt:191:9
+-- src/lib.rt:211:9
 tighter-returns : (t : ℕ) → tighter-lts.Need-returns (
   implication-below t,
   implication.Post,
@@ -961,7 +1036,7 @@ tighter-returns : (t : ℕ) → tighter-lts.Need-returns (
 ) (tighter-at t) tighter.Post
 tighter-returns t c = level-as _ _ _ (let e = c .before .before .if1 .taken in omega arith) (c .implication .ensures)
 
--- src/lib.rt:194:9
+-- src/lib.rt:214:9
 tighter-formula-requires : (t : ℕ) → tighter-lts.Need-formula-requires (
   implication-below t,
   implication.Post,
@@ -972,7 +1047,7 @@ tighter-formula-requires : (t : ℕ) → tighter-lts.Need-formula-requires (
 ) (tighter-at t) tighter.Post
 tighter-formula-requires t c κs = let m = c .before .before .before .before .pre .0 in let e = c .before .if2 .taken in (omega arith, (c .before .before .before .before .pre .1 .0, joins-both))
 
--- src/lib.rt:194:9
+-- src/lib.rt:214:9
 tighter-returns-2 : (t : ℕ) → tighter-lts.Need-returns-2 (
   implication-below t,
   implication.Post,
@@ -983,7 +1058,7 @@ tighter-returns-2 : (t : ℕ) → tighter-lts.Need-returns-2 (
 ) (tighter-at t) tighter.Post
 tighter-returns-2 t c = level-as _ _ _ (let e = c .before .before .if2 .taken in omega arith) (c .formula .ensures)
 
--- src/lib.rt:196:5
+-- src/lib.rt:216:5
 tighter-operand-requires : (t : ℕ) → tighter-lts.Need-operand-requires (
   implication-below t,
   implication.Post,
@@ -994,7 +1069,7 @@ tighter-operand-requires : (t : ℕ) → tighter-lts.Need-operand-requires (
 ) (tighter-at t) tighter.Post
 tighter-operand-requires t c κs = let m = c .before .before .before .before .pre .0 in let e = joining-last (c .before .before .before .before .pre .1 .1) (c .before .before .if1 .left) (c .before .if2 .left) in (omega arith, c .before .before .before .before .pre .1 .0)
 
--- src/lib.rt:176:1
+-- src/lib.rt:196:1
 tighter-returns-3 : (t : ℕ) → tighter-lts.Need-returns-3 (
   implication-below t,
   implication.Post,
@@ -1084,6 +1159,8 @@ pub +bracket+formula+implication+operand+quantified+tighter-spec : {M : Type 1} 
       operand.Post,
       finish-reads.Asked,
       finish-reads.Learnt,
+      binds-place-reads.Asked,
+      binds-place-reads.Learnt,
       quantified-below t,
       quantified.Post,
     )
@@ -1101,14 +1178,16 @@ pub +bracket+formula+implication+operand+quantified+tighter-spec : {M : Type 1} 
     (operand-operand-requires t)
     (operand-finish-requires t)
     (operand-returns-4 t)
+    (operand-binds-place-requires t)
     (operand-sub-quantified t)
     (operand-quantified-requires t)
-    (operand-returns-5 t))
+    (operand-returns-5 t)
+    (operand-sub-quantified-2 t)
+    (operand-quantified-requires-2 t)
+    (operand-returns-6 t))
     (λ t. quantified-lts.spec (
       read-binder-reads.Asked,
       read-binder-reads.Learnt,
-      order-reads.Asked,
-      order-reads.Learnt,
       bound-reads.Asked,
       bound-reads.Learnt,
       greater-reads.Asked,
@@ -1122,7 +1201,6 @@ pub +bracket+formula+implication+operand+quantified+tighter-spec : {M : Type 1} 
     quantified.Post
     (quantified-read-binder-requires t)
     (quantified-enum-known-start t)
-    (quantified-order-requires t)
     (quantified-bound-requires t)
     (quantified-add-greater t)
     (quantified-greater-requires t)
