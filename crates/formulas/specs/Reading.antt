@@ -6,19 +6,19 @@ use mathlib.Core.Path.{_≡_}
 use mathlib.Core.Bool.{Bool, cond, _||_}
 use mathlib.Core.List.{List, _∷_}
 use lib.Dec.{eqb, leb}
-use lib.ListN.{length}
+use lib.ListN.{length, getD}
 use Rattle.logic.specs.Rule.{Record}
 use Rattle.bits.specs.Bits.{between}
 use Rattle.text.specs.Token.{Token, spells}
 use Rattle.text.specs.Syntax.{Name, Order, first, second, Sentence, both, either, alike, forSome, forEvery, Declared, Scope}
-use Rattle.text.specs.Grammar.{Read, got, next, accept, or23, Reader, Part, joined, more, andThen, reader, operandAt, consequentAt}
+use Rattle.text.specs.Grammar.{Read, got, next, rest, accept, or23, Reader, Part, joined, more, andThen, reader, operandAt, consequentAt}
 use Rattle.text.specs.Grammar.{refused as leaves}
 use Rattle.text.specs.Records.{tracks, write, putNot}
-use Rattle.tokens.specs.Tokens.{tokensAt}
-use Rattle.phrases.specs.Told.{binderOf, MarkStands, MarkLacks}
+use Rattle.tokens.specs.Tokens.{tokensAt, Stands}
+use Rattle.tokens.specs.declared.Token.{Token as TokenRead}
+use Rattle.phrases.specs.Told.{binderOf}
 use Rattle.drafting.specs.Draft.{Drafted}
 use Rattle.drafting.specs.Joined.{putJoined, putQuantified}
-use Rattle.formulas.specs.declared.Here.{Here}
 use Rattle.formulas.specs.declared.Reading.{Reading}
 use Rattle.formulas.specs.declared.Reading.the-variants.{Got, Refused}
 
@@ -39,9 +39,9 @@ levelAt d (suc (suc (suc (suc k)))) = operandAt d (deeperAt d)
 unfoldable pub opensBy : ℕ → Bool
 opensBy kind = between 3 6 kind || (eqb kind 13 || eqb kind 15)
 
--- a formula and its closing bracket, behind the opening one
+-- a formula and its closing bracket, behind the opening one, which stands next
 unfoldable pub bracketAt : ℕ → Reader
-bracketAt d sc ts = andThen (levelAt d 0 sc ts) (λ f us. accept (or23 (spells ")" (next us))) us (λ _ vs. got f vs))
+bracketAt d sc ts = andThen (levelAt d 0 sc (rest ts)) (λ f us. accept (or23 (spells ")" (next us))) us (λ _ vs. got f vs))
 
 -- the order of what a quantifier word of that kind binds, and the sentence that it makes: 3 `ex1`, 4 `ex2`, 5 `all1`, 6 `all2`
 abbrev pub placeBy : ℕ → Bool
@@ -53,9 +53,9 @@ orderBy kind = cond (placeBy kind) first second
 abbrev pub quantifierBy : ℕ → Order → Name → Sentence → Sentence
 quantifierBy kind = cond (leb kind 4) forSome forEvery
 
--- the name, the colon and the formula behind a quantifier word
+-- the name, the colon and the formula behind a quantifier word, which stands next
 unfoldable pub quantifiedAt : ℕ → ℕ → Reader
-quantifiedAt d kind sc ts = binderOf sc ts (λ x vs.
+quantifiedAt d kind sc ts = binderOf sc (rest ts) (λ x vs.
     andThen (levelAt d 0 (record { name = x; order = orderBy kind } ∷ sc) vs) (λ f us. got (quantifierBy kind (orderBy kind) x f) us))
 
 -- the operators that join any number of operands: all but `=>`
@@ -64,17 +64,54 @@ pub data Joining : ℕ → Type 0 where
   joins-either : Joining 2
   joins-both : Joining 3
 
--- what reading a formula answers: it leaves the tokens of the text s from a place on, having put the formula's records behind rs and counted
--- its tracks; or a refusal, with the bytes of its token
-pub data Told (s : List ℕ) (sc : Scope) (rs : List Record) (from : Here) (ws : List ℕ) (R : Read Sentence) (r : Reading) : Type 0 where
-  told-got : (f : Sentence) (here : Here) → R ≡ got f (tokensAt s (here .next)) → r ≡ Got here → Drafted ws (here .count) (write sc f rs)
-      → here .tracks ≡ max (from .tracks) (tracks (length sc) f) → Told s sc rs from ws R r
-  told-refused : (k : ℕ) (t : Token) → R ≡ leaves k t → r ≡ Refused k (t .start) (t .stop) → Told s sc rs from ws R r
+-- where reading has come to, as the array h has it: the token that stands next, the records so far, the tracks that were taken
+abbrev pub kindAt : List ℕ → ℕ
+kindAt h = getD h 0 0
 
--- the answer is what the reader reads in s from a place on, where the names sc are in use; ws and ws′: the records' array before and after
-pub record Reads (read : Reader) (s : List ℕ) (sc : Scope) (ws : List ℕ) (from : Here) (ws′ : List ℕ) (r : Reading) : Type 0 where
-  pub tells : (rs : List Record) → Drafted ws (from .count) rs → length sc ≤ from .tracks → Told s sc rs from ws′ (read sc (tokensAt s (from .next))) r
-  pub onward : (here : Here) → r ≡ Got here → from .next ≤ here .next
+abbrev pub startAt : List ℕ → ℕ
+startAt h = getD h 1 0
+
+abbrev pub stopAt : List ℕ → ℕ
+stopAt h = getD h 2 0
+
+abbrev pub tokenOf : List ℕ → TokenRead
+tokenOf h = record { kind = kindAt h; start = startAt h; stop = stopAt h }
+
+abbrev pub countAt : List ℕ → ℕ
+countAt h = getD h 3 0
+
+abbrev pub tracksAt : List ℕ → ℕ
+tracksAt h = getD h 4 0
+
+-- the array's token is the one that stands next in s
+pub record Ready (s h : List ℕ) : Type 0 where
+  pub size : length h ≡ 5
+  pub stands : Stands s (startAt h) (tokenOf h)
+
+-- the token that stands next from a place on is looked at; the rest stays
+pub record Looks (s : List ℕ) (at : ℕ) (h h′ : List ℕ) : Type 0 where
+  pub size : length h′ ≡ 5
+  pub stands : Stands s at (tokenOf h′)
+  pub count-is : countAt h′ ≡ countAt h
+  pub tracks-is : tracksAt h′ ≡ tracksAt h
+
+-- "23 when it leaves this grammar or depth", at the token that stands next
+abbrev pub refusedHere : List ℕ → Reading
+refusedHere h = Refused 23 (startAt h) (stopAt h)
+
+-- what reading a formula answers: it leaves the tokens of the text s from a place on, having put the formula's records behind rs and counted
+-- its tracks; or a refusal, with the bytes of its token. h and h′: the array before and after
+pub data Told (s : List ℕ) (sc : Scope) (rs : List Record) (h ws h′ : List ℕ) (R : Read Sentence) (r : Reading) : Type 0 where
+  told-got : (f : Sentence) → R ≡ got f (tokensAt s (startAt h′)) → r ≡ Got → Drafted ws (countAt h′) (write sc f rs)
+      → tracksAt h′ ≡ max (tracksAt h) (tracks (length sc) f) → Told s sc rs h ws h′ R r
+  told-refused : (k : ℕ) (t : Token) → R ≡ leaves k t → r ≡ Refused k (t .start) (t .stop) → Told s sc rs h ws h′ R r
+
+-- the answer is what the reader reads in s, where the names sc are in use; ws and ws′: the records' array before and after
+pub record Reads (read : Reader) (s : List ℕ) (sc : Scope) (ws h ws′ h′ : List ℕ) (r : Reading) : Type 0 where
+  pub tells : (rs : List Record) → Drafted ws (countAt h) rs → length sc ≤ tracksAt h → Told s sc rs h ws′ h′ (read sc (tokensAt s (startAt h))) r
+  pub size : length h′ ≡ 5
+  pub ready : r ≡ Got → Ready s h′
+  pub onward : r ≡ Got → startAt h ≤ startAt h′
 
 -- the records that a construct of that kind puts behind those of its last part, beside: the count after its left side, or the track it binds
 pub record Owns (ws : List ℕ) (kind beside c : ℕ) (ws′ : List ℕ) (c′ : ℕ) : Type 0 where
@@ -82,20 +119,20 @@ pub record Owns (ws : List ℕ) (kind beside c : ℕ) (ws′ : List ℕ) (c′ :
   pub joins : 16 ≤ kind → (fs gs : List Record) → beside ≡ min (length fs) 129 → length fs ≤ length gs → Drafted ws c gs → Drafted ws′ c′ (putJoined kind fs gs)
   pub binds : kind ≤ 6 → (rs : List Record) → Drafted ws c rs → Drafted ws′ c′ (putQuantified kind beside rs)
 
--- reading has come no further, and such records were put
-pub record Finishes (ws : List ℕ) (kind beside : ℕ) (ws′ : List ℕ) (here there : Here) : Type 0 where
-  pub next-is : there .next ≡ here .next
-  pub tracks-is : there .tracks ≡ here .tracks
-  pub owns : Owns ws kind beside (here .count) ws′ (there .count)
+-- another count stands in the array; the rest stays
+pub record Counted (h : List ℕ) (c : ℕ) (h′ : List ℕ) : Type 0 where
+  pub size : length h′ ≡ 5
+  pub token-is : tokenOf h′ ≡ tokenOf h
+  pub count-is : countAt h′ ≡ c
+  pub tracks-is : tracksAt h′ ≡ tracksAt h
 
--- what was read of a part, with some change to what is kept; a refusal is passed up
-pub data After (P : Here → Here → Type 0) (inner r : Reading) : Type 0 where
-  after-got : (here there : Here) → inner ≡ Got here → r ≡ Got there → P here there → After P inner r
-  after-refused : (k b e : ℕ) → inner ≡ Refused k b e → r ≡ Refused k b e → After P inner r
+-- the last part of a construct was read, and its own records are put; or a refusal is passed up
+pub data Finishes (ws : List ℕ) (kind beside : ℕ) (ws′ h h′ : List ℕ) (inner r : Reading) : Type 0 where
+  finishes : (c : ℕ) → inner ≡ Got → r ≡ Got → Counted h c h′ → Owns ws kind beside (countAt h) ws′ c → Finishes ws kind beside ws′ h h′ inner r
+  passes : (k b e : ℕ) → inner ≡ Refused k b e → r ≡ Refused k b e → h′ ≡ h → Finishes ws kind beside ws′ h h′ inner r
 
 -- a formula was read, and then its closing bracket, or not
-pub data Closes (s : List ℕ) (inner r : Reading) : Type 0 where
-  closes : (here : Here) (next : ℕ) → inner ≡ Got here → MarkStands s 14 (here .next) next → r ≡ Got (record { next = next; count = here .count; tracks = here .tracks })
-      → Closes s inner r
-  lacks-closing : (here : Here) (k b e : ℕ) → inner ≡ Got here → MarkLacks s 14 (here .next) k b e → r ≡ Refused k b e → Closes s inner r
-  closes-refused : (k b e : ℕ) → inner ≡ Refused k b e → r ≡ Refused k b e → Closes s inner r
+pub data Closes (s h h′ : List ℕ) (inner r : Reading) : Type 0 where
+  closes : inner ≡ Got → r ≡ Got → kindAt h ≡ 14 → Looks s (stopAt h) h h′ → Closes s h h′ inner r
+  lacks-closing : inner ≡ Got → r ≡ refusedHere h → (kindAt h ≡ 14 → ⊥) → h′ ≡ h → Closes s h h′ inner r
+  closes-refused : (k b e : ℕ) → inner ≡ Refused k b e → r ≡ Refused k b e → h′ ≡ h → Closes s h h′ inner r

@@ -1,29 +1,36 @@
 // Formulas of a text, read and drafted. "A bracketed formula holds formulas, which hold bracketed ones": the readers call each other, and at each
-// call what is left of the text, the levels that may still open, or the operators that may still join fall. The names in use are entries of
-// three numbers (`tokens::names`).
+// call what is left of the text, the levels that may still open, or the operators that may still join fall. Where reading has come to is one
+// array, lent to all of them: the kind, start and stop of the token that stands next, the records so far (129 for any more than 128), and how
+// many tracks were taken. The names in use are entries of three numbers (`tokens::names`).
 ghost use mathlib.Core.Path.{_≡_};
 ghost use Prim.Native.Nat.{ℕ, suc, _<_, _≤_, max};
+ghost use lib.ListN.{length};
 ghost use Rattle.text.specs.Grammar.{atomOf};
 ghost use Rattle.tokens.specs.InUse.{orderOf, scopeOf, NamesFit};
-ghost use Rattle.formulas.specs.Reading.{levelAt, opensBy, bracketAt, placeBy, orderBy, quantifiedAt, Joining, Reads, Owns, Finishes, After, Closes};
+ghost use Rattle.formulas.specs.Reading.{levelAt, opensBy, bracketAt, placeBy, orderBy, quantifiedAt, Joining};
+ghost use Rattle.formulas.specs.Reading.{kindAt, Ready, Looks, refusedHere, Reads, Owns, Finishes, Closes};
+use tokens::Token;
 
-// Where reading has come to: the place from which the next token is looked for, the records so far (129 for any more than 128), and how many
-// tracks were taken.
-pub struct Here {
-    pub next: usize,
-    pub count: usize,
-    pub tracks: usize,
-}
-
-// What reading a formula answers: where it has come to, or the refusal's number and the span of the token at which it lies.
+// What reading a formula answers: nothing, or the refusal's number and the span of the token at which it lies.
 pub enum Reading {
-    Got(Here),
+    Got,
     Refused {
         number: u64,
         start: usize,
         stop: usize,
     },
 }
+
+// The places of that array.
+pub const KIND: usize = 0;
+
+pub const START: usize = 1;
+
+pub const STOP: usize = 2;
+
+pub const COUNT: usize = 3;
+
+pub const TRACKS: usize = 4;
 
 // The kinds of the tokens that are looked for here: their places among all words and marks.
 const OPENING: usize = 13;
@@ -35,6 +42,28 @@ const NOT: usize = 15;
 const IMPLIES: usize = 18;
 
 const ALIKE: usize = 19;
+
+// The token that stands next from a place on.
+pub fn look(text: &[u8], here: &mut [usize; 5], at: usize)
+    requires { ⌜ length (now here) ≡ 5 ⌝ }
+    ensures { λ _. ⌜ Looks (now (text .entry)) at (now (here .entry)) (now (here .exit)) ⌝ }
+{
+    let t = tokens::token_at(text, at);
+    here[KIND] = t.kind;
+    here[START] = t.start;
+    here[STOP] = t.stop;
+}
+
+// A refusal at the token that stands next: "23 when it leaves this grammar or depth".
+pub fn refuse(here: &[usize; 5]) -> Reading
+    ensures { λ r. ⌜ r ≡ refusedHere (now (here .entry)) ⌝ }
+{
+    Reading::Refused {
+        number: 23,
+        start: here[START],
+        stop: here[STOP],
+    }
+}
 
 // Whether a token of that kind opens a level before an operand: a quantifier word, a bracket or `~`.
 fn opens(kind: usize) -> bool
@@ -87,45 +116,39 @@ fn own_records(words: &mut [u64; 128], kind: usize, beside: usize, count: usize)
 }
 
 // A construct whose last part was read.
-fn finish(words: &mut [u64; 128], kind: usize, beside: usize, inner: Reading) -> Reading
+fn finish(
+    words: &mut [u64; 128],
+    here: &mut [usize; 5],
+    kind: usize,
+    beside: usize,
+    inner: Reading,
+) -> Reading
+    requires { ⌜ length (now here) ≡ 5 ⌝ }
     requires { ⌜ (3 ≤ kind) × (kind ≤ 19) ⌝ }
     requires { ⌜ (kind < 15 → (kind ≤ 6) × (beside < 128)) ⌝ }
-    ensures { λ r. ⌜ After (Finishes (now (words .entry)) kind beside (now (words .exit))) inner r ⌝ }
+    ensures { λ r. ⌜ Finishes (now (words .entry)) kind beside (now (words .exit)) (now (here .entry)) (now (here .exit)) inner r ⌝ }
 {
-    let Reading::Got(here) = inner else {
+    let Reading::Got = inner else {
         return inner;
     };
-    let count = own_records(words, kind, beside, here.count);
-    Reading::Got(Here {
-        next: here.next,
-        count,
-        tracks: here.tracks,
-    })
+    here[COUNT] = own_records(words, kind, beside, here[COUNT]);
+    Reading::Got
 }
 
 // The bracket that closes a formula.
-fn close(text: &[u8], inner: Reading) -> Reading
-    ensures { λ r. ⌜ Closes (now (text .entry)) inner r ⌝ }
+fn close(text: &[u8], here: &mut [usize; 5], inner: Reading) -> Reading
+    requires { ⌜ length (now here) ≡ 5 ⌝ }
+    ensures { λ r. ⌜ Closes (now (text .entry)) (now (here .entry)) (now (here .exit)) inner r ⌝ }
 {
-    let Reading::Got(here) = inner else {
+    let Reading::Got = inner else {
         return inner;
     };
-    match phrases::read_mark(text, CLOSING, here.next) {
-        phrases::Mark::Stands { next } => Reading::Got(Here {
-            next,
-            count: here.count,
-            tracks: here.tracks,
-        }),
-        phrases::Mark::Refused {
-            number,
-            start,
-            stop,
-        } => Reading::Refused {
-            number,
-            start,
-            stop,
-        },
+    if here[KIND] != CLOSING {
+        return refuse(here);
     }
+    let behind = here[STOP];
+    look(text, here, behind);
+    Reading::Got
 }
 
 // An atom, with its record.
@@ -134,18 +157,24 @@ fn atom(
     names: &[usize; 24],
     in_use: usize,
     words: &mut [u64; 128],
-    here: Here,
+    here: &mut [usize; 5],
 ) -> Reading
     requires { ⌜ NamesFit (now text) (now names) «in_use» ⌝ }
-    ensures { λ r. ⌜ Reads atomOf (now (text .entry)) (scopeOf (now (text .entry)) (now (names .entry)) «in_use») (now (words .entry)) here
-        (now (words .exit)) r ⌝ }
+    requires { ⌜ Ready (now text) (now here) ⌝ }
+    ensures { λ r. ⌜ Reads atomOf (now (text .entry)) (scopeOf (now (text .entry)) (now (names .entry)) «in_use») (now (words .entry)) (now (here .entry))
+        (now (words .exit)) (now (here .exit)) r ⌝ }
 {
-    match phrases::read_atom(text, names, in_use, here.next) {
-        phrases::AtomRead::Read { atom, next } => Reading::Got(Here {
-            next,
-            count: drafting::put_atom(words, here.count, atom),
-            tracks: here.tracks,
-        }),
+    let left = Token {
+        kind: here[KIND],
+        start: here[START],
+        stop: here[STOP],
+    };
+    match phrases::read_atom(text, names, in_use, left) {
+        phrases::AtomRead::Read { atom, next } => {
+            here[COUNT] = drafting::put_atom(words, here[COUNT], atom);
+            look(text, here, next);
+            Reading::Got
+        }
         phrases::AtomRead::Refused {
             number,
             start,
@@ -164,31 +193,29 @@ pub fn formula(
     names: &[usize; 24],
     in_use: usize,
     words: &mut [u64; 128],
+    here: &mut [usize; 5],
     depth: usize,
     strength: usize,
-    here: Here,
 ) -> Reading
     requires { ⌜ NamesFit (now text) (now names) «in_use» ⌝ }
+    requires { ⌜ Ready (now text) (now here) ⌝ }
     requires { ⌜ Joining strength ⌝ }
     ensures { λ r. ⌜ Reads (levelAt depth strength) (now (text .entry)) (scopeOf (now (text .entry)) (now (names .entry)) «in_use») (now (words .entry))
-        here (now (words .exit)) r ⌝ }
+        (now (here .entry)) (now (words .exit)) (now (here .exit)) r ⌝ }
 {
-    let mut reading = tighter(text, names, in_use, words, depth, strength, here);
+    let mut reading = tighter(text, names, in_use, words, here, depth, strength);
     loop {
-        let Reading::Got(left) = reading else {
+        let Reading::Got = reading else {
             return reading;
         };
-        let t = tokens::token_at(text, left.next);
-        if t.kind != ALIKE - strength {
-            return reading;
+        if here[KIND] != ALIKE - strength {
+            return Reading::Got;
         }
-        let behind = Here {
-            next: t.stop,
-            count: left.count,
-            tracks: left.tracks,
-        };
-        let right = tighter(text, names, in_use, words, depth, strength, behind);
-        reading = finish(words, t.kind, left.count, right);
+        let left = here[COUNT];
+        let behind = here[STOP];
+        look(text, here, behind);
+        let right = tighter(text, names, in_use, words, here, depth, strength);
+        reading = finish(words, here, ALIKE - strength, left, right);
     }
 }
 
@@ -198,22 +225,23 @@ fn tighter(
     names: &[usize; 24],
     in_use: usize,
     words: &mut [u64; 128],
+    here: &mut [usize; 5],
     depth: usize,
     strength: usize,
-    here: Here,
 ) -> Reading
     requires { ⌜ NamesFit (now text) (now names) «in_use» ⌝ }
+    requires { ⌜ Ready (now text) (now here) ⌝ }
     requires { ⌜ Joining strength ⌝ }
     ensures { λ r. ⌜ Reads (levelAt depth (suc strength)) (now (text .entry)) (scopeOf (now (text .entry)) (now (names .entry)) «in_use»)
-        (now (words .entry)) here (now (words .exit)) r ⌝ }
+        (now (words .entry)) (now (here .entry)) (now (words .exit)) (now (here .exit)) r ⌝ }
 {
     if strength == 0 {
-        return implication(text, names, in_use, words, depth, here);
+        return implication(text, names, in_use, words, here, depth);
     }
     if strength == 2 {
-        return formula(text, names, in_use, words, depth, 3, here);
+        return formula(text, names, in_use, words, here, depth, 3);
     }
-    operand(text, names, in_use, words, depth, here)
+    operand(text, names, in_use, words, here, depth)
 }
 
 // "`=>` groups to the right", and its right side is a level of its own.
@@ -222,36 +250,30 @@ fn implication(
     names: &[usize; 24],
     in_use: usize,
     words: &mut [u64; 128],
+    here: &mut [usize; 5],
     depth: usize,
-    here: Here,
 ) -> Reading
     requires { ⌜ NamesFit (now text) (now names) «in_use» ⌝ }
-    ensures { λ r. ⌜ Reads (levelAt depth 1) (now (text .entry)) (scopeOf (now (text .entry)) (now (names .entry)) «in_use») (now (words .entry)) here
-        (now (words .exit)) r ⌝ }
+    requires { ⌜ Ready (now text) (now here) ⌝ }
+    ensures { λ r. ⌜ Reads (levelAt depth 1) (now (text .entry)) (scopeOf (now (text .entry)) (now (names .entry)) «in_use») (now (words .entry))
+        (now (here .entry)) (now (words .exit)) (now (here .exit)) r ⌝ }
 {
-    let reading = formula(text, names, in_use, words, depth, 2, here);
-    let Reading::Got(left) = reading else {
+    let reading = formula(text, names, in_use, words, here, depth, 2);
+    let Reading::Got = reading else {
         return reading;
     };
-    let t = tokens::token_at(text, left.next);
-    if t.kind != IMPLIES {
-        return reading;
+    if here[KIND] != IMPLIES {
+        return Reading::Got;
     }
     if depth == 0 {
-        return Reading::Refused {
-            number: 23,
-            start: t.start,
-            stop: t.stop,
-        };
+        return refuse(here);
     }
-    let denied = drafting::put_not(words, left.count);
-    let behind = Here {
-        next: t.stop,
-        count: denied,
-        tracks: left.tracks,
-    };
-    let right = implication(text, names, in_use, words, depth - 1, behind);
-    finish(words, IMPLIES, denied, right)
+    let denied = drafting::put_not(words, here[COUNT]);
+    let behind = here[STOP];
+    here[COUNT] = denied;
+    look(text, here, behind);
+    let right = implication(text, names, in_use, words, here, depth - 1);
+    finish(words, here, IMPLIES, denied, right)
 }
 
 // What `~` denies: an atom, or what stands behind a token that opens a level.
@@ -260,87 +282,83 @@ fn operand(
     names: &[usize; 24],
     in_use: usize,
     words: &mut [u64; 128],
+    here: &mut [usize; 5],
     depth: usize,
-    here: Here,
 ) -> Reading
     requires { ⌜ NamesFit (now text) (now names) «in_use» ⌝ }
-    ensures { λ r. ⌜ Reads (levelAt depth 4) (now (text .entry)) (scopeOf (now (text .entry)) (now (names .entry)) «in_use») (now (words .entry)) here
-        (now (words .exit)) r ⌝ }
+    requires { ⌜ Ready (now text) (now here) ⌝ }
+    ensures { λ r. ⌜ Reads (levelAt depth 4) (now (text .entry)) (scopeOf (now (text .entry)) (now (names .entry)) «in_use») (now (words .entry))
+        (now (here .entry)) (now (words .exit)) (now (here .exit)) r ⌝ }
 {
-    let t = tokens::token_at(text, here.next);
-    if !opens(t.kind) {
+    let kind = here[KIND];
+    if !opens(kind) {
         return atom(text, names, in_use, words, here);
     }
     if depth == 0 {
-        return Reading::Refused {
-            number: 23,
-            start: t.start,
-            stop: t.stop,
-        };
+        return refuse(here);
     }
-    let behind = Here {
-        next: t.stop,
-        count: here.count,
-        tracks: here.tracks,
-    };
-    if t.kind == OPENING {
-        return bracket(text, names, in_use, words, depth - 1, behind);
+    if kind == OPENING {
+        return bracket(text, names, in_use, words, here, depth - 1);
     }
-    if t.kind == NOT {
-        let inner = operand(text, names, in_use, words, depth - 1, behind);
-        return finish(words, NOT, 0, inner);
+    if kind == NOT {
+        let behind = here[STOP];
+        look(text, here, behind);
+        let inner = operand(text, names, in_use, words, here, depth - 1);
+        return finish(words, here, NOT, 0, inner);
     }
-    if binds_place(t.kind) {
-        return quantified(text, names, in_use, words, depth - 1, t.kind, 1, behind);
+    if binds_place(kind) {
+        return quantified(text, names, in_use, words, here, depth - 1, 1);
     }
-    quantified(text, names, in_use, words, depth - 1, t.kind, 2, behind)
+    quantified(text, names, in_use, words, here, depth - 1, 2)
 }
 
-// A formula and its closing bracket, behind the opening one.
+// An opening bracket, a formula and its closing bracket.
 fn bracket(
     text: &[u8],
     names: &[usize; 24],
     in_use: usize,
     words: &mut [u64; 128],
+    here: &mut [usize; 5],
     depth: usize,
-    here: Here,
 ) -> Reading
     requires { ⌜ NamesFit (now text) (now names) «in_use» ⌝ }
-    ensures { λ r. ⌜ Reads (bracketAt depth) (now (text .entry)) (scopeOf (now (text .entry)) (now (names .entry)) «in_use») (now (words .entry)) here
-        (now (words .exit)) r ⌝ }
+    requires { ⌜ Ready (now text) (now here) ⌝ }
+    requires { ⌜ kindAt (now here) ≡ 13 ⌝ }
+    ensures { λ r. ⌜ Reads (bracketAt depth) (now (text .entry)) (scopeOf (now (text .entry)) (now (names .entry)) «in_use») (now (words .entry))
+        (now (here .entry)) (now (words .exit)) (now (here .exit)) r ⌝ }
 {
-    let inner = formula(text, names, in_use, words, depth, 0, here);
-    close(text, inner)
+    let behind = here[STOP];
+    look(text, here, behind);
+    let inner = formula(text, names, in_use, words, here, depth, 0);
+    close(text, here, inner)
 }
 
-// What a quantifier word of that kind and order binds, and the formula that it reaches over. The names in use are copied here alone, which
-// happens at most eight times on the way down.
+// A quantifier word, what it binds, of that order, and the formula that it reaches over. The names in use are copied here alone, which happens
+// at most eight times on the way down.
 fn quantified(
     text: &[u8],
     names: &[usize; 24],
     in_use: usize,
     words: &mut [u64; 128],
+    here: &mut [usize; 5],
     depth: usize,
-    kind: usize,
     order: usize,
-    here: Here,
 ) -> Reading
     requires { ⌜ NamesFit (now text) (now names) «in_use» ⌝ }
-    requires { ⌜ (3 ≤ kind) × (kind ≤ 6) ⌝ }
-    requires { ⌜ orderOf order ≡ orderBy kind ⌝ }
-    ensures { λ r. ⌜ Reads (quantifiedAt depth kind) (now (text .entry)) (scopeOf (now (text .entry)) (now (names .entry)) «in_use») (now (words .entry))
-        here (now (words .exit)) r ⌝ }
+    requires { ⌜ Ready (now text) (now here) ⌝ }
+    requires { ⌜ (3 ≤ kindAt (now here)) × (kindAt (now here) ≤ 6) ⌝ }
+    requires { ⌜ orderOf order ≡ orderBy (kindAt (now here)) ⌝ }
+    ensures { λ r. ⌜ Reads (quantifiedAt depth (kindAt (now (here .entry)))) (now (text .entry)) (scopeOf (now (text .entry)) (now (names .entry)) «in_use»)
+        (now (words .entry)) (now (here .entry)) (now (words .exit)) (now (here .exit)) r ⌝ }
 {
-    match phrases::read_binder(text, in_use, here.next) {
+    let kind = here[KIND];
+    match phrases::read_binder(text, in_use, here[STOP]) {
         phrases::Binder::Bound { start, stop, next } => {
             let inner = tokens::names::bound(names, in_use, start, stop, order);
-            let behind = Here {
-                next,
-                count: here.count,
-                tracks: greater(here.tracks, in_use + 1),
-            };
-            let body = formula(text, &inner, in_use + 1, words, depth, 0, behind);
-            finish(words, kind, in_use, body)
+            here[TRACKS] = greater(here[TRACKS], in_use + 1);
+            look(text, here, next);
+            let body = formula(text, &inner, in_use + 1, words, here, depth, 0);
+            finish(words, here, kind, in_use, body)
         }
         phrases::Binder::Refused {
             number,

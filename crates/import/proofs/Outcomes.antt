@@ -25,10 +25,10 @@ use Rattle.text.proofs.Readers.{read-good}
 use Rattle.text.proofs.Claimed.{claimed}
 use Rattle.drafting.specs.Draft.{Drafted}
 use Rattle.drafting.proofs.Kept.{drafted-count, drafted-words}
-use Rattle.formulas.specs.declared.Here.{Here}
+use Rattle.formulas.specs.Reading.{countAt, tracksAt}
 use Rattle.formulas.specs.declared.Reading.{Reading}
 use Rattle.formulas.specs.declared.Reading.the-variants.{Got, Refused as Unread}
-use Rattle.formulas.proofs.Levels.{got-same, got-refused}
+use Rattle.formulas.proofs.Levels.{got-refused}
 use Rattle.import.specs.Answers.{importedOf, faultOf, Claimed, TextTold, text-got, text-refused}
 use Rattle.import.specs.declared.Import.{Import}
 use Rattle.import.specs.declared.Import.the-variants.{Written, Refused}
@@ -135,38 +135,33 @@ module _ (s out : List ℕ) where
   pub outcome-small : length out < 290 → Outcome s out (Refused 27) out
   outcome-small h = outcome s out (turnedDown 27) (Refused 27) out (import-small s (length out) h) refl (unchanged out 27)
 
-  module _ {ws : List ℕ} {r : Reading} (h : 290 ≤ length out) where
-    pub outcome-refused : {k b e : ℕ} → TextTold ws (textOf s) r → r ≡ Unread k b e → Outcome s out (Refused k) out
-    outcome-refused {k} (text-got t us here e q m D) p = absurd (got-refused (sym q ∙ p))
+  module _ {ws h : List ℕ} {r : Reading} (roomy : 290 ≤ length out) where
+    pub outcome-refused : {k b e : ℕ} → TextTold ws h (textOf s) r → r ≡ Unread k b e → Outcome s out (Refused k) out
+    outcome-refused {k} (text-got t us e q m D) p = absurd (got-refused (sym q ∙ p))
     outcome-refused {k} (text-refused k′ t e q) p =
         let x : k′ ≡ k = cc in
-        outcome s out (turnedDown k) (Refused k) out (import-roomy s (length out) h ∙ ap ruleOf e ∙ rule-refused k′ t ∙ ap turnedDown x) refl (unchanged out k)
+        outcome s out (turnedDown k) (Refused k) out (import-roomy s (length out) roomy ∙ ap ruleOf e ∙ rule-refused k′ t ∙ ap turnedDown x) refl (unchanged out k)
 
-    pub outcome-many : (here : Here) → TextTold ws (textOf s) r → r ≡ Got here → 128 < here .count → Outcome s out (Refused 26) out
-    outcome-many here (text-got t us there e q m D) p l =
-        let x : there ≡ here = got-same (sym q ∙ p) in
+    pub outcome-many : TextTold ws h (textOf s) r → r ≡ Got → 128 < countAt h → Outcome s out (Refused 26) out
+    outcome-many (text-got t us e q m D) p l =
         let c = text-sound s t us e .counted in
         let d = D .size in
-        let f = ap (λ (i : Here). i .count) x in
-        outcome s out (turnedDown 26) (Refused 26) out (import-roomy s (length out) h ∙ ap ruleOf e ∙ rule-many t us (omega arith)) refl (unchanged out 26)
-    outcome-many here (text-refused k t e q) p l = absurd (got-refused (sym p ∙ q))
+        outcome s out (turnedDown 26) (Refused 26) out (import-roomy s (length out) roomy ∙ ap ruleOf e ∙ rule-many t us (omega arith)) refl (unchanged out 26)
+    outcome-many (text-refused k t e q) p l = absurd (got-refused (sym p ∙ q))
 
-    pub outcome-written : (here : Here) {out′ : List ℕ} → TextTold ws (textOf s) r → r ≡ Got here → here .count ≤ 128
-        → out′ ≡ sets out 0 (ruleStrip (here .tracks) (recordsOfWords (here .count) ws))
-        → Outcome s out (Written (here .tracks) (here .count) ((16 + 18 * here .count + 7) / 8)) out′
-    outcome-written here {out′} (text-got t us there e q m D) p l w =
-        let x : there ≡ here = got-same (sym q ∙ p) in
-        let E = subst (λ (i : Here). Drafted ws (i .count) (recordsIn t)) x D in
+    pub outcome-written : {out′ : List ℕ} → TextTold ws h (textOf s) r → r ≡ Got → countAt h ≤ 128
+        → out′ ≡ sets out 0 (ruleStrip (tracksAt h) (recordsOfWords (countAt h) ws))
+        → Outcome s out (Written (tracksAt h) (countAt h) ((16 + 18 * countAt h + 7) / 8)) out′
+    outcome-written {out′} (text-got t us e q m D) p l w =
         let S = text-sound s t us e in
-        let k : here .count ≡ countIn t = drafted-count E l ∙ S .counted in
-        let v : here .tracks ≡ variablesIn t = ap (λ (i : Here). i .tracks) (sym x) ∙ m in
+        let k : countAt h ≡ countIn t = drafted-count D l ∙ S .counted in
         let few : countIn t ≤ 128 = omega arith in
-        let words = drafted-words E l (S .small few) in
-        let z : (16 + 18 * here .count + 7) / 8 ≡ length (ruleStrip (variablesIn t) (recordsIn t)) = rw k (sym (strip-size s t us e few)) in
+        let words = drafted-words D l (S .small few) in
+        let z : (16 + 18 * countAt h + 7) / 8 ≡ length (ruleStrip (variablesIn t) (recordsIn t)) = rw k (sym (strip-size s t us e few)) in
         outcome s out (written (variablesIn t) (countIn t) (ruleStrip (variablesIn t) (recordsIn t))) _ out′
-        (import-roomy s (length out) h ∙ ap ruleOf e ∙ rule-written t us few) (rw (v, z, k) refl)
-        (w ∙ rw (v, words) (front-put out (variablesIn t) (countIn t) (ruleStrip (variablesIn t) (recordsIn t))))
-    outcome-written here (text-refused k t e q) p l w = absurd (got-refused (sym p ∙ q))
+        (import-roomy s (length out) roomy ∙ ap ruleOf e ∙ rule-written t us few) (rw (m, z, k) refl)
+        (w ∙ rw (m, words) (front-put out (variablesIn t) (countIn t) (ruleStrip (variablesIn t) (recordsIn t))))
+    outcome-written (text-refused k t e q) p l w = absurd (got-refused (sym p ∙ q))
 
 -- ---- the fault
 
@@ -174,27 +169,25 @@ module _ (s : List ℕ) where
   fault-of : {f : TextFault} {R : Read Text} → textOf s ≡ R → f ≡ faultOf R → f ≡ faultOf (textOf s)
   fault-of e q = q ∙ ap faultOf (sym e)
 
-  pub fault-many : {ws : List ℕ} {r : Reading} (here : Here) → TextTold ws (textOf s) r → r ≡ Got here → 128 < here .count
+  pub fault-many : {ws h : List ℕ} {r : Reading} → TextTold ws h (textOf s) r → r ≡ Got → 128 < countAt h
       → _≡_ {A = TextFault} (record { refusal = 26; start = 0; length = 0 }) (faultOf (textOf s))
-  fault-many here (text-got t us there e q m D) p l =
-      let x = ap (λ (i : Here). i .count) (got-same (sym q ∙ p)) in
+  fault-many (text-got t us e q m D) p l =
       let c = text-sound s t us e .counted in
       let d = D .size in
       fault-of e (rw (lt-leb (countIn t) 128 (omega arith)) refl)
-  fault-many here (text-refused k t e q) p l = absurd (got-refused (sym p ∙ q))
+  fault-many (text-refused k t e q) p l = absurd (got-refused (sym p ∙ q))
 
-  pub fault-none : {ws : List ℕ} {r : Reading} (here : Here) → TextTold ws (textOf s) r → r ≡ Got here → here .count ≤ 128
+  pub fault-none : {ws h : List ℕ} {r : Reading} → TextTold ws h (textOf s) r → r ≡ Got → countAt h ≤ 128
       → _≡_ {A = TextFault} (record { refusal = 0; start = 0; length = 0 }) (faultOf (textOf s))
-  fault-none here (text-got t us there e q m D) p l =
-      let x = ap (λ (i : Here). i .count) (got-same (sym q ∙ p)) in
+  fault-none (text-got t us e q m D) p l =
       let c = text-sound s t us e .counted in
       let d = D .size in
       fault-of e (rw (le-leb (countIn t) 128 (omega arith)) refl)
-  fault-none here (text-refused k t e q) p l = absurd (got-refused (sym p ∙ q))
+  fault-none (text-refused k t e q) p l = absurd (got-refused (sym p ∙ q))
 
-  pub fault-token : {ws : List ℕ} {r : Reading} {k b e n : ℕ} → TextTold ws (textOf s) r → r ≡ Unread k b e → n ≡ e - b
+  pub fault-token : {ws h : List ℕ} {r : Reading} {k b e n : ℕ} → TextTold ws h (textOf s) r → r ≡ Unread k b e → n ≡ e - b
       → _≡_ {A = TextFault} (record { refusal = k; start = b; length = n }) (faultOf (textOf s))
-  fault-token (text-got t us there e q m D) p z = absurd (got-refused (sym q ∙ p))
+  fault-token (text-got t us e q m D) p z = absurd (got-refused (sym q ∙ p))
   fault-token {k = k} {b} {e} {n} (text-refused k′ t f q) p z =
       let x : k′ ≡ k = cc in
       let y : t .start ≡ b = cc in

@@ -26,12 +26,12 @@ use Rattle.phrases.specs.Told.{RefusedAt, MarkStands, MarkLacks, MarkTold, stan
 use Rattle.phrases.specs.declared.Mark.{Mark}
 use Rattle.phrases.specs.declared.Mark.the-variants.{Stands as Stood, Refused as Lacked}
 use Rattle.phrases.proofs.Taking.{mark-taken, mark-turned}
-use Rattle.formulas.specs.Reading.{levelAt, Reads, Told, told-got, told-refused}
-use Rattle.formulas.specs.declared.Here.{Here}
+use Rattle.formulas.specs.Reading.{levelAt, kindAt, startAt, stopAt, countAt, tracksAt, Ready, Looks, refusedHere, Reads, Told, told-got, told-refused, Counted}
 use Rattle.formulas.specs.declared.Reading.{Reading}
 use Rattle.formulas.specs.declared.Reading.the-variants.{Got, Refused as Unread}
-use Rattle.formulas.proofs.Levels.{kind-is, start-is, stop-is, got-same, got-refused, told-is, reader-formula}
-use Rattle.import.specs.Answers.{headed, ended, bodyOf, HeadingTold, heads, heads-not, EndTold, at-end, not-at-end, Ends, ends, ends-not, ends-refused, FreePut, TextTold, text-got, text-refused}
+use Rattle.formulas.proofs.Strengths.{reader-formula}
+use Rattle.formulas.proofs.Levels.{Tracked, looks-ready, kind-is, taken, got-refused, told-is}
+use Rattle.import.specs.Answers.{headed, ended, bodyOf, HeadingTold, heads, heads-not, Ends, ends, no-semicolon, no-end, ends-refused, FreePut, Blank, TextTold, text-got, text-refused}
 
 heading-is : placeIn 0 (words ++ marks) "ws2s" ≡ 0
 unfolding placeIn words marks
@@ -44,6 +44,18 @@ semicolon-is = refl
 -- the text that an equal reading is refused at
 refused-as : {A : Type 0} {R S : Read A} {k b e : ℕ} → R ≡ S → RefusedAt S k b e → RefusedAt R k b e
 refused-as q w = record { token = w .token; refuses = q ∙ w .refuses; start-is = w .start-is; stop-is = w .stop-is }
+
+pub mark-there : {s : List ℕ} {kind at p : ℕ} {m : Mark} → MarkTold s kind at m → m ≡ Stood p → MarkStands s kind at p
+mark-there {s} {kind} {at} {p} (stands {p = n} w) e = let x : n ≡ p = cc in subst (λ (i : ℕ). MarkStands s kind at i) x w
+mark-there (lacks w) e = absurd (let z : _≡_ {A = ℕ} 0 1 = cc in omega arith)
+
+pub mark-lacks : {s : List ℕ} {kind at k b e : ℕ} {m : Mark} → MarkTold s kind at m → m ≡ Lacked k b e → MarkLacks s kind at k b e
+mark-lacks (stands w) q = absurd (let z : _≡_ {A = ℕ} 0 1 = cc in omega arith)
+mark-lacks {s} {kind} {at} {k} {b} {e} (lacks {k = k′} {b = b′} {e = e′} w) q =
+    let x : k′ ≡ k = cc in
+    let y : b′ ≡ b = cc in
+    let z : e′ ≡ e = cc in
+    rw (← x, ← y, ← z) w
 
 -- ---- the heading
 
@@ -66,13 +78,6 @@ module _ {s : List ℕ} where
 
 -- ---- the end
 
-module _ {s : List ℕ} (here : Here) {t : TokenRead} (st : Stands s (here .next) t) where
-  pub end-there : t .kind ≡ 25 → EndTold s here (Got here)
-  end-there e = at-end refl (kind-is st ∙ e)
-
-  pub end-not : (t .kind ≡ 25 → ⊥) → EndTold s here (Unread 23 (t .start) (t .stop))
-  end-not z = not-at-end (rw (start-is st, stop-is st) refl) (λ e. z (sym (kind-is st) ∙ e))
-
 -- behind the semicolon
 last : Text → List Token → Read Text
 last t ys = accept (or23 (eqb (next ys .kind) theEnd)) ys (λ _ zs. got t zs)
@@ -85,20 +90,14 @@ last-not : (t : Text) (ys : List Token) → (next ys .kind ≡ theEnd → ⊥) �
 unfolding last accept
 last-not t ys z = rw (ne-eqb (next ys .kind) 25 z) refl
 
-module _ {s : List ℕ} {inner : Reading} (here : Here) (q : inner ≡ Got here) where
-  ended-first : {p : ℕ} → MarkStands s 10 (here .next) p → (t : Text) → ended t (tokensAt s (here .next)) ≡ last t (tokensAt s p)
-  unfolding last
-  ended-first st t = mark-taken ";" semicolon-is (λ _ ys. last t ys) st
+-- the semicolon
+semicolon-there : (t : Text) (xs : List Token) → next xs .kind ≡ 10 → ended t xs ≡ last t (rest xs)
+unfolding last accept spells placeIn words marks
+semicolon-there t xs e = rw e refl
 
-  pub ends-told : {p : ℕ} {r : Reading} → MarkStands s 10 (here .next) p → EndTold s (record { next = p; count = here .count; tracks = here .tracks }) r → Ends s inner r
-  ends-told {p} st (at-end e k) = ends here _ (rest (tokensAt s p)) q e refl refl (λ t. ended-first st t ∙ last-there t (tokensAt s p) k)
-  ends-told {p} st (not-at-end e z) =
-      ends-not here _ _ _ q e
-      (λ t. record { token = next (tokensAt s p); refuses = ended-first st t ∙ last-not t (tokensAt s p) z; start-is = refl; stop-is = refl })
-
-  pub ends-lacks : {k b e : ℕ} → MarkLacks s 10 (here .next) k b e → Ends s inner (Unread k b e)
-  unfolding last
-  ends-lacks w = ends-not here _ _ _ q refl (λ t. mark-turned ";" semicolon-is (λ _ ys. last t ys) w)
+semicolon-not : (t : Text) (xs : List Token) → (next xs .kind ≡ 10 → ⊥) → ended t xs ≡ leaves 23 (next xs)
+unfolding accept spells placeIn words marks
+semicolon-not t xs z = rw (ne-eqb (next xs .kind) 10 z) refl
 
 -- ---- the records of the free variables
 
@@ -136,63 +135,93 @@ freed-all {ns} {ws₀} {c₀} {n} {ws} {c} {i} F l = let u = F .upto in let e : 
 abbrev sentenced : Scope → List Token → Read Text
 sentenced sc ws = andThen (reader 32 formula sc ws) (λ f xs. ended (record { declared = sc; sentence = f }) xs)
 
+-- a token that stands next, told as a refusal
+told-there : {s h ws h′ : List ℕ} {R : Read Text} {r : Reading} → Ready s h → R ≡ leaves 23 (next (tokensAt s (startAt h))) → r ≡ refusedHere h → TextTold ws h′ R r
+told-there {s} {h} y e q =
+    let a = ap (λ (u : Token). u .start) (y .stands .stands) in
+    let b = ap (λ (u : Token). u .stop) (y .stands .stands) in
+    text-refused 23 (next (tokensAt s (startAt h))) e (q ∙ rw (a, b) refl)
+
 module _ (s : List ℕ) (at : ℕ) where
-  pub body-undeclared : {ws : List ℕ} {k b e : ℕ} → RefusedAt (declarations (length (tokensAt s at)) [] (tokensAt s at)) k b e
-      → TextTold ws (bodyOf (tokensAt s at)) (Unread k b e)
+  pub body-undeclared : {ws h : List ℕ} {k b e : ℕ} → RefusedAt (declarations (length (tokensAt s at)) [] (tokensAt s at)) k b e
+      → TextTold ws h (bodyOf (tokensAt s at)) (Unread k b e)
   unfolding bodyOf
   body-undeclared w = text-refused _ (w .token) (ap (λ (R : Read Scope). andThen R sentenced) (w .refuses)) (rw (w .start-is, w .stop-is) refl)
 
-  module _ {ns : List ℕ} {n p : ℕ} (N : NamesAre s at (declarations (length (tokensAt s at)) [] (tokensAt s at)) ns n p) {ws ws₂ : List ℕ} {sentence whole : Reading}
-      (room : length ws ≡ 128) (X : Reads (levelAt 32 0) s (scopeOf s ns n) ws (record { next = p; count = 0; tracks = n }) ws₂ sentence) (E : Ends s sentence whole) where
-    sc : Scope
-    sc = scopeOf s ns n
+  module _ {ns : List ℕ} {n p : ℕ} (N : NamesAre s at (declarations (length (tokensAt s at)) [] (tokensAt s at)) ns n p) {ws h m k ws₂ h₂ : List ℕ} {sentence : Reading}
+      (B : Blank ws h) (T : Tracked h n m) (L : Looks s p m k) (X : Reads (levelAt 32 0) s (scopeOf s ns n) ws k ws₂ h₂ sentence) where
+    -- the formula, and then the end
+    body-is : bodyOf (tokensAt s at)
+        ≡ andThen (levelAt 32 0 (scopeOf s ns n) (tokensAt s (startAt k))) (λ f xs. ended (record { declared = scopeOf s ns n; sentence = f }) xs)
+    unfolding bodyOf
+    body-is =
+        let sc = scopeOf s ns n in
+        ap (λ (R : Read Scope). andThen R sentenced) (N .reads)
+        ∙ ap (λ (R : Read Sentence). andThen R (λ f xs. ended (record { declared = sc; sentence = f }) xs)) (reader-formula 32 sc (tokensAt s p))
+        ∙ ap (λ (us : List Token). andThen (levelAt 32 0 sc us) (λ f xs. ended (record { declared = sc; sentence = f }) xs)) (L .stands .skips)
 
-    body-is : bodyOf (tokensAt s at) ≡ andThen (levelAt 32 0 sc (tokensAt s p)) (λ f xs. ended (record { declared = sc; sentence = f }) xs)
-    unfolding bodyOf sc
-    body-is = ap (λ (R : Read Scope). andThen R sentenced) (N .reads) ∙ ap (λ (R : Read Sentence). andThen R (λ f xs. ended (record { declared = sc; sentence = f }) xs)) (reader-formula 32 sc (tokensAt s p))
+    tells : Told s (scopeOf s ns n) [] k ws₂ h₂ (levelAt 32 0 (scopeOf s ns n) (tokensAt s (startAt k))) sentence
+    tells =
+        let l = scope-length s ns n in
+        let t = L .tracks-is ∙ T .tracks-is in
+        let c = L .count-is ∙ T .count-is ∙ B .none in
+        X .tells [] (subst (λ (i : ℕ). Drafted ws i []) (sym c) (drafted-none ws (B .room))) (omega arith)
 
-    tells : Told s sc [] (record { next = p; count = 0; tracks = n }) ws₂ (levelAt 32 0 sc (tokensAt s p)) sentence
-    unfolding sc
-    tells = let l = scope-length s ns n in X .tells [] (drafted-none ws room) (omega arith)
+    -- what was read, up to the end
+    read-to : (q : sentence ≡ Got) → bodyOf (tokensAt s at) ≡ ended (record { declared = scopeOf s ns n; sentence = told-is tells q .sentence }) (tokensAt s (startAt h₂))
+    read-to q = body-is ∙ ap (λ (R : Read Sentence). andThen R (λ f xs. ended (record { declared = scopeOf s ns n; sentence = f }) xs)) (told-is tells q .reads)
 
-    pub body-refused : {k b e : ℕ} → whole ≡ Unread k b e → TextTold ws₂ (bodyOf (tokensAt s at)) whole
-    body-refused q = go E
+    -- up to what stands behind the semicolon
+    read-on : (q : sentence ≡ Got) {h₃ : List ℕ} → kindAt h₂ ≡ 10 → Looks s (stopAt h₂) h₂ h₃
+        → bodyOf (tokensAt s at) ≡ last (record { declared = scopeOf s ns n; sentence = told-is tells q .sentence }) (tokensAt s (startAt h₃))
+    read-on q e M =
+        let y = X .ready q in
+        let t : Text = record { declared = scopeOf s ns n; sentence = told-is tells q .sentence } in
+        read-to q ∙ semicolon-there t (tokensAt s (startAt h₂)) (kind-is y ∙ e) ∙ ap (λ (ys : List Token). last t ys) (taken y (omega arith) M)
+
+    pub body-refused : {h₃ h₄ : List ℕ} {whole : Reading} {i b e : ℕ} → Ends s h₂ h₃ sentence whole → whole ≡ Unread i b e → TextTold ws₂ h₄ (bodyOf (tokensAt s at)) whole
+    body-refused (ends qi qr e M x) q = absurd (got-refused (sym qr ∙ q))
+    body-refused (no-semicolon qi qr z) q =
+        let y = X .ready qi in
+        told-there y (read-to qi ∙ semicolon-not _ (tokensAt s (startAt h₂)) (λ e. z (sym (kind-is y) ∙ e))) qr
+    body-refused {h₃} (no-end qi qr e M z) q =
+        let y = looks-ready M in
+        told-there y (read-on qi e M ∙ last-not _ (tokensAt s (startAt h₃)) (λ x. z (sym (kind-is y) ∙ x))) qr
+    body-refused (ends-refused i b e qi qr) q = up tells qi qr
       where
-        up : {k b e : ℕ} → Told s sc [] (record { next = p; count = 0; tracks = n }) ws₂ (levelAt 32 0 sc (tokensAt s p)) sentence → sentence ≡ Unread k b e → whole ≡ Unread k b e
-            → TextTold ws₂ (bodyOf (tokensAt s at)) whole
-        up (told-got f h e x D m) y z = absurd (got-refused (sym x ∙ y))
-        up (told-refused k t e x) y z =
-            text-refused k t (body-is ∙ ap (λ (R : Read Sentence). andThen R (λ f xs. ended (record { declared = sc; sentence = f }) xs)) e) (z ∙ sym y ∙ x)
+        up : {i b e : ℕ} {h₄ : List ℕ} {whole : Reading} → Told s (scopeOf s ns n) [] k ws₂ h₂ (levelAt 32 0 (scopeOf s ns n) (tokensAt s (startAt k))) sentence
+            → sentence ≡ Unread i b e → whole ≡ Unread i b e → TextTold ws₂ h₄ (bodyOf (tokensAt s at)) whole
+        up (told-got f e q d m) x z = absurd (got-refused (sym q ∙ x))
+        up (told-refused i t e q) x z =
+            text-refused i t (body-is ∙ ap (λ (R : Read Sentence). andThen R (λ f xs. ended (record { declared = scopeOf s ns n; sentence = f }) xs)) e) (z ∙ sym x ∙ q)
 
-        go : Ends s sentence whole → TextTold ws₂ (bodyOf (tokensAt s at)) whole
-        go (ends here there zs a b c d f) = absurd (got-refused (sym b ∙ q))
-        go (ends-not here k b e a x f) =
-            let i = told-is here tells a in
-            let w = f (record { declared = sc; sentence = i .sentence }) in
-            text-refused k (w .token) (body-is ∙ ap (λ (R : Read Sentence). andThen R (λ f xs. ended (record { declared = sc; sentence = f }) xs)) (i .reads) ∙ w .refuses)
-            (x ∙ rw (w .start-is, w .stop-is) refl)
-        go (ends-refused k b e a x) = up tells a x
+    pub body-read : {h₃ ws₃ h₄ : List ℕ} {whole : Reading} {c : ℕ} → Ends s h₂ h₃ sentence whole → whole ≡ Got → FreePut ns n ws₂ (countAt h₃) ws₃ c → Counted h₃ c h₄
+        → TextTold ws₃ h₄ (bodyOf (tokensAt s at)) Got
+    unfolding variablesIn recordsIn
+    body-read {h₃} {ws₃} {h₄} {whole} {c} (ends qi qr e M x) q F C =
+        let y = looks-ready M in
+        let i = told-is tells qi in
+        let sc = scopeOf s ns n in
+        let g = i .sentence in
+        let l = scope-length s ns n in
+        let least = tracks-least g (length sc) in
+        let a = i .counts in
+        let t = L .tracks-is ∙ T .tracks-is in
+        let mt = M .tracks-is in
+        let tc = C .tracks-is in
+        text-got (record { declared = sc; sentence = g }) (rest (tokensAt s (startAt h₃))) (read-on qi e M ∙ last-there _ (tokensAt s (startAt h₃)) (kind-is y ∙ x)) refl
+        (tc ∙ mt ∙ a ∙ omega arith)
+        (subst (λ (v : ℕ). Drafted ws₃ v (writeFree sc (write sc g []))) (sym (C .count-is))
+        (F s (write sc g []) (subst (λ (v : ℕ). Drafted ws₂ v (write sc g [])) (sym (M .count-is)) (i .drafts))))
+    body-read (no-semicolon qi qr z) q F C = absurd (got-refused (sym q ∙ qr))
+    body-read (no-end qi qr e M z) q F C = absurd (got-refused (sym q ∙ qr))
+    body-read (ends-refused k b e qi qr) q F C = absurd (got-refused (sym q ∙ qr))
 
-    pub body-read : {ws₃ : List ℕ} {c : ℕ} (here : Here) → whole ≡ Got here → FreePut ns n ws₂ (here .count) ws₃ c
-        → TextTold ws₃ (bodyOf (tokensAt s at)) (Got (record { next = here .next; count = c; tracks = here .tracks }))
-    unfolding variablesIn recordsIn sc
-    body-read {ws₃} {c} here q F = go E
-      where
-        go : Ends s sentence whole → TextTold ws₃ (bodyOf (tokensAt s at)) (Got (record { next = here .next; count = c; tracks = here .tracks }))
-        go (ends mid there zs a b x y f) =
-            let i = told-is mid tells a in
-            let g = i .sentence in
-            let z : there ≡ here = got-same (sym b ∙ q) in
-            let l = scope-length s ns n in
-            let least = tracks-least g (length sc) in
-            let m = i .counts in
-            let hc : here .count ≡ mid .count = ap (λ (h : Here). h .count) (sym z) ∙ x in
-            let ht : here .tracks ≡ mid .tracks = ap (λ (h : Here). h .tracks) (sym z) ∙ y in
-            text-got (record { declared = sc; sentence = g }) zs _
-            (body-is ∙ ap (λ (R : Read Sentence). andThen R (λ f xs. ended (record { declared = sc; sentence = f }) xs)) (i .reads) ∙ f (record { declared = sc; sentence = g })) refl
-            (ht ∙ m ∙ omega arith) (F s (write sc g []) (rw hc (i .drafts)))
-        go (ends-not h k b e a x f) = absurd (got-refused (sym q ∙ x))
-        go (ends-refused k b e a x) = absurd (got-refused (sym q ∙ x))
+    pub ends-size : {h₃ : List ℕ} {whole : Reading} → Ends s h₂ h₃ sentence whole → whole ≡ Got → length h₃ ≡ 5
+    ends-size (ends qi qr e M x) q = M .size
+    ends-size (no-semicolon qi qr z) q = absurd (got-refused (sym q ∙ qr))
+    ends-size (no-end qi qr e M z) q = absurd (got-refused (sym q ∙ qr))
+    ends-size (ends-refused k b e qi qr) q = absurd (got-refused (sym q ∙ qr))
 
 -- ---- the whole text
 
@@ -200,13 +229,13 @@ text-is : (s : List ℕ) → textOf s ≡ headed (tokensAt s 0) bodyOf
 unfolding textOf textFrom bodyOf
 text-is s = rw (tokens-start s) refl
 
-pub text-told : {s ws : List ℕ} {p : ℕ} {m : Mark} {r : Reading} → HeadingTold s m → m ≡ Stood p → TextTold ws (bodyOf (tokensAt s p)) r → TextTold ws (textOf s) r
-text-told {s} {ws} {p} {m} {r} (heads q e h) f w = let x : q ≡ p = cc in subst (λ (R : Read Text). TextTold ws R r) (sym (text-is s ∙ h bodyOf ∙ ap (λ (i : ℕ). bodyOf (tokensAt s i)) x)) w
+pub text-told : {s ws h : List ℕ} {p : ℕ} {m : Mark} {r : Reading} → HeadingTold s m → m ≡ Stood p → TextTold ws h (bodyOf (tokensAt s p)) r → TextTold ws h (textOf s) r
+text-told {s} {ws} {h} {p} {m} {r} (heads q e g) f w = let x : q ≡ p = cc in subst (λ (R : Read Text). TextTold ws h R r) (sym (text-is s ∙ g bodyOf ∙ ap (λ (i : ℕ). bodyOf (tokensAt s i)) x)) w
 text-told (heads-not k b e q h) f w = absurd (let z : _≡_ {A = ℕ} 0 1 = cc in omega arith)
 
-pub text-unheaded : {s ws : List ℕ} {k b e : ℕ} {m : Mark} → HeadingTold s m → m ≡ Lacked k b e → TextTold ws (textOf s) (Unread k b e)
+pub text-unheaded : {s ws h : List ℕ} {k b e : ℕ} {m : Mark} → HeadingTold s m → m ≡ Lacked k b e → TextTold ws h (textOf s) (Unread k b e)
 text-unheaded (heads q e h) f = absurd (let z : _≡_ {A = ℕ} 0 1 = cc in omega arith)
-text-unheaded {s} {ws} {k} {b} {e} (heads-not k′ b′ e′ q h) f =
+text-unheaded {s} {k = k} {b = b} {e = e} (heads-not k′ b′ e′ q h) f =
     let x : k′ ≡ k = cc in
     let y : b′ ≡ b = cc in
     let z : e′ ≡ e = cc in

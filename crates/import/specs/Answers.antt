@@ -20,7 +20,7 @@ use Rattle.drafting.specs.Draft.{Drafted}
 use Rattle.phrases.specs.Told.{RefusedAt}
 use Rattle.phrases.specs.declared.Mark.{Mark}
 use Rattle.phrases.specs.declared.Mark.the-variants.{Stands as Stood, Refused as Lacked}
-use Rattle.formulas.specs.declared.Here.{Here}
+use Rattle.formulas.specs.Reading.{kindAt, stopAt, countAt, tracksAt, Looks, refusedHere}
 use Rattle.formulas.specs.declared.Reading.{Reading}
 use Rattle.formulas.specs.declared.Reading.the-variants.{Got, Refused as Unread}
 use Rattle.import.specs.declared.Import.{Import}
@@ -58,25 +58,25 @@ pub data HeadingTold (s : List ℕ) (r : Mark) : Type 0 where
   heads : (p : ℕ) → r ≡ Stood p → ((go : List Token → Read Text) → headed (tokensAt s 0) go ≡ go (tokensAt s p)) → HeadingTold s r
   heads-not : (k b e : ℕ) → r ≡ Lacked k b e → ((go : List Token → Read Text) → RefusedAt (headed (tokensAt s 0) go) k b e) → HeadingTold s r
 
--- nothing stands behind a place, or something does
-pub data EndTold (s : List ℕ) (here : Here) (r : Reading) : Type 0 where
-  at-end : r ≡ Got here → next (tokensAt s (here .next)) .kind ≡ theEnd → EndTold s here r
-  not-at-end : r ≡ Unread 23 (next (tokensAt s (here .next)) .start) (next (tokensAt s (here .next)) .stop) → (next (tokensAt s (here .next)) .kind ≡ theEnd → ⊥)
-      → EndTold s here r
-
--- the semicolon and the end stand behind the formula that was read, or not
-pub data Ends (s : List ℕ) (inner r : Reading) : Type 0 where
-  ends : (here there : Here) (zs : List Token) → inner ≡ Got here → r ≡ Got there → there .count ≡ here .count → there .tracks ≡ here .tracks
-      → ((t : Text) → ended t (tokensAt s (here .next)) ≡ got t zs) → Ends s inner r
-  ends-not : (here : Here) (k b e : ℕ) → inner ≡ Got here → r ≡ Unread k b e → ((t : Text) → RefusedAt (ended t (tokensAt s (here .next))) k b e) → Ends s inner r
-  ends-refused : (k b e : ℕ) → inner ≡ Unread k b e → r ≡ Unread k b e → Ends s inner r
+-- the semicolon and the end stand behind the formula that was read, or not. h and h′: the readers' array before and after
+pub data Ends (s h h′ : List ℕ) (inner r : Reading) : Type 0 where
+  ends : inner ≡ Got → r ≡ Got → kindAt h ≡ 10 → Looks s (stopAt h) h h′ → kindAt h′ ≡ theEnd → Ends s h h′ inner r
+  no-semicolon : inner ≡ Got → r ≡ refusedHere h → (kindAt h ≡ 10 → ⊥) → Ends s h h′ inner r
+  no-end : inner ≡ Got → r ≡ refusedHere h′ → kindAt h ≡ 10 → Looks s (stopAt h) h h′ → (kindAt h′ ≡ theEnd → ⊥) → Ends s h h′ inner r
+  ends-refused : (k b e : ℕ) → inner ≡ Unread k b e → r ≡ Unread k b e → Ends s h h′ inner r
 
 -- "each free first-order variable two more": of the first n names
 abbrev pub FreePut : List ℕ → ℕ → List ℕ → ℕ → List ℕ → ℕ → Type 0
 FreePut ns n ws c ws′ c′ = (s : List ℕ) (rs : List Record) → Drafted ws c rs → Drafted ws′ c′ (writeFree (scopeOf s ns n) rs)
 
--- what reading a text, from some place on, answers: its records are in the array, and its tracks are counted; or a refusal, with the bytes of its token
-pub data TextTold (ws : List ℕ) (R : Read Text) (r : Reading) : Type 0 where
-  text-got : (t : Text) (us : List Token) (here : Here) → R ≡ got t us → r ≡ Got here → here .tracks ≡ variablesIn t → Drafted ws (here .count) (recordsIn t)
-      → TextTold ws R r
-  text-refused : (k : ℕ) (t : Token) → R ≡ leaves k t → r ≡ Unread k (t .start) (t .stop) → TextTold ws R r
+-- what reading a text, from some place on, answers: its records are in the one array, and counted, as its tracks are, in the other; or a refusal,
+-- with the bytes of its token
+pub data TextTold (ws h : List ℕ) (R : Read Text) (r : Reading) : Type 0 where
+  text-got : (t : Text) (us : List Token) → R ≡ got t us → r ≡ Got → tracksAt h ≡ variablesIn t → Drafted ws (countAt h) (recordsIn t) → TextTold ws h R r
+  text-refused : (k : ℕ) (t : Token) → R ≡ leaves k t → r ≡ Unread k (t .start) (t .stop) → TextTold ws h R r
+
+-- the arrays that a reading starts with
+pub record Blank (ws h : List ℕ) : Type 0 where
+  pub room : length ws ≡ 128
+  pub size : length h ≡ 5
+  pub none : countAt h ≡ 0

@@ -5,8 +5,7 @@ ghost use lib.ListN.{length};
 ghost use Rattle.text.specs.Grammar.{textOf};
 ghost use Rattle.text.specs.Import.{import, outAfter};
 ghost use Rattle.tokens.specs.Tokens.{tokensAt};
-ghost use Rattle.import.specs.Answers.{HeadingTold, EndTold, Ends, FreePut, bodyOf, TextTold, importedOf, faultOf, Claimed};
-use formulas::Here;
+ghost use Rattle.import.specs.Answers.{HeadingTold, Ends, FreePut, bodyOf, Blank, TextTold, importedOf, faultOf, Claimed};
 use formulas::Reading;
 use phrases::Mark;
 
@@ -53,47 +52,23 @@ fn read_heading(text: &[u8]) -> Mark
     }
 }
 
-// The end of the text, at a place.
-fn end(text: &[u8], here: Here) -> Reading
-    ensures { λ r. ⌜ EndTold (now (text .entry)) here r ⌝ }
-{
-    let t = tokens::token_at(text, here.next);
-    if t.kind != tokens::END {
-        return Reading::Refused {
-            number: 23,
-            start: t.start,
-            stop: t.stop,
-        };
-    }
-    Reading::Got(here)
-}
-
 // "ended by a semicolon", and nothing behind it.
-fn close(text: &[u8], sentence: Reading) -> Reading
-    ensures { λ r. ⌜ Ends (now (text .entry)) sentence r ⌝ }
+fn end(text: &[u8], here: &mut [usize; 5], sentence: Reading) -> Reading
+    requires { ⌜ length (now here) ≡ 5 ⌝ }
+    ensures { λ r. ⌜ Ends (now (text .entry)) (now (here .entry)) (now (here .exit)) sentence r ⌝ }
 {
-    let Reading::Got(here) = sentence else {
+    let Reading::Got = sentence else {
         return sentence;
     };
-    match phrases::read_mark(text, SEMICOLON, here.next) {
-        Mark::Stands { next } => end(
-            text,
-            Here {
-                next,
-                count: here.count,
-                tracks: here.tracks,
-            },
-        ),
-        Mark::Refused {
-            number,
-            start,
-            stop,
-        } => Reading::Refused {
-            number,
-            start,
-            stop,
-        },
+    if here[formulas::KIND] != SEMICOLON {
+        return formulas::refuse(here);
     }
+    let behind = here[formulas::STOP];
+    formulas::look(text, here, behind);
+    if here[formulas::KIND] != tokens::END {
+        return formulas::refuse(here);
+    }
+    Reading::Got
 }
 
 // "each free first-order variable two more", in order of declaration.
@@ -113,9 +88,9 @@ fn put_free(words: &mut [u64; 128], names: &[usize; 24], in_use: usize, count: u
 }
 
 // The declarations, the formula and the end, from a place on.
-fn read_body(text: &[u8], words: &mut [u64; 128], at: usize) -> Reading
-    requires { ⌜ length (now words) ≡ 128 ⌝ }
-    ensures { λ r. ⌜ TextTold (now (words .exit)) (bodyOf (tokensAt (now (text .entry)) at)) r ⌝ }
+fn read_body(text: &[u8], words: &mut [u64; 128], here: &mut [usize; 5], at: usize) -> Reading
+    requires { ⌜ Blank (now words) (now here) ⌝ }
+    ensures { λ r. ⌜ TextTold (now (words .exit)) (now (here .exit)) (bodyOf (tokensAt (now (text .entry)) at)) r ⌝ }
 {
     let declared = phrases::read_declarations(text, at);
     if declared.refusal != 0 {
@@ -127,30 +102,24 @@ fn read_body(text: &[u8], words: &mut [u64; 128], at: usize) -> Reading
     }
     let names = declared.names;
     let in_use = declared.in_use;
-    let start = Here {
-        next: declared.next,
-        count: 0,
-        tracks: in_use,
-    };
-    let sentence = formulas::formula(text, &names, in_use, words, DEPTH, 0, start);
-    let whole = close(text, sentence);
-    let Reading::Got(here) = whole else {
+    here[formulas::TRACKS] = in_use;
+    formulas::look(text, here, declared.next);
+    let sentence = formulas::formula(text, &names, in_use, words, here, DEPTH, 0);
+    let whole = end(text, here, sentence);
+    let Reading::Got = whole else {
         return whole;
     };
-    Reading::Got(Here {
-        next: here.next,
-        count: put_free(words, &names, in_use, here.count),
-        tracks: here.tracks,
-    })
+    here[formulas::COUNT] = put_free(words, &names, in_use, here[formulas::COUNT]);
+    Reading::Got
 }
 
-// A whole text: its records into the array.
-fn read_text(text: &[u8], words: &mut [u64; 128]) -> Reading
-    requires { ⌜ length (now words) ≡ 128 ⌝ }
-    ensures { λ r. ⌜ TextTold (now (words .exit)) (textOf (now (text .entry))) r ⌝ }
+// A whole text: its records into the one array, how many they are and its tracks into the other.
+fn read_text(text: &[u8], words: &mut [u64; 128], here: &mut [usize; 5]) -> Reading
+    requires { ⌜ Blank (now words) (now here) ⌝ }
+    ensures { λ r. ⌜ TextTold (now (words .exit)) (now (here .exit)) (textOf (now (text .entry))) r ⌝ }
 {
     match read_heading(text) {
-        Mark::Stands { next } => read_body(text, words, next),
+        Mark::Stands { next } => read_body(text, words, here, next),
         Mark::Refused {
             number,
             start,
@@ -173,16 +142,19 @@ pub fn import_text(text: &[u8], out: &mut [u8]) -> Import
         return Import::Refused(27);
     }
     let mut words = [0; 128];
-    match read_text(text, &mut words) {
-        Reading::Got(here) => {
-            if 128 < here.count {
+    let mut here = [0; 5];
+    match read_text(text, &mut words, &mut here) {
+        Reading::Got => {
+            let records = here[formulas::COUNT];
+            let variables = here[formulas::TRACKS];
+            if 128 < records {
                 return Import::Refused(26);
             }
-            rule_strip::write::write_rule(out, here.tracks, here.count, &words);
+            rule_strip::write::write_rule(out, variables, records, &words);
             Import::Written {
-                variables: here.tracks,
-                records: here.count,
-                length: (16 + 18 * here.count + 7) / 8,
+                variables,
+                records,
+                length: (16 + 18 * records + 7) / 8,
             }
         }
         Reading::Refused {
@@ -208,9 +180,10 @@ pub fn text_fault(text: &[u8]) -> TextFault
     ensures { λ r. ⌜ r ≡ faultOf (textOf (now (text .entry))) ⌝ }
 {
     let mut words = [0; 128];
-    match read_text(text, &mut words) {
-        Reading::Got(here) => {
-            if 128 < here.count {
+    let mut here = [0; 5];
+    match read_text(text, &mut words, &mut here) {
+        Reading::Got => {
+            if 128 < here[formulas::COUNT] {
                 return TextFault {
                     refusal: 26,
                     start: 0,

@@ -6,7 +6,7 @@ ghost use Prim.Native.Nat.{_<_, _≤_};
 ghost use lib.ListN.{length};
 ghost use Rattle.text.specs.Grammar.{newRefusal, inUse, spotOf, atomOf, declarations};
 ghost use Rattle.text.specs.Grammar as grammar;
-ghost use Rattle.tokens.specs.Tokens.{part, Span, readFrom, tokensAt};
+ghost use Rattle.tokens.specs.Tokens.{part, Span, Stands, readFrom, tokensAt};
 ghost use Rattle.tokens.specs.InUse.{orderOf, scopeOf, NamesFit};
 ghost use Rattle.phrases.specs.Looked.{Looked, UsedAs, relationBy, goodOrder};
 ghost use Rattle.phrases.specs.Told.{MarkTold, BinderTold, SpotTold, BranchTold, AtomTold, RightTold, EqualTold, RelatedTold, DeclarationsTold};
@@ -385,13 +385,14 @@ fn read_related(
     }
 }
 
-// An atom. A name of the wrong order is refused at the name, though the order that is asked of it shows only at the token behind it.
-pub fn read_atom(text: &[u8], names: &[usize; 24], in_use: usize, at: usize) -> AtomRead
+// An atom, from its first token. A name of the wrong order is refused at the name, though the order that is asked of it shows only at the token
+// behind it.
+pub fn read_atom(text: &[u8], names: &[usize; 24], in_use: usize, left: Token) -> AtomRead
     requires { ⌜ NamesFit (now text) (now names) «in_use» ⌝ }
-    ensures { λ r. ⌜ AtomTold (now (text .entry)) (scopeOf (now (text .entry)) (now (names .entry)) «in_use») at
-        (atomOf (scopeOf (now (text .entry)) (now (names .entry)) «in_use») (tokensAt (now (text .entry)) at)) r ⌝ }
+    requires { ⌜ Stands (now text) (left .start) left ⌝ }
+    ensures { λ r. ⌜ AtomTold (now (text .entry)) (scopeOf (now (text .entry)) (now (names .entry)) «in_use») (left .start)
+        (atomOf (scopeOf (now (text .entry)) (now (names .entry)) «in_use») (tokensAt (now (text .entry)) (left .start))) r ⌝ }
 {
-    let left = tokens::token_at(text, at);
     if left.kind != tokens::NAME {
         return AtomRead::Refused {
             number: 23,

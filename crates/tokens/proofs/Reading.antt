@@ -10,6 +10,7 @@ use lib.Seq.{drop-cons, drop-drop, getD-drop}
 use Rattle.text.specs.Token.{Piece, isBlank, isLetter, isAlnum, run, words, wordKind, marks, markPiece, piece, tokens, tokensOf}
 use Rattle.text.specs.Grammar.{next, rest}
 use Rattle.text.proofs.Steps.{tokenAt, tokensFrom, tokens-blank, tokens-token}
+use Rattle.tokens.specs.declared.Token.{Token}
 use Rattle.tokens.specs.Tokens.{part, Span, tokensAt, readFrom, Stands, span, markSize}
 use Rattle.tokens.proofs.Marks.{mark-sized, mark-within, size-pos}
 
@@ -88,6 +89,9 @@ module _ (s : List ℕ) (at start : ℕ) (e : start ≡ at + span isBlank (drop 
     goes-on = λ z. absurd (z refl);
     onward = λ z. absurd (z refl);
     ordered = omega arith;
+    forward = omega arith;
+    skips = skipped;
+    long = λ z. absurd (z refl);
   }
     where
       last : next (tokensAt s start) ≡ readFrom s (record { kind = 25; start = start; stop = start })
@@ -118,6 +122,9 @@ module _ (s : List ℕ) (at start : ℕ) (e : start ≡ at + span isBlank (drop 
           goes-on = λ z. ap rest whole ∙ rw (sym es) refl;
           onward = λ z. (omega arith, l);
           ordered = omega arith;
+          forward = omega arith;
+          skips = skipped;
+          long = λ z. omega arith;
         }
 
     -- a run of letters and digits
@@ -157,3 +164,15 @@ module _ (s : List ℕ) (at start : ℕ) (e : start ≡ at + span isBlank (drop 
       stands-mark v =
           let p : here ≡ markPiece 10 marks (getD s start 0 ∷ drop (suc start) s) = rw (v, piece) refl in
           stands-piece k (start + markSize k) (ek ∙ rw (drop-cons s start 0 h, p) refl) (rw (p, size-is) refl) (rw (p, ← size-is) (size-pos k)) mark-fits
+
+-- a token stands at its own start
+pub stands-self : {s : List ℕ} {at : ℕ} {t : Token} → Stands s at t → Stands s (t .start) t
+stands-self {s} {at} {t} st = record {
+  stands = ap next (sym (st .skips)) ∙ st .stands;
+  goes-on = λ z. ap rest (sym (st .skips)) ∙ st .goes-on z;
+  onward = λ z. (st .long z, st .onward z .1);
+  ordered = st .ordered;
+  forward = omega arith;
+  skips = refl;
+  long = st .long;
+}

@@ -34,6 +34,10 @@ pub record Stands (s : List ℕ) (at : ℕ) (r : Token) : Type 0 where
   pub goes-on : (r .kind ≡ theEnd → ⊥) → rest (tokensAt s at) ≡ tokensAt s (r .stop)
   pub onward : (r .kind ≡ theEnd → ⊥) → (at < r .stop) × (r .stop ≤ length s)
   pub ordered : r .start ≤ r .stop
+  -- only blanks stand between the place and the token
+  pub forward : at ≤ r .start
+  pub skips : tokensAt s at ≡ tokensAt s (r .start)
+  pub long : (r .kind ≡ theEnd → ⊥) → r .start < r .stop
 
 -- how many bytes that pass a test s begins with: "Spaces, tabs, CR and LF separate", and "any number of ASCII letters or digits"
 unfoldable pub span : (ℕ → Bool) → List ℕ → ℕ

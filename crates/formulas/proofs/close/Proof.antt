@@ -1,54 +1,58 @@
 use mathlib.Core.Path.{refl}
 use Rattle.formulas.specs.Reading.{closes, lacks-closing, closes-refused}
-use Rattle.formulas.proofs.Levels.{mark-there, mark-lacks}
 use borrow.Author.Needs.{needs}
 use Rattle.formulas.proofs.close.Statement.{statement}
 use Rattle.formulas.proofs.close.Tie as tie
 use Rattle.formulas.proofs.close.Reads as reads
 use Rattle.formulas.proofs.close.Lts as lts
-use Rattle.phrases.proofs.read_mark.Reads as read-mark-reads
+use Rattle.formulas.proofs.look.Reads as look-reads
+use Rattle.formulas.proofs.refuse.Reads as refuse-reads
 
--- src/lib.rt:96:22
-enum-known-inner : tie.Need-enum-known-inner
-enum-known-inner c = search needs
-
--- src/lib.rt:97:9
 enum-told : tie.Need-enum-told
 enum-told c = search needs
 
--- src/lib.rt:97:9
+-- src/lib.rt:131:9
+enum-told-2 : tie.Need-enum-told-2
+enum-told-2 c = search needs
+
+-- src/lib.rt:131:9
 returns : tie.Need-returns
-returns c = closes-refused _ _ _ (c .enum-told .given .1) (c .enum-told .given .1)
+returns c = closes-refused _ _ _ (c .enum-told2 .given .1) (c .enum-told2 .given .1) refl
 
--- src/lib.rt:99:11
-read-mark-requires : tie.Need-read-mark-requires
-read-mark-requires c κs = search needs
+-- src/lib.rt:133:8
+element-copy-out-if1 : tie.Need-element-copy-out-if1
+element-copy-out-if1 c = search needs
 
--- src/lib.rt:100:33
-enum-known-next : tie.Need-enum-known-next
-enum-known-next c = search needs
+-- src/lib.rt:134:9
+refuse-requires : tie.Need-refuse-requires
+refuse-requires c κs = search needs
 
--- src/lib.rt:106:13
-enum-known-number : tie.Need-enum-known-number
-enum-known-number c = search needs
-
--- src/lib.rt:93:1
+-- src/lib.rt:134:9
 returns-2 : tie.Need-returns-2
-returns-2 c = closes _ _ (c .before .before .before .before .before .inner .given .1) (mark-there (c .before .before .before .read-mark .ensures) (c .before .next .given .1)) refl
+returns-2 c = lacks-closing (c .before .before .before .before .enum-told .given .1) (c .refuse .ensures) (c .before .before .if1 .taken) refl
 
--- src/lib.rt:93:1
+-- src/lib.rt:136:18
+element-copy-out-behind : tie.Need-element-copy-out-behind
+element-copy-out-behind c = search needs
+
+-- src/lib.rt:137:5
+look-requires : tie.Need-look-requires
+look-requires c κs = search needs
+
+-- src/lib.rt:126:1
 returns-3 : tie.Need-returns-3
-returns-3 c = lacks-closing _ _ _ _ (c .before .before .before .before .before .inner .given .1) (mark-lacks (c .before .before .before .read-mark .ensures) (c .before .number .given .1)) refl
+returns-3 c = closes (c .before .before .before .before .before .enum-told .given .1) refl (c .before .before .before .if1 .left) (c .look .ensures)
 
 pub close-spec : {M : Type 1} → statement M
 close-spec =
     tie.close
     (tie.spec
-    enum-known-inner
     enum-told
+    enum-told-2
     returns
-    read-mark-requires
-    enum-known-next
-    enum-known-number
+    element-copy-out-if1
+    refuse-requires
     returns-2
+    element-copy-out-behind
+    look-requires
     returns-3)

@@ -1,5 +1,4 @@
-use Rattle.import.proofs.Whole.{heading-told, heading-lacks}
-use Rattle.formulas.proofs.Levels.{mark-there, mark-lacks}
+use Rattle.import.proofs.Whole.{mark-there, mark-lacks, heading-told, heading-lacks}
 use borrow.Author.Needs.{needs}
 use Rattle.import.proofs.read_heading.Statement.{statement}
 use Rattle.import.proofs.read_heading.Tie as tie

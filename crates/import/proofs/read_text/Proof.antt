@@ -7,27 +7,27 @@ use Rattle.import.proofs.read_text.Lts as lts
 use Rattle.import.proofs.read_body.Reads as read-body-reads
 use Rattle.import.proofs.read_heading.Reads as read-heading-reads
 
--- src/lib.rt:150:11
+-- src/lib.rt:122:11
 read-heading-requires : tie.Need-read-heading-requires
 read-heading-requires c κs = search needs
 
--- src/lib.rt:151:24
+-- src/lib.rt:123:24
 enum-known-next : tie.Need-enum-known-next
 enum-known-next c = search needs
 
--- src/lib.rt:151:34
+-- src/lib.rt:123:34
 read-body-requires : tie.Need-read-body-requires
 read-body-requires c κs = search needs
 
--- src/lib.rt:153:13
+-- src/lib.rt:125:13
 enum-known-number : tie.Need-enum-known-number
 enum-known-number c = search needs
 
--- src/lib.rt:146:1
+-- src/lib.rt:118:1
 returns : tie.Need-returns
-returns c = text-told (c .before .before .before .before .before .read-heading .ensures) (c .before .before .before .next .given .1) (c .read-body .ensures)
+returns c = text-told (c .before .before .before .before .before .before .read-heading .ensures) (c .before .before .before .before .next .given .1) (c .read-body .ensures)
 
--- src/lib.rt:146:1
+-- src/lib.rt:118:1
 returns-2 : tie.Need-returns-2
 returns-2 c = text-unheaded (c .before .before .before .read-heading .ensures) (c .before .number .given .1)
 

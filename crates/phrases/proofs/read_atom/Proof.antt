@@ -1,4 +1,4 @@
--- `phrases::read_atom` meets its contract, from those of `token_at`, `look_up`, `left_good` and `read_related`. Assumes nothing.
+-- `phrases::read_atom` meets its contract, from those of `look_up`, `token_at`, `left_good` and `read_related`. Assumes nothing.
 use mathlib.Core.Path.{_≡_, sym, _∙_}
 use mathlib.Core.Bool.{true}
 use borrow.Author.Needs.{needs}
@@ -10,35 +10,28 @@ use Rattle.phrases.proofs.read_atom.Statement.{statement}
 use Rattle.phrases.proofs.read_atom.Tie as tie
 
 look-up-requires : tie.Need-look-up-requires
-look-up-requires c κs = let b = c .before .before in (b .before .before .pre, name-span (b .token-at .ensures) (c .if1 .left))
+look-up-requires c κs = let p = c .before .before .before .pre in (p .0, name-span (p .1) (c .if1 .left))
 
 returns-2 : tie.Need-returns-2
 returns-2 c =
-    let g = c .before .left-good in
     let d = c .before .before in
-    let b = d .before in
-    atom-wrong _ (b .before .before .before .token-at .ensures) (b .before .if1 .left) (b .look-up .ensures) (d .token-at2 .ensures)
-    (sym (g .ensures) ∙ not-true _ (c .if2 .taken))
+    atom-wrong _ (c .before .before .before .before .before .before .before .pre .1) (c .before .before .before .before .if1 .left) (d .before .look-up .ensures) (d .token-at .ensures)
+    (sym (c .before .left-good .ensures) ∙ not-true _ (c .if2 .taken))
 
 -- the left name may stand before the relation
-good : (c : tie.Else2) → goodOrder (relationBy (c .before .before .token-at2 .result .kind)) (c .before .before .before .look-up .result .order) ≡ true
+good : (c : tie.Else2) → goodOrder (relationBy (c .before .before .token-at .result .kind)) (c .before .before .before .look-up .result .order) ≡ true
 good c = sym (c .before .left-good .ensures) ∙ not-false _ (c .if2 .left)
 
 read-related-requires : tie.Need-read-related-requires
-read-related-requires c κs =
-    let b = c .before .before .before in
-    (b .before .before .before .before .before .pre, b .look-up .ensures .few (good-some _ _ (good c)))
+read-related-requires c κs = (c .before .before .before .before .before .before .before .pre .0, c .before .before .before .look-up .ensures .few (good-some _ _ (good c)))
 
 returns-3 : tie.Need-returns-3
 returns-3 c =
     let d = c .before .before .before in
-    let b = d .before in
-    atom-goes _ (b .before .before .before .token-at .ensures) (b .before .if1 .left) (b .look-up .ensures) (d .token-at2 .ensures)
-    (good (c .before)) (c .read-related .ensures)
+    atom-goes _ (c .before .before .before .before .before .before .before .before .pre .1) (c .before .before .before .before .before .if1 .left) (d .before .look-up .ensures) (d .token-at .ensures) (good (c .before)) (c .read-related .ensures)
 
 pub read-atom-spec : {M : Type 1} → statement M
 read-atom-spec =
     tie.close
-    (tie.spec
-    (λ c κs. search needs) (λ c. atom-no-name _ (c .before .before .token-at .ensures) (c .if1 .taken)) look-up-requires (λ c κs. search needs)
-    (λ c κs. search needs) returns-2 read-related-requires returns-3)
+    (tie.spec (λ c. atom-no-name _ (c .before .before .before .pre .1) (c .if1 .taken)) look-up-requires (λ c κs. search needs) (λ c κs. search needs) returns-2
+    read-related-requires returns-3)
