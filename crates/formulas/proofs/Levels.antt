@@ -10,10 +10,11 @@ use lib.ListN.{length, getD, set, length-set}
 use lib.Seq.{getD-set-same, getD-set-other}
 use Rattle.logic.specs.Rule.{Record}
 use Rattle.text.specs.Token.{Token, spells}
-use Rattle.text.specs.Syntax.{Name, Atom, Sentence, atom, denied, implies, Order, Declared, Scope}
+use Rattle.text.specs.Syntax.{Name, Atom, sub, Sentence, atom, denied, implies, Order, Declared, Scope}
 use Rattle.text.specs.Grammar.{Read, got, next, rest, Reader, consequent, more, andThen, operandOf, Start, atomOf}
 use Rattle.text.specs.Grammar.{refused as leaves}
 use Rattle.text.specs.Records.{tracks, write, writeAtom, putNot}
+use Rattle.text.proofs.Named.{atom-some, binder-some}
 use Rattle.text.proofs.Steps.{more-is}
 use Rattle.text.proofs.Written.{tracks-least}
 use Rattle.tokens.specs.Tokens.{part, Span, tokensAt, readFrom, Stands}
@@ -36,8 +37,7 @@ use Rattle.drafting.proofs.Sentences.{write-longer}
 use Rattle.formulas.specs.Reading.{deeperAt, levelAt, opensBy, bracketAt, orderBy, quantifierBy, quantifiedAt, Joining}
 use Rattle.formulas.specs.Reading.{kindAt, startAt, stopAt, tokenOf, countAt, tracksAt, Ready, Looks, refusedHere, Told, told-got, told-refused, Reads}
 use Rattle.formulas.specs.Reading.{Owns, Counted, Finishes, finishes, passes, Closes, closes, lacks-closing, closes-refused}
-use Rattle.formulas.specs.declared.Reading.{Reading}
-use Rattle.formulas.specs.declared.Reading.the-variants.{Got, Refused}
+use Rattle.formulas.specs.Reading.{Reading, Got, Refused, readingOf}
 use Rattle.formulas.proofs.Strengths.{wordOf, joinOf, joining-most, tighter-within, ahead, level-starts, spells-operator, write-join, tracks-join, then-then}
 use Rattle.formulas.proofs.Strengths.{deeper-is, implied, level-one, implied-is, startBy, operand-is, start-atomic, start-deep, quantifier-of}
 use Rattle.formulas.proofs.Strengths.{negation-is, bracket-is, quantifier-is, closing, closing-is, bracket-starts, write-quantified, tracks-quantified}
@@ -48,33 +48,36 @@ token-path : (t u : TokenRead) → t .kind ≡ u .kind → t .start ≡ u .start
 token-path t u e f g = λ i. record { kind = e i; start = f i; stop = g i }
 
 -- a token is put into it
-pub looked : {s h : List ℕ} {at : ℕ} {t : TokenRead} → length h ≡ 5 → Stands s at t → Looks s at h (set (set (set h 0 (t .kind)) 1 (t .start)) 2 (t .stop))
+pub looked : {s h : List ℕ} {at : ℕ} {t : TokenRead} → length h ≡ 5 → Stands s at t
+    → Looks s at h (set (set (set h 0 (t .kind)) 2 (t .start)) 4 (t .stop))
 looked {s} {h} {at} {t} l st =
     let a = set h 0 (t .kind) in
-    let b = set a 1 (t .start) in
-    let c = set b 2 (t .stop) in
+    let b = set a 2 (t .start) in
+    let c = set b 4 (t .stop) in
     let la = length-set h 0 (t .kind) in
-    let lb = length-set a 1 (t .start) in
-    let lc = length-set b 2 (t .stop) in
-    let e0 : kindAt c ≡ t .kind = getD-set-other b 2 0 (t .stop) 0 (λ z. omega arith) ∙ getD-set-other a 1 0 (t .start) 0 (λ z. omega arith) ∙ getD-set-same h 0 (t .kind) 0 (omega arith) in
-    let e1 : startAt c ≡ t .start = getD-set-other b 2 1 (t .stop) 0 (λ z. omega arith) ∙ getD-set-same a 1 (t .start) 0 (omega arith) in
-    let e2 : stopAt c ≡ t .stop = getD-set-same b 2 (t .stop) 0 (omega arith) in
+    let lb = length-set a 2 (t .start) in
+    let lc = length-set b 4 (t .stop) in
+    let past : (j : ℕ) → (j ≡ 4 → ⊥) → getD c j 0 ≡ getD b j 0 = (λ j z. getD-set-other b 4 j (t .stop) 0 z) in
+    let back : (j : ℕ) → (j ≡ 2 → ⊥) → getD b j 0 ≡ getD a j 0 = (λ j z. getD-set-other a 2 j (t .start) 0 z) in
+    let e0 : kindAt c ≡ t .kind = past 0 (λ z. omega arith) ∙ back 0 (λ z. omega arith) ∙ getD-set-same h 0 (t .kind) 0 (omega arith) in
+    let e1 : startAt c ≡ t .start = past 2 (λ z. omega arith) ∙ getD-set-same a 2 (t .start) 0 (omega arith) in
+    let e2 : stopAt c ≡ t .stop = getD-set-same b 4 (t .stop) 0 (omega arith) in
     record {
       size = omega arith;
       stands = subst (λ (u : TokenRead). Stands s at u) (sym (token-path (tokenOf c) t e0 e1 e2)) st;
-      count-is = getD-set-other b 2 3 (t .stop) 0 (λ z. omega arith) ∙ getD-set-other a 1 3 (t .start) 0 (λ z. omega arith) ∙ getD-set-other h 0 3 (t .kind) 0 (λ z. omega arith);
-      tracks-is = getD-set-other b 2 4 (t .stop) 0 (λ z. omega arith) ∙ getD-set-other a 1 4 (t .start) 0 (λ z. omega arith) ∙ getD-set-other h 0 4 (t .kind) 0 (λ z. omega arith);
+      count-is = past 1 (λ z. omega arith) ∙ back 1 (λ z. omega arith) ∙ getD-set-other h 0 1 (t .kind) 0 (λ z. omega arith);
+      tracks-is = past 3 (λ z. omega arith) ∙ back 3 (λ z. omega arith) ∙ getD-set-other h 0 3 (t .kind) 0 (λ z. omega arith);
     }
 
 -- a count is put into it
-pub counted : {h : List ℕ} {c : ℕ} → length h ≡ 5 → Counted h c (set h 3 c)
+pub counted : {h : List ℕ} {c : ℕ} → length h ≡ 5 → Counted h c (set h 1 c)
 counted {h} {c} l =
-    let k = length-set h 3 c in
+    let k = length-set h 1 c in
     record {
       size = omega arith;
-      token-is = token-path (tokenOf (set h 3 c)) (tokenOf h) (getD-set-other h 3 0 c 0 (λ z. omega arith)) (getD-set-other h 3 1 c 0 (λ z. omega arith)) (getD-set-other h 3 2 c 0 (λ z. omega arith));
-      count-is = getD-set-same h 3 c 0 (omega arith);
-      tracks-is = getD-set-other h 3 4 c 0 (λ z. omega arith);
+      token-is = token-path (tokenOf (set h 1 c)) (tokenOf h) (getD-set-other h 1 0 c 0 (λ z. omega arith)) (getD-set-other h 1 2 c 0 (λ z. omega arith)) (getD-set-other h 1 4 c 0 (λ z. omega arith));
+      count-is = getD-set-same h 1 c 0 (omega arith);
+      tracks-is = getD-set-other h 1 3 c 0 (λ z. omega arith);
     }
 
 -- tracks are put into it
@@ -84,15 +87,35 @@ pub record Tracked (h : List ℕ) (n : ℕ) (h′ : List ℕ) : Type 0 where
   pub count-is : countAt h′ ≡ countAt h
   pub tracks-is : tracksAt h′ ≡ n
 
-pub tracked : {h : List ℕ} {n : ℕ} → length h ≡ 5 → Tracked h n (set h 4 n)
+pub tracked : {h : List ℕ} {n : ℕ} → length h ≡ 5 → Tracked h n (set h 3 n)
 tracked {h} {n} l =
-    let k = length-set h 4 n in
+    let k = length-set h 3 n in
     record {
       size = omega arith;
-      token-is = token-path (tokenOf (set h 4 n)) (tokenOf h) (getD-set-other h 4 0 n 0 (λ z. omega arith)) (getD-set-other h 4 1 n 0 (λ z. omega arith)) (getD-set-other h 4 2 n 0 (λ z. omega arith));
-      count-is = getD-set-other h 4 3 n 0 (λ z. omega arith);
-      tracks-is = getD-set-same h 4 n 0 (omega arith);
+      token-is = token-path (tokenOf (set h 3 n)) (tokenOf h) (getD-set-other h 3 0 n 0 (λ z. omega arith)) (getD-set-other h 3 2 n 0 (λ z. omega arith)) (getD-set-other h 3 4 n 0 (λ z. omega arith));
+      count-is = getD-set-other h 3 1 n 0 (λ z. omega arith);
+      tracks-is = getD-set-same h 3 n 0 (omega arith);
     }
+
+-- ---- the number
+
+pub got-zero : {k : ℕ} (h : List ℕ) → k ≡ 0 → readingOf k h ≡ Got
+got-zero h e = rw e refl
+
+pub refused-some : (k : ℕ) (h : List ℕ) → (k ≡ 0 → ⊥) → readingOf k h ≡ Refused k (startAt h) (stopAt h)
+refused-some zero h z = absurd (z refl)
+refused-some (suc k) h z = refl
+
+-- a refusal at another token, which is put into the array
+pub refused-put : (k b e : ℕ) (h : List ℕ) → (k ≡ 0 → ⊥) → length h ≡ 5
+    → (readingOf k (set (set h 2 b) 4 e) ≡ Refused k b e) × (length (set (set h 2 b) 4 e) ≡ 5)
+refused-put k b e h z l =
+    let a = set h 2 b in
+    let la = length-set h 2 b in
+    let lb = length-set a 4 e in
+    let x : startAt (set a 4 e) ≡ b = getD-set-other a 4 2 e 0 (λ z. omega arith) ∙ getD-set-same h 2 b 0 (omega arith) in
+    let y : stopAt (set a 4 e) ≡ e = getD-set-same a 4 e 0 (omega arith) in
+    (refused-some k (set a 4 e) z ∙ rw (x, y) refl, omega arith)
 
 -- what is looked at stands next
 pub looks-ready : {s h h′ : List ℕ} {at : ℕ} → Looks s at h h′ → Ready s h′
@@ -125,7 +148,7 @@ module _ {s h : List ℕ} (y : Ready s h) where
 
 -- ---- the answers
 
-pub got-refused : {k b e : ℕ} → _≡_ {A = Reading} Got (Refused k b e) → ⊥
+pub got-refused : {k b e : ℕ} → Got ≡ Refused k b e → ⊥
 got-refused q = let z : _≡_ {A = ℕ} 0 1 = cc in omega arith
 
 -- what was read, where something was
@@ -556,14 +579,15 @@ atom-reads {s} {sc} {ws} {h} {ws′} {m} {h′} {a} {n} {c} w p C L = record {
 }
 
 pub atom-refused : {s : List ℕ} {sc : Scope} {ws h : List ℕ} {k b e : ℕ} {m : AtomRead} → length h ≡ 5 → AtomTold s sc (startAt h) (atomOf sc (tokensAt s (startAt h))) m
-    → m ≡ AtomRefused k b e → Reads atomOf s sc ws h ws h (Refused k b e)
-atom-refused l v q =
+    → m ≡ AtomRefused k b e → Reads atomOf s sc ws h ws (set (set h 2 b) 4 e) (readingOf k (set (set h 2 b) 4 e))
+atom-refused {s} {sc} {ws} {h} {k} {b} {e} l v q =
     let w = atom-lacks v q in
+    let p = refused-put k b e h (atom-some sc (tokensAt s (startAt h)) k (w .token) (w .refuses)) l in
     record {
-      tells = λ rs D l. told-refused _ (w .token) (w .refuses) (rw (w .start-is, w .stop-is) refl);
-      size = l;
-      ready = λ p. absurd (got-refused (sym p));
-      onward = λ p. absurd (got-refused (sym p));
+      tells = λ rs D l. told-refused _ (w .token) (w .refuses) (p .0 ∙ rw (w .start-is, w .stop-is) refl);
+      size = p .1;
+      ready = λ x. absurd (got-refused (sym x ∙ p .0));
+      onward = λ x. absurd (got-refused (sym x ∙ p .0));
     }
 
 -- ---- quantifiers
@@ -576,14 +600,17 @@ module _ (d : ℕ) {s h : List ℕ} (y : Ready s h) (l : 3 ≤ kindAt h) (g : ki
   quantified-starts sc = let e = y .stands .goes-on (λ e. let z : kindAt h ≡ 25 = e in omega arith) in rw e refl
 
   pub quantified-unbound : (ns : List ℕ) (n : ℕ) {ws : List ℕ} {k b e : ℕ} {m : Binder} → BinderTold s n (stopAt h) m → m ≡ Unbound k b e
-      → Reads (quantifiedAt d (kindAt h)) s (scopeOf s ns n) ws h ws h (Refused k b e)
-  quantified-unbound ns n w q =
-      let v = binder-lacks w q (scopeOf s ns n) (scope-length s ns n) in
+      → Reads (quantifiedAt d (kindAt h)) s (scopeOf s ns n) ws h ws (set (set h 2 b) 4 e) (readingOf k (set (set h 2 b) 4 e))
+  quantified-unbound ns n {k = k} {b = b} {e = e} w q =
+      let sc = scopeOf s ns n in
+      let v = binder-lacks w q sc (scope-length s ns n) in
+      let u = v (λ x vs. got (atom (sub x x)) vs) in
+      let p = refused-put k b e h (binder-some sc (tokensAt s (stopAt h)) k (u .token) (u .refuses)) (y .size) in
       record {
-        tells = λ rs D x. let u = v _ in told-refused _ (u .token) (quantified-starts (scopeOf s ns n) ∙ u .refuses) (rw (u .start-is, u .stop-is) refl);
-        size = y .size;
-        ready = λ p. absurd (got-refused (sym p));
-        onward = λ p. absurd (got-refused (sym p));
+        tells = λ rs D x. let u = v _ in told-refused _ (u .token) (quantified-starts sc ∙ u .refuses) (p .0 ∙ rw (u .start-is, u .stop-is) refl);
+        size = p .1;
+        ready = λ x. absurd (got-refused (sym x ∙ p .0));
+        onward = λ x. absurd (got-refused (sym x ∙ p .0));
       }
 
   -- the name is in use in its formula, which was read, and the quantifier's own records were put
@@ -626,12 +653,8 @@ module _ (d : ℕ) {s h : List ℕ} (y : Ready s h) (l : 3 ≤ kindAt h) (g : ki
 pub bound-fits : {s ns ms : List ℕ} {n b e o : ℕ} → NewName ns n b e o ms → NamesFit s ns n → Span s b e → NamesFit s ms (n + 1)
 bound-fits {s} {ns} {ms} {n} w f p = let x : suc n ≡ n + 1 = omega arith in subst (λ (i : ℕ). NamesFit s ms i) x (w .fit s f p)
 
--- an answer by another name
-pub subst-reading : {read : Reader} {s : List ℕ} {sc : Scope} {ws h ws′ h′ : List ℕ} {q r : Reading} → r ≡ q → Reads read s sc ws h ws′ h′ q → Reads read s sc ws h ws′ h′ r
-subst-reading {read} {s} {sc} {ws} {h} {ws′} {h′} e X = subst (λ (a : Reading). Reads read s sc ws h ws′ h′ a) (sym e) X
-
-pub tracked-as : {h : List ℕ} {n m : ℕ} → length h ≡ 5 → n ≡ m → Tracked h m (set h 4 n)
-tracked-as {h} {n} l e = subst (λ (k : ℕ). Tracked h k (set h 4 n)) e (tracked l)
+pub tracked-as : {h : List ℕ} {n m : ℕ} → length h ≡ 5 → n ≡ m → Tracked h m (set h 3 n)
+tracked-as {h} {n} l e = subst (λ (k : ℕ). Tracked h k (set h 3 n)) e (tracked l)
 
 pub size-after : (h : List ℕ) (i c : ℕ) → length h ≡ 5 → length (set h i c) ≡ 5
 size-after h i c l = length-set h i c ∙ l

@@ -19,8 +19,6 @@ use Rattle.tokens.specs.declared.Token.{Token as TokenRead}
 use Rattle.phrases.specs.Told.{binderOf}
 use Rattle.drafting.specs.Draft.{Drafted}
 use Rattle.drafting.specs.Joined.{putJoined, putQuantified}
-use Rattle.formulas.specs.declared.Reading.{Reading}
-use Rattle.formulas.specs.declared.Reading.the-variants.{Got, Refused}
 
 -- the readers one level deeper, where d levels may still open
 unfoldable pub deeperAt : ℕ → Part → Reader
@@ -69,19 +67,19 @@ abbrev pub kindAt : List ℕ → ℕ
 kindAt h = getD h 0 0
 
 abbrev pub startAt : List ℕ → ℕ
-startAt h = getD h 1 0
+startAt h = getD h 2 0
 
 abbrev pub stopAt : List ℕ → ℕ
-stopAt h = getD h 2 0
+stopAt h = getD h 4 0
 
 abbrev pub tokenOf : List ℕ → TokenRead
 tokenOf h = record { kind = kindAt h; start = startAt h; stop = stopAt h }
 
 abbrev pub countAt : List ℕ → ℕ
-countAt h = getD h 3 0
+countAt h = getD h 1 0
 
 abbrev pub tracksAt : List ℕ → ℕ
-tracksAt h = getD h 4 0
+tracksAt h = getD h 3 0
 
 -- the array's token is the one that stands next in s
 pub record Ready (s h : List ℕ) : Type 0 where
@@ -94,6 +92,16 @@ pub record Looks (s : List ℕ) (at : ℕ) (h h′ : List ℕ) : Type 0 where
   pub stands : Stands s at (tokenOf h′)
   pub count-is : countAt h′ ≡ countAt h
   pub tracks-is : tracksAt h′ ≡ tracksAt h
+
+-- what reading answers: nothing, or a refusal's number and the bytes of its token
+pub data Reading : Type 0 where
+  Got : Reading
+  Refused : ℕ → ℕ → ℕ → Reading
+
+-- as a number and the array have it: 0, or the refusal's number, and its token for the one that stands next
+abbrev pub readingOf : ℕ → List ℕ → Reading
+readingOf zero h = Got
+readingOf (suc k) h = Refused (suc k) (startAt h) (stopAt h)
 
 -- "23 when it leaves this grammar or depth", at the token that stands next
 abbrev pub refusedHere : List ℕ → Reading

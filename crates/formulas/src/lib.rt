@@ -1,36 +1,27 @@
 // Formulas of a text, read and drafted. "A bracketed formula holds formulas, which hold bracketed ones": the readers call each other, and at each
 // call what is left of the text, the levels that may still open, or the operators that may still join fall. Where reading has come to is one
 // array, lent to all of them: the kind, start and stop of the token that stands next, the records so far (129 for any more than 128), and how
-// many tracks were taken. The names in use are entries of three numbers (`tokens::names`).
+// many tracks were taken. A reader answers 0, or the number of a refusal, whose token is then the array's. The names in use are entries of
+// three numbers (`tokens::names`).
 ghost use mathlib.Core.Path.{_≡_};
 ghost use Prim.Native.Nat.{ℕ, suc, _<_, _≤_, max};
 ghost use lib.ListN.{length};
 ghost use Rattle.text.specs.Grammar.{atomOf};
 ghost use Rattle.tokens.specs.InUse.{orderOf, scopeOf, NamesFit};
 ghost use Rattle.formulas.specs.Reading.{levelAt, opensBy, bracketAt, placeBy, orderBy, quantifiedAt, Joining};
-ghost use Rattle.formulas.specs.Reading.{kindAt, Ready, Looks, refusedHere, Reads, Owns, Finishes, Closes};
+ghost use Rattle.formulas.specs.Reading.{kindAt, Ready, Looks, readingOf, Reads, Owns, Finishes, Closes};
 use tokens::Token;
 
-// What reading a formula answers: nothing, or the refusal's number and the span of the token at which it lies.
-pub enum Reading {
-    Got,
-    Refused {
-        number: u64,
-        start: usize,
-        stop: usize,
-    },
-}
-
-// The places of that array.
+// The places of that array. Those of a token are apart: side by side they would be moved in pairs, which a processor does slower than one by one.
 pub const KIND: usize = 0;
 
-pub const START: usize = 1;
+pub const COUNT: usize = 1;
 
-pub const STOP: usize = 2;
+pub const START: usize = 2;
 
-pub const COUNT: usize = 3;
+pub const TRACKS: usize = 3;
 
-pub const TRACKS: usize = 4;
+pub const STOP: usize = 4;
 
 // The kinds of the tokens that are looked for here: their places among all words and marks.
 const OPENING: usize = 13;
@@ -52,17 +43,6 @@ pub fn look(text: &[u8], here: &mut [usize; 5], at: usize)
     here[KIND] = t.kind;
     here[START] = t.start;
     here[STOP] = t.stop;
-}
-
-// A refusal at the token that stands next: "23 when it leaves this grammar or depth".
-pub fn refuse(here: &[usize; 5]) -> Reading
-    ensures { λ r. ⌜ r ≡ refusedHere (now (here .entry)) ⌝ }
-{
-    Reading::Refused {
-        number: 23,
-        start: here[START],
-        stop: here[STOP],
-    }
 }
 
 // Whether a token of that kind opens a level before an operand: a quantifier word, a bracket or `~`.
@@ -121,34 +101,36 @@ fn finish(
     here: &mut [usize; 5],
     kind: usize,
     beside: usize,
-    inner: Reading,
-) -> Reading
+    inner: u64,
+) -> u64
     requires { ⌜ length (now here) ≡ 5 ⌝ }
     requires { ⌜ (3 ≤ kind) × (kind ≤ 19) ⌝ }
     requires { ⌜ (kind < 15 → (kind ≤ 6) × (beside < 128)) ⌝ }
-    ensures { λ r. ⌜ Finishes (now (words .entry)) kind beside (now (words .exit)) (now (here .entry)) (now (here .exit)) inner r ⌝ }
+    ensures { λ r. ⌜ Finishes (now (words .entry)) kind beside (now (words .exit)) (now (here .entry)) (now (here .exit))
+        (readingOf inner (now (here .entry))) (readingOf r (now (here .exit))) ⌝ }
 {
-    let Reading::Got = inner else {
+    if inner != 0 {
         return inner;
-    };
+    }
     here[COUNT] = own_records(words, kind, beside, here[COUNT]);
-    Reading::Got
+    0
 }
 
 // The bracket that closes a formula.
-fn close(text: &[u8], here: &mut [usize; 5], inner: Reading) -> Reading
+fn close(text: &[u8], here: &mut [usize; 5], inner: u64) -> u64
     requires { ⌜ length (now here) ≡ 5 ⌝ }
-    ensures { λ r. ⌜ Closes (now (text .entry)) (now (here .entry)) (now (here .exit)) inner r ⌝ }
+    ensures { λ r. ⌜ Closes (now (text .entry)) (now (here .entry)) (now (here .exit)) (readingOf inner (now (here .entry)))
+        (readingOf r (now (here .exit))) ⌝ }
 {
-    let Reading::Got = inner else {
+    if inner != 0 {
         return inner;
-    };
+    }
     if here[KIND] != CLOSING {
-        return refuse(here);
+        return 23;
     }
     let behind = here[STOP];
     look(text, here, behind);
-    Reading::Got
+    0
 }
 
 // An atom, with its record.
@@ -158,11 +140,11 @@ fn atom(
     in_use: usize,
     words: &mut [u64; 128],
     here: &mut [usize; 5],
-) -> Reading
+) -> u64
     requires { ⌜ NamesFit (now text) (now names) «in_use» ⌝ }
     requires { ⌜ Ready (now text) (now here) ⌝ }
     ensures { λ r. ⌜ Reads atomOf (now (text .entry)) (scopeOf (now (text .entry)) (now (names .entry)) «in_use») (now (words .entry)) (now (here .entry))
-        (now (words .exit)) (now (here .exit)) r ⌝ }
+        (now (words .exit)) (now (here .exit)) (readingOf r (now (here .exit))) ⌝ }
 {
     let left = Token {
         kind: here[KIND],
@@ -173,17 +155,17 @@ fn atom(
         phrases::AtomRead::Read { atom, next } => {
             here[COUNT] = drafting::put_atom(words, here[COUNT], atom);
             look(text, here, next);
-            Reading::Got
+            0
         }
         phrases::AtomRead::Refused {
             number,
             start,
             stop,
-        } => Reading::Refused {
-            number,
-            start,
-            stop,
-        },
+        } => {
+            here[START] = start;
+            here[STOP] = stop;
+            number
+        }
     }
 }
 
@@ -196,20 +178,20 @@ pub fn formula(
     here: &mut [usize; 5],
     depth: usize,
     strength: usize,
-) -> Reading
+) -> u64
     requires { ⌜ NamesFit (now text) (now names) «in_use» ⌝ }
     requires { ⌜ Ready (now text) (now here) ⌝ }
     requires { ⌜ Joining strength ⌝ }
     ensures { λ r. ⌜ Reads (levelAt depth strength) (now (text .entry)) (scopeOf (now (text .entry)) (now (names .entry)) «in_use») (now (words .entry))
-        (now (here .entry)) (now (words .exit)) (now (here .exit)) r ⌝ }
+        (now (here .entry)) (now (words .exit)) (now (here .exit)) (readingOf r (now (here .exit))) ⌝ }
 {
     let mut reading = tighter(text, names, in_use, words, here, depth, strength);
     loop {
-        let Reading::Got = reading else {
+        if reading != 0 {
             return reading;
-        };
+        }
         if here[KIND] != ALIKE - strength {
-            return Reading::Got;
+            return 0;
         }
         let left = here[COUNT];
         let behind = here[STOP];
@@ -228,12 +210,12 @@ fn tighter(
     here: &mut [usize; 5],
     depth: usize,
     strength: usize,
-) -> Reading
+) -> u64
     requires { ⌜ NamesFit (now text) (now names) «in_use» ⌝ }
     requires { ⌜ Ready (now text) (now here) ⌝ }
     requires { ⌜ Joining strength ⌝ }
     ensures { λ r. ⌜ Reads (levelAt depth (suc strength)) (now (text .entry)) (scopeOf (now (text .entry)) (now (names .entry)) «in_use»)
-        (now (words .entry)) (now (here .entry)) (now (words .exit)) (now (here .exit)) r ⌝ }
+        (now (words .entry)) (now (here .entry)) (now (words .exit)) (now (here .exit)) (readingOf r (now (here .exit))) ⌝ }
 {
     if strength == 0 {
         return implication(text, names, in_use, words, here, depth);
@@ -252,21 +234,21 @@ fn implication(
     words: &mut [u64; 128],
     here: &mut [usize; 5],
     depth: usize,
-) -> Reading
+) -> u64
     requires { ⌜ NamesFit (now text) (now names) «in_use» ⌝ }
     requires { ⌜ Ready (now text) (now here) ⌝ }
     ensures { λ r. ⌜ Reads (levelAt depth 1) (now (text .entry)) (scopeOf (now (text .entry)) (now (names .entry)) «in_use») (now (words .entry))
-        (now (here .entry)) (now (words .exit)) (now (here .exit)) r ⌝ }
+        (now (here .entry)) (now (words .exit)) (now (here .exit)) (readingOf r (now (here .exit))) ⌝ }
 {
     let reading = formula(text, names, in_use, words, here, depth, 2);
-    let Reading::Got = reading else {
+    if reading != 0 {
         return reading;
-    };
+    }
     if here[KIND] != IMPLIES {
-        return Reading::Got;
+        return 0;
     }
     if depth == 0 {
-        return refuse(here);
+        return 23;
     }
     let denied = drafting::put_not(words, here[COUNT]);
     let behind = here[STOP];
@@ -284,18 +266,18 @@ fn operand(
     words: &mut [u64; 128],
     here: &mut [usize; 5],
     depth: usize,
-) -> Reading
+) -> u64
     requires { ⌜ NamesFit (now text) (now names) «in_use» ⌝ }
     requires { ⌜ Ready (now text) (now here) ⌝ }
     ensures { λ r. ⌜ Reads (levelAt depth 4) (now (text .entry)) (scopeOf (now (text .entry)) (now (names .entry)) «in_use») (now (words .entry))
-        (now (here .entry)) (now (words .exit)) (now (here .exit)) r ⌝ }
+        (now (here .entry)) (now (words .exit)) (now (here .exit)) (readingOf r (now (here .exit))) ⌝ }
 {
     let kind = here[KIND];
     if !opens(kind) {
         return atom(text, names, in_use, words, here);
     }
     if depth == 0 {
-        return refuse(here);
+        return 23;
     }
     if kind == OPENING {
         return bracket(text, names, in_use, words, here, depth - 1);
@@ -320,12 +302,12 @@ fn bracket(
     words: &mut [u64; 128],
     here: &mut [usize; 5],
     depth: usize,
-) -> Reading
+) -> u64
     requires { ⌜ NamesFit (now text) (now names) «in_use» ⌝ }
     requires { ⌜ Ready (now text) (now here) ⌝ }
     requires { ⌜ kindAt (now here) ≡ 13 ⌝ }
     ensures { λ r. ⌜ Reads (bracketAt depth) (now (text .entry)) (scopeOf (now (text .entry)) (now (names .entry)) «in_use») (now (words .entry))
-        (now (here .entry)) (now (words .exit)) (now (here .exit)) r ⌝ }
+        (now (here .entry)) (now (words .exit)) (now (here .exit)) (readingOf r (now (here .exit))) ⌝ }
 {
     let behind = here[STOP];
     look(text, here, behind);
@@ -343,13 +325,13 @@ fn quantified(
     here: &mut [usize; 5],
     depth: usize,
     order: usize,
-) -> Reading
+) -> u64
     requires { ⌜ NamesFit (now text) (now names) «in_use» ⌝ }
     requires { ⌜ Ready (now text) (now here) ⌝ }
     requires { ⌜ (3 ≤ kindAt (now here)) × (kindAt (now here) ≤ 6) ⌝ }
     requires { ⌜ orderOf order ≡ orderBy (kindAt (now here)) ⌝ }
     ensures { λ r. ⌜ Reads (quantifiedAt depth (kindAt (now (here .entry)))) (now (text .entry)) (scopeOf (now (text .entry)) (now (names .entry)) «in_use»)
-        (now (words .entry)) (now (here .entry)) (now (words .exit)) (now (here .exit)) r ⌝ }
+        (now (words .entry)) (now (here .entry)) (now (words .exit)) (now (here .exit)) (readingOf r (now (here .exit))) ⌝ }
 {
     let kind = here[KIND];
     match phrases::read_binder(text, in_use, here[STOP]) {
@@ -364,10 +346,10 @@ fn quantified(
             number,
             start,
             stop,
-        } => Reading::Refused {
-            number,
-            start,
-            stop,
-        },
+        } => {
+            here[START] = start;
+            here[STOP] = stop;
+            number
+        }
     }
 }

@@ -26,8 +26,8 @@ use Rattle.text.proofs.Claimed.{claimed}
 use Rattle.drafting.specs.Draft.{Drafted}
 use Rattle.drafting.proofs.Kept.{drafted-count, drafted-words}
 use Rattle.formulas.specs.Reading.{countAt, tracksAt}
-use Rattle.formulas.specs.declared.Reading.{Reading}
-use Rattle.formulas.specs.declared.Reading.the-variants.{Got, Refused as Unread}
+use Rattle.formulas.specs.Reading.{Reading, Got, startAt, stopAt}
+use Rattle.formulas.specs.Reading.{Refused as Unread}
 use Rattle.formulas.proofs.Levels.{got-refused}
 use Rattle.import.specs.Answers.{importedOf, faultOf, Claimed, TextTold, text-got, text-refused}
 use Rattle.import.specs.declared.Import.{Import}

@@ -7,7 +7,7 @@ use mathlib.Core.List.{List, [], _∷_, _++_}
 use native.Mathlib.Omega.{arith}
 use borrow.Author.Tests.{eq-eqb, ne-eqb, le-leb, lt-leb, le-ltb, lt-ltb}
 use lib.Dec.{eqb, leb}
-use lib.ListN.{length, getD}
+use lib.ListN.{length, getD, set}
 use Rattle.logic.specs.Rule.{Record}
 use Rattle.text.specs.Token.{Token, theEnd, spells, placeIn, words, marks}
 use Rattle.text.specs.Syntax.{Name, Order, first, second, Sentence, Scope, Text}
@@ -27,10 +27,10 @@ use Rattle.phrases.specs.declared.Mark.{Mark}
 use Rattle.phrases.specs.declared.Mark.the-variants.{Stands as Stood, Refused as Lacked}
 use Rattle.phrases.proofs.Taking.{mark-taken, mark-turned}
 use Rattle.formulas.specs.Reading.{levelAt, kindAt, startAt, stopAt, countAt, tracksAt, Ready, Looks, refusedHere, Reads, Told, told-got, told-refused, Counted}
-use Rattle.formulas.specs.declared.Reading.{Reading}
-use Rattle.formulas.specs.declared.Reading.the-variants.{Got, Refused as Unread}
+use Rattle.formulas.specs.Reading.{Reading, Got, readingOf}
+use Rattle.formulas.specs.Reading.{Refused as Unread}
 use Rattle.formulas.proofs.Strengths.{reader-formula}
-use Rattle.formulas.proofs.Levels.{Tracked, looks-ready, kind-is, taken, got-refused, told-is}
+use Rattle.formulas.proofs.Levels.{Tracked, looks-ready, kind-is, taken, got-refused, refused-put, told-is}
 use Rattle.import.specs.Answers.{headed, ended, bodyOf, HeadingTold, heads, heads-not, Ends, ends, no-semicolon, no-end, ends-refused, FreePut, Blank, TextTold, text-got, text-refused}
 
 heading-is : placeIn 0 (words ++ marks) "ws2s" ≡ 0
@@ -70,11 +70,11 @@ module _ {s : List ℕ} where
   pub heading-told : {p : ℕ} {r : Mark} → MarkStands s 0 0 p → MarkTold s 10 p r → HeadingTold s r
   unfolding behind-heading
   heading-told st (stands {p = q} w) = heads q refl (λ go. headed-first go st ∙ mark-taken ";" semicolon-is (λ _ vs. go vs) w)
-  heading-told st (lacks {k = k} {b = b} {e = e} w) = heads-not k b e refl (λ go. refused-as (headed-first go st) (mark-turned ";" semicolon-is (λ _ vs. go vs) w))
+  heading-told st (lacks {k = k} {b = b} {e = e} w) = heads-not k b e refl (λ z. let n = w .number-is in omega arith) (λ go. refused-as (headed-first go st) (mark-turned ";" semicolon-is (λ _ vs. go vs) w))
 
   pub heading-lacks : {k b e : ℕ} → MarkLacks s 0 0 k b e → HeadingTold s (Lacked k b e)
   unfolding behind-heading
-  heading-lacks w = heads-not _ _ _ refl (λ go. mark-turned "ws2s" heading-is (behind-heading go) w)
+  heading-lacks w = heads-not _ _ _ refl (λ z. let n = w .number-is in omega arith) (λ go. mark-turned "ws2s" heading-is (behind-heading go) w)
 
 -- ---- the end
 
@@ -143,10 +143,12 @@ told-there {s} {h} y e q =
     text-refused 23 (next (tokensAt s (startAt h))) e (q ∙ rw (a, b) refl)
 
 module _ (s : List ℕ) (at : ℕ) where
-  pub body-undeclared : {ws h : List ℕ} {k b e : ℕ} → RefusedAt (declarations (length (tokensAt s at)) [] (tokensAt s at)) k b e
-      → TextTold ws h (bodyOf (tokensAt s at)) (Unread k b e)
+  pub body-undeclared : {ws : List ℕ} (h : List ℕ) {k b e : ℕ} → length h ≡ 5 → (k ≡ 0 → ⊥) → RefusedAt (declarations (length (tokensAt s at)) [] (tokensAt s at)) k b e
+      → TextTold ws (set (set h 2 b) 4 e) (bodyOf (tokensAt s at)) (readingOf k (set (set h 2 b) 4 e))
   unfolding bodyOf
-  body-undeclared w = text-refused _ (w .token) (ap (λ (R : Read Scope). andThen R sentenced) (w .refuses)) (rw (w .start-is, w .stop-is) refl)
+  body-undeclared {ws} h {k} {b} {e} l z w =
+      let p = refused-put k b e h z l in
+      text-refused _ (w .token) (ap (λ (R : Read Scope). andThen R sentenced) (w .refuses)) (p .0 ∙ rw (w .start-is, w .stop-is) refl)
 
   module _ {ns : List ℕ} {n p : ℕ} (N : NamesAre s at (declarations (length (tokensAt s at)) [] (tokensAt s at)) ns n p) {ws h m k ws₂ h₂ : List ℕ} {sentence : Reading}
       (B : Blank ws h) (T : Tracked h n m) (L : Looks s p m k) (X : Reads (levelAt 32 0) s (scopeOf s ns n) ws k ws₂ h₂ sentence) where
@@ -231,13 +233,15 @@ text-is s = rw (tokens-start s) refl
 
 pub text-told : {s ws h : List ℕ} {p : ℕ} {m : Mark} {r : Reading} → HeadingTold s m → m ≡ Stood p → TextTold ws h (bodyOf (tokensAt s p)) r → TextTold ws h (textOf s) r
 text-told {s} {ws} {h} {p} {m} {r} (heads q e g) f w = let x : q ≡ p = cc in subst (λ (R : Read Text). TextTold ws h R r) (sym (text-is s ∙ g bodyOf ∙ ap (λ (i : ℕ). bodyOf (tokensAt s i)) x)) w
-text-told (heads-not k b e q h) f w = absurd (let z : _≡_ {A = ℕ} 0 1 = cc in omega arith)
+text-told (heads-not k b e q z h) f w = absurd (let z : _≡_ {A = ℕ} 0 1 = cc in omega arith)
 
-pub text-unheaded : {s ws h : List ℕ} {k b e : ℕ} {m : Mark} → HeadingTold s m → m ≡ Lacked k b e → TextTold ws h (textOf s) (Unread k b e)
-text-unheaded (heads q e h) f = absurd (let z : _≡_ {A = ℕ} 0 1 = cc in omega arith)
-text-unheaded {s} {k = k} {b = b} {e = e} (heads-not k′ b′ e′ q h) f =
+pub text-unheaded : {s ws : List ℕ} (h : List ℕ) {k b e : ℕ} {m : Mark} → length h ≡ 5 → HeadingTold s m → m ≡ Lacked k b e
+    → TextTold ws (set (set h 2 b) 4 e) (textOf s) (readingOf k (set (set h 2 b) 4 e))
+text-unheaded h l (heads q e g) f = absurd (let z : _≡_ {A = ℕ} 0 1 = cc in omega arith)
+text-unheaded {s} h {k = k} {b = b} {e = e} l (heads-not k′ b′ e′ q n g) f =
     let x : k′ ≡ k = cc in
     let y : b′ ≡ b = cc in
     let z : e′ ≡ e = cc in
-    let w = h bodyOf in
-    text-refused k (w .token) (text-is s ∙ w .refuses ∙ ap (λ (i : ℕ). leaves i (w .token)) x) (rw (w .start-is, w .stop-is, y, z) refl)
+    let w = g bodyOf in
+    let p = refused-put k b e h (λ o. n (x ∙ o)) l in
+    text-refused k (w .token) (text-is s ∙ w .refuses ∙ ap (λ (i : ℕ). leaves i (w .token)) x) (p .0 ∙ rw (w .start-is, w .stop-is, y, z) refl)

@@ -21,8 +21,8 @@ use Rattle.phrases.specs.Told.{RefusedAt}
 use Rattle.phrases.specs.declared.Mark.{Mark}
 use Rattle.phrases.specs.declared.Mark.the-variants.{Stands as Stood, Refused as Lacked}
 use Rattle.formulas.specs.Reading.{kindAt, stopAt, countAt, tracksAt, Looks, refusedHere}
-use Rattle.formulas.specs.declared.Reading.{Reading}
-use Rattle.formulas.specs.declared.Reading.the-variants.{Got, Refused as Unread}
+use Rattle.formulas.specs.Reading.{Reading, Got}
+use Rattle.formulas.specs.Reading.{Refused as Unread}
 use Rattle.import.specs.declared.Import.{Import}
 use Rattle.import.specs.declared.Import.the-variants.{Written, Refused}
 use Rattle.import.specs.declared.TextFault.{TextFault}
@@ -56,7 +56,7 @@ bodyOf vs = andThen (declarations (length vs) [] vs) (λ sc ws. andThen (reader 
 -- the heading stands, and the next token is looked for from place p on
 pub data HeadingTold (s : List ℕ) (r : Mark) : Type 0 where
   heads : (p : ℕ) → r ≡ Stood p → ((go : List Token → Read Text) → headed (tokensAt s 0) go ≡ go (tokensAt s p)) → HeadingTold s r
-  heads-not : (k b e : ℕ) → r ≡ Lacked k b e → ((go : List Token → Read Text) → RefusedAt (headed (tokensAt s 0) go) k b e) → HeadingTold s r
+  heads-not : (k b e : ℕ) → r ≡ Lacked k b e → (k ≡ 0 → ⊥) → ((go : List Token → Read Text) → RefusedAt (headed (tokensAt s 0) go) k b e) → HeadingTold s r
 
 -- the semicolon and the end stand behind the formula that was read, or not. h and h′: the readers' array before and after
 pub data Ends (s h h′ : List ℕ) (inner r : Reading) : Type 0 where

@@ -5,8 +5,8 @@ ghost use lib.ListN.{length};
 ghost use Rattle.text.specs.Grammar.{textOf};
 ghost use Rattle.text.specs.Import.{import, outAfter};
 ghost use Rattle.tokens.specs.Tokens.{tokensAt};
+ghost use Rattle.formulas.specs.Reading.{readingOf};
 ghost use Rattle.import.specs.Answers.{HeadingTold, Ends, FreePut, bodyOf, Blank, TextTold, importedOf, faultOf, Claimed};
-use formulas::Reading;
 use phrases::Mark;
 
 // What import answers: the variables and records of the rule and the length of its strip in bytes; or a refusal's number.
@@ -53,22 +53,23 @@ fn read_heading(text: &[u8]) -> Mark
 }
 
 // "ended by a semicolon", and nothing behind it.
-fn end(text: &[u8], here: &mut [usize; 5], sentence: Reading) -> Reading
+fn end(text: &[u8], here: &mut [usize; 5], sentence: u64) -> u64
     requires { ⌜ length (now here) ≡ 5 ⌝ }
-    ensures { λ r. ⌜ Ends (now (text .entry)) (now (here .entry)) (now (here .exit)) sentence r ⌝ }
+    ensures { λ r. ⌜ Ends (now (text .entry)) (now (here .entry)) (now (here .exit)) (readingOf sentence (now (here .entry)))
+        (readingOf r (now (here .exit))) ⌝ }
 {
-    let Reading::Got = sentence else {
+    if sentence != 0 {
         return sentence;
-    };
+    }
     if here[formulas::KIND] != SEMICOLON {
-        return formulas::refuse(here);
+        return 23;
     }
     let behind = here[formulas::STOP];
     formulas::look(text, here, behind);
     if here[formulas::KIND] != tokens::END {
-        return formulas::refuse(here);
+        return 23;
     }
-    Reading::Got
+    0
 }
 
 // "each free first-order variable two more", in order of declaration.
@@ -88,17 +89,16 @@ fn put_free(words: &mut [u64; 128], names: &[usize; 24], in_use: usize, count: u
 }
 
 // The declarations, the formula and the end, from a place on.
-fn read_body(text: &[u8], words: &mut [u64; 128], here: &mut [usize; 5], at: usize) -> Reading
+fn read_body(text: &[u8], words: &mut [u64; 128], here: &mut [usize; 5], at: usize) -> u64
     requires { ⌜ Blank (now words) (now here) ⌝ }
-    ensures { λ r. ⌜ TextTold (now (words .exit)) (now (here .exit)) (bodyOf (tokensAt (now (text .entry)) at)) r ⌝ }
+    ensures { λ r. ⌜ TextTold (now (words .exit)) (now (here .exit)) (bodyOf (tokensAt (now (text .entry)) at))
+        (readingOf r (now (here .exit))) ⌝ }
 {
     let declared = phrases::read_declarations(text, at);
     if declared.refusal != 0 {
-        return Reading::Refused {
-            number: declared.refusal,
-            start: declared.start,
-            stop: declared.stop,
-        };
+        here[formulas::START] = declared.start;
+        here[formulas::STOP] = declared.stop;
+        return declared.refusal;
     }
     let names = declared.names;
     let in_use = declared.in_use;
@@ -106,17 +106,17 @@ fn read_body(text: &[u8], words: &mut [u64; 128], here: &mut [usize; 5], at: usi
     formulas::look(text, here, declared.next);
     let sentence = formulas::formula(text, &names, in_use, words, here, DEPTH, 0);
     let whole = end(text, here, sentence);
-    let Reading::Got = whole else {
+    if whole != 0 {
         return whole;
-    };
+    }
     here[formulas::COUNT] = put_free(words, &names, in_use, here[formulas::COUNT]);
-    Reading::Got
+    0
 }
 
 // A whole text: its records into the one array, how many they are and its tracks into the other.
-fn read_text(text: &[u8], words: &mut [u64; 128], here: &mut [usize; 5]) -> Reading
+fn read_text(text: &[u8], words: &mut [u64; 128], here: &mut [usize; 5]) -> u64
     requires { ⌜ Blank (now words) (now here) ⌝ }
-    ensures { λ r. ⌜ TextTold (now (words .exit)) (now (here .exit)) (textOf (now (text .entry))) r ⌝ }
+    ensures { λ r. ⌜ TextTold (now (words .exit)) (now (here .exit)) (textOf (now (text .entry))) (readingOf r (now (here .exit))) ⌝ }
 {
     match read_heading(text) {
         Mark::Stands { next } => read_body(text, words, here, next),
@@ -124,11 +124,11 @@ fn read_text(text: &[u8], words: &mut [u64; 128], here: &mut [usize; 5]) -> Read
             number,
             start,
             stop,
-        } => Reading::Refused {
-            number,
-            start,
-            stop,
-        },
+        } => {
+            here[formulas::START] = start;
+            here[formulas::STOP] = stop;
+            number
+        }
     }
 }
 
@@ -143,25 +143,20 @@ pub fn import_text(text: &[u8], out: &mut [u8]) -> Import
     }
     let mut words = [0; 128];
     let mut here = [0; 5];
-    match read_text(text, &mut words, &mut here) {
-        Reading::Got => {
-            let records = here[formulas::COUNT];
-            let variables = here[formulas::TRACKS];
-            if 128 < records {
-                return Import::Refused(26);
-            }
-            rule_strip::write::write_rule(out, variables, records, &words);
-            Import::Written {
-                variables,
-                records,
-                length: (16 + 18 * records + 7) / 8,
-            }
-        }
-        Reading::Refused {
-            number,
-            start: _,
-            stop: _,
-        } => Import::Refused(number),
+    let refusal = read_text(text, &mut words, &mut here);
+    if refusal != 0 {
+        return Import::Refused(refusal);
+    }
+    let records = here[formulas::COUNT];
+    let variables = here[formulas::TRACKS];
+    if 128 < records {
+        return Import::Refused(26);
+    }
+    rule_strip::write::write_rule(out, variables, records, &words);
+    Import::Written {
+        variables,
+        records,
+        length: (16 + 18 * records + 7) / 8,
     }
 }
 
@@ -181,29 +176,24 @@ pub fn text_fault(text: &[u8]) -> TextFault
 {
     let mut words = [0; 128];
     let mut here = [0; 5];
-    match read_text(text, &mut words, &mut here) {
-        Reading::Got => {
-            if 128 < here[formulas::COUNT] {
-                return TextFault {
-                    refusal: 26,
-                    start: 0,
-                    length: 0,
-                };
-            }
-            TextFault {
-                refusal: 0,
-                start: 0,
-                length: 0,
-            }
-        }
-        Reading::Refused {
-            number,
-            start,
-            stop,
-        } => TextFault {
-            refusal: number,
-            start,
-            length: size(start, stop),
-        },
+    let refusal = read_text(text, &mut words, &mut here);
+    if refusal != 0 {
+        return TextFault {
+            refusal,
+            start: here[formulas::START],
+            length: size(here[formulas::START], here[formulas::STOP]),
+        };
+    }
+    if 128 < here[formulas::COUNT] {
+        return TextFault {
+            refusal: 26,
+            start: 0,
+            length: 0,
+        };
+    }
+    TextFault {
+        refusal: 0,
+        start: 0,
+        length: 0,
     }
 }

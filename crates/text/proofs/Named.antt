@@ -9,7 +9,7 @@ use lib.Dec.{ltb, leb, eqb}
 use lib.ListN.{length}
 use Rattle.rule_strip.specs.RuleWriting.{ruleStrip}
 use Rattle.text.specs.Token.{Token, theEnd, spells, isName, tokensOf}
-use Rattle.text.specs.Syntax.{Name, Order, first, second, Sentence, both, either, alike, Scope, Text}
+use Rattle.text.specs.Syntax.{Name, Order, first, second, sub, Sentence, atom, both, either, alike, Scope, Text}
 use Rattle.text.specs.Grammar.{Read, got, refused, andThen, next, rest, accept, or23, usedRefusal, newRefusal, hasOrder, inUse, used, leftGood}
 use Rattle.text.specs.Grammar.{Relation, inclusion, membership, equality, other, relationOf, branchOf, spotOf, related, Reader, atomOf}
 use Rattle.text.specs.Grammar.{more, joined, Start, negation, bracket, atomic, tooDeep, quantifier, startOf, operandOf, impliedBy}
@@ -210,3 +210,17 @@ import-named s size k e = room (ltb size 290) e
     room : (v : Bool) → (elim v as (λ _. Import) [ true ↦ refuses 27 | false ↦ ruleOf (textOf s) ]) ≡ refuses k → (23 ≤ k) × (k ≤ 27)
     room true p = let q : 27 ≡ k = cc in (omega arith, omega arith)
     room false p = ruled (textOf s) refl p
+
+-- ---- no refusal has the number 0
+
+some : {A : Type 0} (R : Read A) (k : ℕ) (t : Token) → Named R → R ≡ refused k t → k ≡ 0 → ⊥
+some R k t n e z = let w = refusal-numbers k t (subst Named e n) .0 in omega arith
+
+pub atom-some : (sc : Scope) (ts : List Token) (k : ℕ) (t : Token) → atomOf sc ts ≡ refused k t → k ≡ 0 → ⊥
+atom-some sc ts k t e = some (atomOf sc ts) k t (atom-named sc ts) e
+
+-- what a quantifier binds, and then an atom of it
+pub binder-some : (sc : Scope) (ts : List Token) (k : ℕ) (t : Token)
+    → accept (newRefusal false sc (next ts)) ts (λ x us. accept (or23 (spells ":" (next us))) us (λ _ vs. got (atom (sub x x)) vs)) ≡ refused k t → k ≡ 0 → ⊥
+binder-some sc ts k t e =
+    some _ k t (named-accept _ ts _ (new-judges false sc (next ts)) (λ x us. named-accept _ us _ (or23-judges (spells ":" (next us))) (λ y vs. fine))) e

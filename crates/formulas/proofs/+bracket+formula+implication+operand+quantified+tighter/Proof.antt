@@ -2,10 +2,10 @@ use native.Mathlib.Omega.{arith}
 use borrow.Author.Needs.{needs}
 use Prim.Native.Nat.{_+_, _-_, _*_}
 use Rattle.tokens.specs.InUse.{scopeOf}
-use Rattle.formulas.specs.Reading.{joins-alike, joins-either, joins-both, kindAt}
+use Rattle.formulas.specs.Reading.{joins-alike, joins-either, joins-both, kindAt, readingOf}
 use Rattle.formulas.proofs.Strengths.{joining-most, joining-last, opens-quantifier}
 use Rattle.formulas.proofs.TokenKinds.{closed-by, opened-by, order-place, order-set}
-use Rattle.formulas.proofs.Levels.{counted, tracked-as, size-after, looks-ready, subst-reading, level-as, bound-fits, binder-there}
+use Rattle.formulas.proofs.Levels.{counted, tracked-as, size-after, looks-ready, got-zero, refused-some, level-as, bound-fits, binder-there}
 use Rattle.formulas.proofs.Levels.{leftOf, Joined, joined-first, joined-on, joined-less, joined-ends, joined-refused}
 use Rattle.formulas.proofs.Levels.{implication-refused, implication-none, implication-deep, implication-on}
 use Rattle.formulas.proofs.Levels.{operand-atom, operand-deep, operand-bracket, operand-not, operand-quantifier, bracket-reads, quantified-unbound, quantified-reads}
@@ -38,7 +38,6 @@ use Rattle.formulas.proofs.finish.Reads as finish-reads
 use Rattle.formulas.proofs.greater.Reads as greater-reads
 use Rattle.formulas.proofs.look.Reads as look-reads
 use Rattle.formulas.proofs.opens.Reads as opens-reads
-use Rattle.formulas.proofs.refuse.Reads as refuse-reads
 use Rattle.phrases.proofs.read_binder.Reads as read-binder-reads
 use Rattle.tokens.proofs.names.bound.Reads as bound-reads
 use Rattle.formulas.proofs.+bracket+formula+implication+operand+quantified+tighter.{
@@ -106,7 +105,7 @@ tighter-at t = and 4 tighter-kinds.ps (is 4 tighter-kinds.ps μ-tighter t) tight
 abbrev tighter-below : ℕ → In 4 tighter-kinds.ps
 tighter-below t = and 4 tighter-kinds.ps (falls 4 tighter-kinds.ps _<_ μ-tighter t) tighter.Pre
 
--- src/lib.rt:311:18
+-- src/lib.rt:308:18
 bracket-element-copy-out-behind : (t : ℕ) → bracket-lts.Need-element-copy-out-behind (
   look-reads.Asked,
   look-reads.Learnt,
@@ -117,7 +116,7 @@ bracket-element-copy-out-behind : (t : ℕ) → bracket-lts.Need-element-copy-ou
 ) (bracket-at t) bracket.Post
 bracket-element-copy-out-behind t c = search needs
 
--- src/lib.rt:312:5
+-- src/lib.rt:309:5
 bracket-look-requires : (t : ℕ) → bracket-lts.Need-look-requires (
   look-reads.Asked,
   look-reads.Learnt,
@@ -128,7 +127,7 @@ bracket-look-requires : (t : ℕ) → bracket-lts.Need-look-requires (
 ) (bracket-at t) bracket.Post
 bracket-look-requires t c κs = c .before .before .before .pre .1 .1 .0 .size
 
--- src/lib.rt:313:9
+-- src/lib.rt:310:9
 bracket-formula-requires : (t : ℕ) → bracket-lts.Need-formula-requires (
   look-reads.Asked,
   look-reads.Learnt,
@@ -139,7 +138,7 @@ bracket-formula-requires : (t : ℕ) → bracket-lts.Need-formula-requires (
 ) (bracket-at t) bracket.Post
 bracket-formula-requires t c κs = let m = c .before .before .before .before .before .before .pre .0 in (omega arith, (c .before .before .before .before .before .before .pre .1 .0, (looks-ready (c .before .before .look .ensures), joins-alike)))
 
--- src/lib.rt:314:5
+-- src/lib.rt:311:5
 bracket-close-requires : (t : ℕ) → bracket-lts.Need-close-requires (
   look-reads.Asked,
   look-reads.Learnt,
@@ -150,7 +149,7 @@ bracket-close-requires : (t : ℕ) → bracket-lts.Need-close-requires (
 ) (bracket-at t) bracket.Post
 bracket-close-requires t c κs = c .before .formula .ensures .size
 
--- src/lib.rt:297:1
+-- src/lib.rt:294:1
 bracket-returns : (t : ℕ) → bracket-lts.Need-returns (
   look-reads.Asked,
   look-reads.Learnt,
@@ -162,12 +161,12 @@ bracket-returns : (t : ℕ) → bracket-lts.Need-returns (
 bracket-returns t c = bracket-reads _ (c .before .before .before .before .before .before .before .before .before .pre .1 .1 .0) (c .before .before .before .before .before .before .before .before .before .pre .1 .1 .1) (c .before .before .before .before .before .look .ensures) (c .before .before .formula .ensures) (c .close .ensures)
 
 abbrev formula-Inv-loop : formula-lts.InvT-loop
-formula-Inv-loop text names in-use words₀ here₀ depth strength reading₀ words here reading = Joined text (scopeOf text names in-use) depth strength words₀ here₀ reading₀ words here reading
+formula-Inv-loop text names in-use words₀ here₀ depth strength reading₀ words here reading = Joined text (scopeOf text names in-use) depth strength words₀ here₀ (readingOf reading₀ here₀) words here (readingOf reading here)
 
 abbrev formula-μ-loop : formula-lts.MeasureT-loop
-formula-μ-loop text names in-use words₀ here₀ depth strength reading₀ words here reading = leftOf text here reading
+formula-μ-loop text names in-use words₀ here₀ depth strength reading₀ words here reading = leftOf text here (readingOf reading here)
 
--- src/lib.rt:187:9
+-- src/lib.rt:184:9
 formula-tighter-requires : (t : ℕ) → formula-lts.Need-tighter-requires (
   tighter-below t,
   tighter.Post,
@@ -178,7 +177,7 @@ formula-tighter-requires : (t : ℕ) → formula-lts.Need-tighter-requires (
 ) (formula-at t) formula.Post formula-Inv-loop formula-μ-loop
 formula-tighter-requires t c κs = let m = c .before .before .before .pre .0 in let l = joining-most (c .before .before .before .pre .1 .1 .1) in (omega arith, c .before .before .before .pre .1)
 
--- src/lib.rt:188:5
+-- src/lib.rt:185:5
 formula-loop-holds : (t : ℕ) → formula-lts.Need-loop-holds (
   tighter-below t,
   tighter.Post,
@@ -189,28 +188,7 @@ formula-loop-holds : (t : ℕ) → formula-lts.Need-loop-holds (
 ) (formula-at t) formula.Post formula-Inv-loop formula-μ-loop
 formula-loop-holds t c = joined-first (c .before .before .before .before .pre .1 .1 .1) (c .tighter .ensures .size) (c .tighter .ensures .ready)
 
-formula-enum-told : (t : ℕ) → formula-lts.Need-enum-told (
-  tighter-below t,
-  tighter.Post,
-  look-reads.Asked,
-  look-reads.Learnt,
-  finish-reads.Asked,
-  finish-reads.Learnt,
-) (formula-at t) formula.Post formula-Inv-loop formula-μ-loop
-formula-enum-told t c = search needs
-
--- src/lib.rt:190:13
-formula-enum-told-2 : (t : ℕ) → formula-lts.Need-enum-told-2 (
-  tighter-below t,
-  tighter.Post,
-  look-reads.Asked,
-  look-reads.Learnt,
-  finish-reads.Asked,
-  finish-reads.Learnt,
-) (formula-at t) formula.Post formula-Inv-loop formula-μ-loop
-formula-enum-told-2 t c = search needs
-
--- src/lib.rt:190:13
+-- src/lib.rt:187:13
 formula-returns : (t : ℕ) → formula-lts.Need-returns (
   tighter-below t,
   tighter.Post,
@@ -219,10 +197,10 @@ formula-returns : (t : ℕ) → formula-lts.Need-returns (
   finish-reads.Asked,
   finish-reads.Learnt,
 ) (formula-at t) formula.Post formula-Inv-loop formula-μ-loop
-formula-returns t c = joined-refused (c .before .before .loop .inv) (c .before .before .before .tighter .ensures) (c .enum-told2 .given .1)
+formula-returns t c = joined-refused (c .before .loop .inv) (c .before .before .tighter .ensures) (refused-some _ _ (c .if1 .taken))
 
--- src/lib.rt:192:12
-formula-element-copy-out-if1 : (t : ℕ) → formula-lts.Need-element-copy-out-if1 (
+-- src/lib.rt:189:12
+formula-element-copy-out-if2 : (t : ℕ) → formula-lts.Need-element-copy-out-if2 (
   tighter-below t,
   tighter.Post,
   look-reads.Asked,
@@ -230,10 +208,10 @@ formula-element-copy-out-if1 : (t : ℕ) → formula-lts.Need-element-copy-out-i
   finish-reads.Asked,
   finish-reads.Learnt,
 ) (formula-at t) formula.Post formula-Inv-loop formula-μ-loop
-formula-element-copy-out-if1 t c = search needs
+formula-element-copy-out-if2 t c = search needs
 
--- src/lib.rt:192:26
-formula-sub-if1 : (t : ℕ) → formula-lts.Need-sub-if1 (
+-- src/lib.rt:189:26
+formula-sub-if2 : (t : ℕ) → formula-lts.Need-sub-if2 (
   tighter-below t,
   tighter.Post,
   look-reads.Asked,
@@ -241,9 +219,9 @@ formula-sub-if1 : (t : ℕ) → formula-lts.Need-sub-if1 (
   finish-reads.Asked,
   finish-reads.Learnt,
 ) (formula-at t) formula.Post formula-Inv-loop formula-μ-loop
-formula-sub-if1 t c = let l = joining-most (c .before .before .before .before .before .before .before .before .pre .1 .1 .1) in omega arith
+formula-sub-if2 t c = let l = joining-most (c .before .before .before .before .before .before .before .pre .1 .1 .1) in omega arith
 
--- src/lib.rt:193:13
+-- src/lib.rt:190:13
 formula-returns-2 : (t : ℕ) → formula-lts.Need-returns-2 (
   tighter-below t,
   tighter.Post,
@@ -252,9 +230,9 @@ formula-returns-2 : (t : ℕ) → formula-lts.Need-returns-2 (
   finish-reads.Asked,
   finish-reads.Learnt,
 ) (formula-at t) formula.Post formula-Inv-loop formula-μ-loop
-formula-returns-2 t c = joined-ends (c .before .before .before .before .loop .inv) (c .before .before .enum-told .given .1) (c .before .before .before .before .before .tighter .ensures) (c .if1 .taken)
+formula-returns-2 t c = joined-ends (c .before .before .before .loop .inv) (got-zero _ (c .before .before .if1 .left)) (c .before .before .before .before .tighter .ensures) (c .if2 .taken)
 
--- src/lib.rt:195:20
+-- src/lib.rt:192:20
 formula-element-copy-out-left : (t : ℕ) → formula-lts.Need-element-copy-out-left (
   tighter-below t,
   tighter.Post,
@@ -265,7 +243,7 @@ formula-element-copy-out-left : (t : ℕ) → formula-lts.Need-element-copy-out-
 ) (formula-at t) formula.Post formula-Inv-loop formula-μ-loop
 formula-element-copy-out-left t c = search needs
 
--- src/lib.rt:196:22
+-- src/lib.rt:193:22
 formula-element-copy-out-behind : (t : ℕ) → formula-lts.Need-element-copy-out-behind (
   tighter-below t,
   tighter.Post,
@@ -276,7 +254,7 @@ formula-element-copy-out-behind : (t : ℕ) → formula-lts.Need-element-copy-ou
 ) (formula-at t) formula.Post formula-Inv-loop formula-μ-loop
 formula-element-copy-out-behind t c = search needs
 
--- src/lib.rt:197:9
+-- src/lib.rt:194:9
 formula-look-requires : (t : ℕ) → formula-lts.Need-look-requires (
   tighter-below t,
   tighter.Post,
@@ -285,9 +263,9 @@ formula-look-requires : (t : ℕ) → formula-lts.Need-look-requires (
   finish-reads.Asked,
   finish-reads.Learnt,
 ) (formula-at t) formula.Post formula-Inv-loop formula-μ-loop
-formula-look-requires t c κs = c .before .before .before .before .before .before .before .loop .inv .size
+formula-look-requires t c κs = c .before .before .before .before .before .before .loop .inv .size
 
--- src/lib.rt:198:13
+-- src/lib.rt:195:13
 formula-tighter-requires-2 : (t : ℕ) → formula-lts.Need-tighter-requires-2 (
   tighter-below t,
   tighter.Post,
@@ -296,9 +274,9 @@ formula-tighter-requires-2 : (t : ℕ) → formula-lts.Need-tighter-requires-2 (
   finish-reads.Asked,
   finish-reads.Learnt,
 ) (formula-at t) formula.Post formula-Inv-loop formula-μ-loop
-formula-tighter-requires-2 t c κs = let m = c .before .before .before .before .before .before .before .before .before .before .before .before .before .before .before .pre .0 in let l = joining-most (c .before .before .before .before .before .before .before .before .before .before .before .before .before .before .before .pre .1 .1 .1) in (omega arith, (c .before .before .before .before .before .before .before .before .before .before .before .before .before .before .before .pre .1 .0, (looks-ready (c .before .before .look .ensures), c .before .before .before .before .before .before .before .before .before .before .before .before .before .before .before .pre .1 .1 .1)))
+formula-tighter-requires-2 t c κs = let m = c .before .before .before .before .before .before .before .before .before .before .before .before .before .before .pre .0 in let l = joining-most (c .before .before .before .before .before .before .before .before .before .before .before .before .before .before .pre .1 .1 .1) in (omega arith, (c .before .before .before .before .before .before .before .before .before .before .before .before .before .before .pre .1 .0, (looks-ready (c .before .before .look .ensures), c .before .before .before .before .before .before .before .before .before .before .before .before .before .before .pre .1 .1 .1)))
 
--- src/lib.rt:199:39
+-- src/lib.rt:196:39
 formula-sub-finish : (t : ℕ) → formula-lts.Need-sub-finish (
   tighter-below t,
   tighter.Post,
@@ -307,9 +285,9 @@ formula-sub-finish : (t : ℕ) → formula-lts.Need-sub-finish (
   finish-reads.Asked,
   finish-reads.Learnt,
 ) (formula-at t) formula.Post formula-Inv-loop formula-μ-loop
-formula-sub-finish t c = let l = joining-most (c .before .before .before .before .before .before .before .before .before .before .before .before .before .before .before .before .before .before .pre .1 .1 .1) in omega arith
+formula-sub-finish t c = let l = joining-most (c .before .before .before .before .before .before .before .before .before .before .before .before .before .before .before .before .before .pre .1 .1 .1) in omega arith
 
--- src/lib.rt:199:9
+-- src/lib.rt:196:9
 formula-finish-requires : (t : ℕ) → formula-lts.Need-finish-requires (
   tighter-below t,
   tighter.Post,
@@ -318,9 +296,9 @@ formula-finish-requires : (t : ℕ) → formula-lts.Need-finish-requires (
   finish-reads.Asked,
   finish-reads.Learnt,
 ) (formula-at t) formula.Post formula-Inv-loop formula-μ-loop
-formula-finish-requires t c κs = let l = joining-most (c .before .before .before .before .before .before .before .before .before .before .before .before .before .before .before .before .before .before .pre .1 .1 .1) in (c .before .before .tighter2 .ensures .size, ((omega arith, omega arith), λ x. absurd (omega arith)))
+formula-finish-requires t c κs = let l = joining-most (c .before .before .before .before .before .before .before .before .before .before .before .before .before .before .before .before .before .pre .1 .1 .1) in (c .before .before .tighter2 .ensures .size, ((omega arith, omega arith), λ x. absurd (omega arith)))
 
--- src/lib.rt:188:5
+-- src/lib.rt:185:5
 formula-loop-less : (t : ℕ) → formula-lts.Need-loop-less (
   tighter-below t,
   tighter.Post,
@@ -329,9 +307,9 @@ formula-loop-less : (t : ℕ) → formula-lts.Need-loop-less (
   finish-reads.Asked,
   finish-reads.Learnt,
 ) (formula-at t) formula.Post formula-Inv-loop formula-μ-loop
-formula-loop-less t c = joined-less (c .before .before .before .before .before .before .before .before .before .before .before .before .before .before .loop .inv) (c .before .before .before .before .before .before .before .before .before .before .before .before .enum-told .given .1) (c .before .before .before .before .before .before .before .before .before .before .if1 .left) (c .before .before .before .before .before .before .look .ensures) (c .before .before .before .tighter2 .ensures) (c .finish .ensures)
+formula-loop-less t c = joined-less (c .before .before .before .before .before .before .before .before .before .before .before .before .before .loop .inv) (got-zero _ (c .before .before .before .before .before .before .before .before .before .before .before .before .if1 .left)) (c .before .before .before .before .before .before .before .before .before .before .if2 .left) (c .before .before .before .before .before .before .look .ensures) (c .before .before .before .tighter2 .ensures) (c .finish .ensures)
 
--- src/lib.rt:188:5
+-- src/lib.rt:185:5
 formula-loop-again : (t : ℕ) → formula-lts.Need-loop-again (
   tighter-below t,
   tighter.Post,
@@ -340,14 +318,12 @@ formula-loop-again : (t : ℕ) → formula-lts.Need-loop-again (
   finish-reads.Asked,
   finish-reads.Learnt,
 ) (formula-at t) formula.Post formula-Inv-loop formula-μ-loop
-formula-loop-again t c = joined-on (c .before .before .before .before .before .before .before .before .before .before .before .before .before .before .loop .inv) (c .before .before .before .before .before .before .before .before .before .before .before .before .enum-told .given .1) (c .before .before .before .before .before .before .before .before .before .before .if1 .left) (c .before .before .before .before .before .before .look .ensures) (c .before .before .before .tighter2 .ensures) (c .finish .ensures)
+formula-loop-again t c = joined-on (c .before .before .before .before .before .before .before .before .before .before .before .before .before .loop .inv) (got-zero _ (c .before .before .before .before .before .before .before .before .before .before .before .before .if1 .left)) (c .before .before .before .before .before .before .before .before .before .before .if2 .left) (c .before .before .before .before .before .before .look .ensures) (c .before .before .before .tighter2 .ensures) (c .finish .ensures)
 
--- src/lib.rt:242:9
+-- src/lib.rt:239:9
 implication-formula-requires : (t : ℕ) → implication-lts.Need-formula-requires (
   formula-below t,
   formula.Post,
-  refuse-reads.Asked,
-  refuse-reads.Learnt,
   put-not-reads.Asked,
   put-not-reads.Learnt,
   look-reads.Asked,
@@ -359,45 +335,10 @@ implication-formula-requires : (t : ℕ) → implication-lts.Need-formula-requir
 ) (implication-at t) implication.Post
 implication-formula-requires t c κs = let m = c .before .before .before .pre .0 in (omega arith, (c .before .before .before .pre .1 .0, (c .before .before .before .pre .1 .1, joins-either)))
 
-implication-enum-told : (t : ℕ) → implication-lts.Need-enum-told (
-  formula-below t,
-  formula.Post,
-  refuse-reads.Asked,
-  refuse-reads.Learnt,
-  put-not-reads.Asked,
-  put-not-reads.Learnt,
-  look-reads.Asked,
-  look-reads.Learnt,
-  implication-below t,
-  implication.Post,
-  finish-reads.Asked,
-  finish-reads.Learnt,
-) (implication-at t) implication.Post
-implication-enum-told t c = search needs
-
--- src/lib.rt:244:9
-implication-enum-told-2 : (t : ℕ) → implication-lts.Need-enum-told-2 (
-  formula-below t,
-  formula.Post,
-  refuse-reads.Asked,
-  refuse-reads.Learnt,
-  put-not-reads.Asked,
-  put-not-reads.Learnt,
-  look-reads.Asked,
-  look-reads.Learnt,
-  implication-below t,
-  implication.Post,
-  finish-reads.Asked,
-  finish-reads.Learnt,
-) (implication-at t) implication.Post
-implication-enum-told-2 t c = search needs
-
--- src/lib.rt:244:9
+-- src/lib.rt:241:9
 implication-returns : (t : ℕ) → implication-lts.Need-returns (
   formula-below t,
   formula.Post,
-  refuse-reads.Asked,
-  refuse-reads.Learnt,
   put-not-reads.Asked,
   put-not-reads.Learnt,
   look-reads.Asked,
@@ -407,14 +348,12 @@ implication-returns : (t : ℕ) → implication-lts.Need-returns (
   finish-reads.Asked,
   finish-reads.Learnt,
 ) (implication-at t) implication.Post
-implication-returns t c = implication-refused _ (c .before .before .formula .ensures) (c .enum-told2 .given .1)
+implication-returns t c = implication-refused _ (c .before .formula .ensures) (refused-some _ _ (c .if1 .taken))
 
--- src/lib.rt:246:8
-implication-element-copy-out-if1 : (t : ℕ) → implication-lts.Need-element-copy-out-if1 (
+-- src/lib.rt:243:8
+implication-element-copy-out-if2 : (t : ℕ) → implication-lts.Need-element-copy-out-if2 (
   formula-below t,
   formula.Post,
-  refuse-reads.Asked,
-  refuse-reads.Learnt,
   put-not-reads.Asked,
   put-not-reads.Learnt,
   look-reads.Asked,
@@ -424,14 +363,12 @@ implication-element-copy-out-if1 : (t : ℕ) → implication-lts.Need-element-co
   finish-reads.Asked,
   finish-reads.Learnt,
 ) (implication-at t) implication.Post
-implication-element-copy-out-if1 t c = search needs
+implication-element-copy-out-if2 t c = search needs
 
--- src/lib.rt:247:9
+-- src/lib.rt:244:9
 implication-returns-2 : (t : ℕ) → implication-lts.Need-returns-2 (
   formula-below t,
   formula.Post,
-  refuse-reads.Asked,
-  refuse-reads.Learnt,
   put-not-reads.Asked,
   put-not-reads.Learnt,
   look-reads.Asked,
@@ -441,31 +378,12 @@ implication-returns-2 : (t : ℕ) → implication-lts.Need-returns-2 (
   finish-reads.Asked,
   finish-reads.Learnt,
 ) (implication-at t) implication.Post
-implication-returns-2 t c = implication-none _ (c .before .before .before .before .formula .ensures) (c .before .before .enum-told .given .1) (c .if1 .taken)
+implication-returns-2 t c = implication-none _ (c .before .before .before .formula .ensures) (got-zero _ (c .before .before .if1 .left)) (c .if2 .taken)
 
--- src/lib.rt:250:9
-implication-refuse-requires : (t : ℕ) → implication-lts.Need-refuse-requires (
-  formula-below t,
-  formula.Post,
-  refuse-reads.Asked,
-  refuse-reads.Learnt,
-  put-not-reads.Asked,
-  put-not-reads.Learnt,
-  look-reads.Asked,
-  look-reads.Learnt,
-  implication-below t,
-  implication.Post,
-  finish-reads.Asked,
-  finish-reads.Learnt,
-) (implication-at t) implication.Post
-implication-refuse-requires t c κs = search needs
-
--- src/lib.rt:250:9
+-- src/lib.rt:247:9
 implication-returns-3 : (t : ℕ) → implication-lts.Need-returns-3 (
   formula-below t,
   formula.Post,
-  refuse-reads.Asked,
-  refuse-reads.Learnt,
   put-not-reads.Asked,
   put-not-reads.Learnt,
   look-reads.Asked,
@@ -475,14 +393,12 @@ implication-returns-3 : (t : ℕ) → implication-lts.Need-returns-3 (
   finish-reads.Asked,
   finish-reads.Learnt,
 ) (implication-at t) implication.Post
-implication-returns-3 t c = subst-reading (c .refuse .ensures) (implication-deep _ (c .before .before .before .before .before .before .before .formula .ensures) (c .before .before .before .before .before .enum-told .given .1) (c .before .before .before .if1 .left) (c .before .before .if2 .taken))
+implication-returns-3 t c = implication-deep _ (c .before .before .before .before .formula .ensures) (got-zero _ (c .before .before .before .if1 .left)) (c .before .if2 .left) (c .if3 .taken)
 
--- src/lib.rt:252:43
+-- src/lib.rt:249:43
 implication-element-copy-out-put-not : (t : ℕ) → implication-lts.Need-element-copy-out-put-not (
   formula-below t,
   formula.Post,
-  refuse-reads.Asked,
-  refuse-reads.Learnt,
   put-not-reads.Asked,
   put-not-reads.Learnt,
   look-reads.Asked,
@@ -494,12 +410,10 @@ implication-element-copy-out-put-not : (t : ℕ) → implication-lts.Need-elemen
 ) (implication-at t) implication.Post
 implication-element-copy-out-put-not t c = search needs
 
--- src/lib.rt:252:9
+-- src/lib.rt:249:9
 implication-put-not-requires : (t : ℕ) → implication-lts.Need-put-not-requires (
   formula-below t,
   formula.Post,
-  refuse-reads.Asked,
-  refuse-reads.Learnt,
   put-not-reads.Asked,
   put-not-reads.Learnt,
   look-reads.Asked,
@@ -511,12 +425,10 @@ implication-put-not-requires : (t : ℕ) → implication-lts.Need-put-not-requir
 ) (implication-at t) implication.Post
 implication-put-not-requires t c κs = search needs
 
--- src/lib.rt:253:18
+-- src/lib.rt:250:18
 implication-element-copy-out-behind : (t : ℕ) → implication-lts.Need-element-copy-out-behind (
   formula-below t,
   formula.Post,
-  refuse-reads.Asked,
-  refuse-reads.Learnt,
   put-not-reads.Asked,
   put-not-reads.Learnt,
   look-reads.Asked,
@@ -528,12 +440,10 @@ implication-element-copy-out-behind : (t : ℕ) → implication-lts.Need-element
 ) (implication-at t) implication.Post
 implication-element-copy-out-behind t c = search needs
 
--- src/lib.rt:254:5
+-- src/lib.rt:251:5
 implication-element-write-here : (t : ℕ) → implication-lts.Need-element-write-here (
   formula-below t,
   formula.Post,
-  refuse-reads.Asked,
-  refuse-reads.Learnt,
   put-not-reads.Asked,
   put-not-reads.Learnt,
   look-reads.Asked,
@@ -545,12 +455,10 @@ implication-element-write-here : (t : ℕ) → implication-lts.Need-element-writ
 ) (implication-at t) implication.Post
 implication-element-write-here t c = search needs
 
--- src/lib.rt:255:5
+-- src/lib.rt:252:5
 implication-look-requires : (t : ℕ) → implication-lts.Need-look-requires (
   formula-below t,
   formula.Post,
-  refuse-reads.Asked,
-  refuse-reads.Learnt,
   put-not-reads.Asked,
   put-not-reads.Learnt,
   look-reads.Asked,
@@ -560,14 +468,12 @@ implication-look-requires : (t : ℕ) → implication-lts.Need-look-requires (
   finish-reads.Asked,
   finish-reads.Learnt,
 ) (implication-at t) implication.Post
-implication-look-requires t c κs = size-after (c .before .before .before .before .before .before .before .before .before .before .formula .last .1 .1 .1 .1 .0) 3 (c .before .before .put-not .result) (c .before .before .before .before .before .before .before .before .before .before .formula .ensures .size)
+implication-look-requires t c κs = size-after (c .before .before .before .before .before .before .before .before .before .formula .last .1 .1 .1 .1 .0) 1 (c .before .before .put-not .result) (c .before .before .before .before .before .before .before .before .before .formula .ensures .size)
 
--- src/lib.rt:256:63
+-- src/lib.rt:253:63
 implication-sub-implication : (t : ℕ) → implication-lts.Need-sub-implication (
   formula-below t,
   formula.Post,
-  refuse-reads.Asked,
-  refuse-reads.Learnt,
   put-not-reads.Asked,
   put-not-reads.Learnt,
   look-reads.Asked,
@@ -577,14 +483,12 @@ implication-sub-implication : (t : ℕ) → implication-lts.Need-sub-implication
   finish-reads.Asked,
   finish-reads.Learnt,
 ) (implication-at t) implication.Post
-implication-sub-implication t c = let z = c .before .before .before .before .before .before .before .before .if2 .left in omega arith
+implication-sub-implication t c = let z = c .before .before .before .before .before .before .before .before .if3 .left in omega arith
 
--- src/lib.rt:256:9
+-- src/lib.rt:253:9
 implication-implication-requires : (t : ℕ) → implication-lts.Need-implication-requires (
   formula-below t,
   formula.Post,
-  refuse-reads.Asked,
-  refuse-reads.Learnt,
   put-not-reads.Asked,
   put-not-reads.Learnt,
   look-reads.Asked,
@@ -594,14 +498,12 @@ implication-implication-requires : (t : ℕ) → implication-lts.Need-implicatio
   finish-reads.Asked,
   finish-reads.Learnt,
 ) (implication-at t) implication.Post
-implication-implication-requires t c κs = let m = c .before .before .before .before .before .before .before .before .before .before .before .before .before .before .before .before .before .pre .0 in let z = c .before .before .before .before .before .before .before .before .if2 .left in (omega arith, (c .before .before .before .before .before .before .before .before .before .before .before .before .before .before .before .before .before .pre .1 .0, looks-ready (c .before .before .look .ensures)))
+implication-implication-requires t c κs = let m = c .before .before .before .before .before .before .before .before .before .before .before .before .before .before .before .before .pre .0 in let z = c .before .before .before .before .before .before .before .before .if3 .left in (omega arith, (c .before .before .before .before .before .before .before .before .before .before .before .before .before .before .before .before .pre .1 .0, looks-ready (c .before .before .look .ensures)))
 
--- src/lib.rt:257:5
+-- src/lib.rt:254:5
 implication-finish-requires : (t : ℕ) → implication-lts.Need-finish-requires (
   formula-below t,
   formula.Post,
-  refuse-reads.Asked,
-  refuse-reads.Learnt,
   put-not-reads.Asked,
   put-not-reads.Learnt,
   look-reads.Asked,
@@ -613,12 +515,10 @@ implication-finish-requires : (t : ℕ) → implication-lts.Need-finish-requires
 ) (implication-at t) implication.Post
 implication-finish-requires t c κs = (c .before .before .implication .ensures .size, ((omega arith, omega arith), λ x. absurd (omega arith)))
 
--- src/lib.rt:229:1
+-- src/lib.rt:226:1
 implication-returns-4 : (t : ℕ) → implication-lts.Need-returns-4 (
   formula-below t,
   formula.Post,
-  refuse-reads.Asked,
-  refuse-reads.Learnt,
   put-not-reads.Asked,
   put-not-reads.Learnt,
   look-reads.Asked,
@@ -628,16 +528,14 @@ implication-returns-4 : (t : ℕ) → implication-lts.Need-returns-4 (
   finish-reads.Asked,
   finish-reads.Learnt,
 ) (implication-at t) implication.Post
-implication-returns-4 t c = implication-on _ (c .before .before .before .before .before .before .before .before .before .before .before .before .before .before .before .before .before .formula .ensures) (c .before .before .before .before .before .before .before .before .before .before .before .before .before .before .before .enum-told .given .1) (counted (c .before .before .before .before .before .before .before .before .before .before .before .before .before .before .before .before .before .formula .ensures .size)) (c .before .before .before .before .before .before .look .ensures) (c .before .before .before .before .before .before .before .before .before .before .before .before .before .if1 .left) (c .before .before .before .before .before .before .before .before .before .before .before .before .if2 .left) (c .before .before .before .before .before .before .before .before .before .put-not .ensures) (c .before .before .before .implication .ensures) (c .finish .ensures)
+implication-returns-4 t c = implication-on _ (c .before .before .before .before .before .before .before .before .before .before .before .before .before .before .before .before .formula .ensures) (got-zero _ (c .before .before .before .before .before .before .before .before .before .before .before .before .before .before .before .if1 .left)) (counted (c .before .before .before .before .before .before .before .before .before .before .before .before .before .before .before .before .formula .ensures .size)) (c .before .before .before .before .before .before .look .ensures) (c .before .before .before .before .before .before .before .before .before .before .before .before .before .if2 .left) (c .before .before .before .before .before .before .before .before .before .before .before .before .if3 .left) (c .before .before .before .before .before .before .before .before .before .put-not .ensures) (c .before .before .before .implication .ensures) (c .finish .ensures)
 
--- src/lib.rt:274:16
+-- src/lib.rt:271:16
 operand-element-copy-out-kind : (t : ℕ) → operand-lts.Need-element-copy-out-kind (
   opens-reads.Asked,
   opens-reads.Learnt,
   atom-reads.Asked,
   atom-reads.Learnt,
-  refuse-reads.Asked,
-  refuse-reads.Learnt,
   bracket-below t,
   bracket.Post,
   look-reads.Asked,
@@ -653,14 +551,12 @@ operand-element-copy-out-kind : (t : ℕ) → operand-lts.Need-element-copy-out-
 ) (operand-at t) operand.Post
 operand-element-copy-out-kind t c = search needs
 
--- src/lib.rt:275:9
+-- src/lib.rt:272:9
 operand-opens-requires : (t : ℕ) → operand-lts.Need-opens-requires (
   opens-reads.Asked,
   opens-reads.Learnt,
   atom-reads.Asked,
   atom-reads.Learnt,
-  refuse-reads.Asked,
-  refuse-reads.Learnt,
   bracket-below t,
   bracket.Post,
   look-reads.Asked,
@@ -676,14 +572,12 @@ operand-opens-requires : (t : ℕ) → operand-lts.Need-opens-requires (
 ) (operand-at t) operand.Post
 operand-opens-requires t c κs = search needs
 
--- src/lib.rt:276:9
+-- src/lib.rt:273:9
 operand-atom-requires : (t : ℕ) → operand-lts.Need-atom-requires (
   opens-reads.Asked,
   opens-reads.Learnt,
   atom-reads.Asked,
   atom-reads.Learnt,
-  refuse-reads.Asked,
-  refuse-reads.Learnt,
   bracket-below t,
   bracket.Post,
   look-reads.Asked,
@@ -699,14 +593,12 @@ operand-atom-requires : (t : ℕ) → operand-lts.Need-atom-requires (
 ) (operand-at t) operand.Post
 operand-atom-requires t c κs = c .before .before .before .before .before .before .pre .1
 
--- src/lib.rt:276:9
+-- src/lib.rt:273:9
 operand-returns : (t : ℕ) → operand-lts.Need-returns (
   opens-reads.Asked,
   opens-reads.Learnt,
   atom-reads.Asked,
   atom-reads.Learnt,
-  refuse-reads.Asked,
-  refuse-reads.Learnt,
   bracket-below t,
   bracket.Post,
   look-reads.Asked,
@@ -722,37 +614,12 @@ operand-returns : (t : ℕ) → operand-lts.Need-returns (
 ) (operand-at t) operand.Post
 operand-returns t c = operand-atom _ (c .before .before .before .before .before .before .before .pre .1 .1) (closed-by _ _ (c .before .before .before .before .opens .ensures) (c .before .before .before .if1 .taken)) (c .atom .ensures)
 
--- src/lib.rt:279:9
-operand-refuse-requires : (t : ℕ) → operand-lts.Need-refuse-requires (
-  opens-reads.Asked,
-  opens-reads.Learnt,
-  atom-reads.Asked,
-  atom-reads.Learnt,
-  refuse-reads.Asked,
-  refuse-reads.Learnt,
-  bracket-below t,
-  bracket.Post,
-  look-reads.Asked,
-  look-reads.Learnt,
-  operand-below t,
-  operand.Post,
-  finish-reads.Asked,
-  finish-reads.Learnt,
-  binds-place-reads.Asked,
-  binds-place-reads.Learnt,
-  quantified-below t,
-  quantified.Post,
-) (operand-at t) operand.Post
-operand-refuse-requires t c κs = search needs
-
--- src/lib.rt:279:9
+-- src/lib.rt:276:9
 operand-returns-2 : (t : ℕ) → operand-lts.Need-returns-2 (
   opens-reads.Asked,
   opens-reads.Learnt,
   atom-reads.Asked,
   atom-reads.Learnt,
-  refuse-reads.Asked,
-  refuse-reads.Learnt,
   bracket-below t,
   bracket.Post,
   look-reads.Asked,
@@ -766,16 +633,14 @@ operand-returns-2 : (t : ℕ) → operand-lts.Need-returns-2 (
   quantified-below t,
   quantified.Post,
 ) (operand-at t) operand.Post
-operand-returns-2 t c = subst-reading (c .refuse .ensures) (operand-deep _ (c .before .before .before .before .before .before .before .pre .1 .1) (opened-by _ _ (c .before .before .before .before .opens .ensures) (c .before .before .before .if1 .left)) (c .before .before .if2 .taken))
+operand-returns-2 t c = operand-deep _ (c .before .before .before .before .before .pre .1 .1) (opened-by _ _ (c .before .before .opens .ensures) (c .before .if1 .left)) (c .if2 .taken)
 
--- src/lib.rt:282:58
+-- src/lib.rt:279:58
 operand-sub-bracket : (t : ℕ) → operand-lts.Need-sub-bracket (
   opens-reads.Asked,
   opens-reads.Learnt,
   atom-reads.Asked,
   atom-reads.Learnt,
-  refuse-reads.Asked,
-  refuse-reads.Learnt,
   bracket-below t,
   bracket.Post,
   look-reads.Asked,
@@ -791,14 +656,12 @@ operand-sub-bracket : (t : ℕ) → operand-lts.Need-sub-bracket (
 ) (operand-at t) operand.Post
 operand-sub-bracket t c = let z = c .before .before .before .if2 .left in omega arith
 
--- src/lib.rt:282:9
+-- src/lib.rt:279:9
 operand-bracket-requires : (t : ℕ) → operand-lts.Need-bracket-requires (
   opens-reads.Asked,
   opens-reads.Learnt,
   atom-reads.Asked,
   atom-reads.Learnt,
-  refuse-reads.Asked,
-  refuse-reads.Learnt,
   bracket-below t,
   bracket.Post,
   look-reads.Asked,
@@ -814,14 +677,12 @@ operand-bracket-requires : (t : ℕ) → operand-lts.Need-bracket-requires (
 ) (operand-at t) operand.Post
 operand-bracket-requires t c κs = let m = c .before .before .before .before .before .before .before .before .pre .0 in let z = c .before .before .before .if2 .left in (omega arith, (c .before .before .before .before .before .before .before .before .pre .1 .0, (c .before .before .before .before .before .before .before .before .pre .1 .1, c .before .before .if3 .taken)))
 
--- src/lib.rt:282:9
+-- src/lib.rt:279:9
 operand-returns-3 : (t : ℕ) → operand-lts.Need-returns-3 (
   opens-reads.Asked,
   opens-reads.Learnt,
   atom-reads.Asked,
   atom-reads.Learnt,
-  refuse-reads.Asked,
-  refuse-reads.Learnt,
   bracket-below t,
   bracket.Post,
   look-reads.Asked,
@@ -837,14 +698,12 @@ operand-returns-3 : (t : ℕ) → operand-lts.Need-returns-3 (
 ) (operand-at t) operand.Post
 operand-returns-3 t c = operand-bracket _ (c .before .before .before .before .before .before .before .before .before .pre .1 .1) (c .before .before .before .before .if2 .left) (c .before .before .before .if3 .taken) (c .bracket .ensures)
 
--- src/lib.rt:285:22
+-- src/lib.rt:282:22
 operand-element-copy-out-behind : (t : ℕ) → operand-lts.Need-element-copy-out-behind (
   opens-reads.Asked,
   opens-reads.Learnt,
   atom-reads.Asked,
   atom-reads.Learnt,
-  refuse-reads.Asked,
-  refuse-reads.Learnt,
   bracket-below t,
   bracket.Post,
   look-reads.Asked,
@@ -860,14 +719,12 @@ operand-element-copy-out-behind : (t : ℕ) → operand-lts.Need-element-copy-ou
 ) (operand-at t) operand.Post
 operand-element-copy-out-behind t c = search needs
 
--- src/lib.rt:286:9
+-- src/lib.rt:283:9
 operand-look-requires : (t : ℕ) → operand-lts.Need-look-requires (
   opens-reads.Asked,
   opens-reads.Learnt,
   atom-reads.Asked,
   atom-reads.Learnt,
-  refuse-reads.Asked,
-  refuse-reads.Learnt,
   bracket-below t,
   bracket.Post,
   look-reads.Asked,
@@ -883,14 +740,12 @@ operand-look-requires : (t : ℕ) → operand-lts.Need-look-requires (
 ) (operand-at t) operand.Post
 operand-look-requires t c κs = c .before .before .before .before .before .before .before .before .before .pre .1 .1 .size
 
--- src/lib.rt:287:63
+-- src/lib.rt:284:63
 operand-sub-operand : (t : ℕ) → operand-lts.Need-sub-operand (
   opens-reads.Asked,
   opens-reads.Learnt,
   atom-reads.Asked,
   atom-reads.Learnt,
-  refuse-reads.Asked,
-  refuse-reads.Learnt,
   bracket-below t,
   bracket.Post,
   look-reads.Asked,
@@ -906,14 +761,12 @@ operand-sub-operand : (t : ℕ) → operand-lts.Need-sub-operand (
 ) (operand-at t) operand.Post
 operand-sub-operand t c = let z = c .before .before .before .before .before .before .before .if2 .left in omega arith
 
--- src/lib.rt:287:13
+-- src/lib.rt:284:13
 operand-operand-requires : (t : ℕ) → operand-lts.Need-operand-requires (
   opens-reads.Asked,
   opens-reads.Learnt,
   atom-reads.Asked,
   atom-reads.Learnt,
-  refuse-reads.Asked,
-  refuse-reads.Learnt,
   bracket-below t,
   bracket.Post,
   look-reads.Asked,
@@ -929,14 +782,12 @@ operand-operand-requires : (t : ℕ) → operand-lts.Need-operand-requires (
 ) (operand-at t) operand.Post
 operand-operand-requires t c κs = let m = c .before .before .before .before .before .before .before .before .before .before .before .before .pre .0 in let z = c .before .before .before .before .before .before .before .if2 .left in (omega arith, (c .before .before .before .before .before .before .before .before .before .before .before .before .pre .1 .0, looks-ready (c .before .before .look .ensures)))
 
--- src/lib.rt:288:9
+-- src/lib.rt:285:9
 operand-finish-requires : (t : ℕ) → operand-lts.Need-finish-requires (
   opens-reads.Asked,
   opens-reads.Learnt,
   atom-reads.Asked,
   atom-reads.Learnt,
-  refuse-reads.Asked,
-  refuse-reads.Learnt,
   bracket-below t,
   bracket.Post,
   look-reads.Asked,
@@ -952,14 +803,12 @@ operand-finish-requires : (t : ℕ) → operand-lts.Need-finish-requires (
 ) (operand-at t) operand.Post
 operand-finish-requires t c κs = (c .before .before .operand .ensures .size, ((omega arith, omega arith), λ x. absurd (omega arith)))
 
--- src/lib.rt:288:9
+-- src/lib.rt:285:9
 operand-returns-4 : (t : ℕ) → operand-lts.Need-returns-4 (
   opens-reads.Asked,
   opens-reads.Learnt,
   atom-reads.Asked,
   atom-reads.Learnt,
-  refuse-reads.Asked,
-  refuse-reads.Learnt,
   bracket-below t,
   bracket.Post,
   look-reads.Asked,
@@ -975,14 +824,12 @@ operand-returns-4 : (t : ℕ) → operand-lts.Need-returns-4 (
 ) (operand-at t) operand.Post
 operand-returns-4 t c = operand-not _ (c .before .before .before .before .before .before .before .before .before .before .before .before .before .before .before .before .pre .1 .1) (c .before .before .before .before .before .before .before .before .before .before .before .if2 .left) (c .before .before .before .before .before .before .before .before .before .if4 .taken) (c .before .before .before .before .before .before .look .ensures) (c .before .before .before .operand .ensures) (c .finish .ensures)
 
--- src/lib.rt:290:8
+-- src/lib.rt:287:8
 operand-binds-place-requires : (t : ℕ) → operand-lts.Need-binds-place-requires (
   opens-reads.Asked,
   opens-reads.Learnt,
   atom-reads.Asked,
   atom-reads.Learnt,
-  refuse-reads.Asked,
-  refuse-reads.Learnt,
   bracket-below t,
   bracket.Post,
   look-reads.Asked,
@@ -998,14 +845,12 @@ operand-binds-place-requires : (t : ℕ) → operand-lts.Need-binds-place-requir
 ) (operand-at t) operand.Post
 operand-binds-place-requires t c κs = search needs
 
--- src/lib.rt:291:61
+-- src/lib.rt:288:61
 operand-sub-quantified : (t : ℕ) → operand-lts.Need-sub-quantified (
   opens-reads.Asked,
   opens-reads.Learnt,
   atom-reads.Asked,
   atom-reads.Learnt,
-  refuse-reads.Asked,
-  refuse-reads.Learnt,
   bracket-below t,
   bracket.Post,
   look-reads.Asked,
@@ -1021,14 +866,12 @@ operand-sub-quantified : (t : ℕ) → operand-lts.Need-sub-quantified (
 ) (operand-at t) operand.Post
 operand-sub-quantified t c = let z = c .before .before .before .before .before .before .if2 .left in omega arith
 
--- src/lib.rt:291:9
+-- src/lib.rt:288:9
 operand-quantified-requires : (t : ℕ) → operand-lts.Need-quantified-requires (
   opens-reads.Asked,
   opens-reads.Learnt,
   atom-reads.Asked,
   atom-reads.Learnt,
-  refuse-reads.Asked,
-  refuse-reads.Learnt,
   bracket-below t,
   bracket.Post,
   look-reads.Asked,
@@ -1044,14 +887,12 @@ operand-quantified-requires : (t : ℕ) → operand-lts.Need-quantified-requires
 ) (operand-at t) operand.Post
 operand-quantified-requires t c κs = let m = c .before .before .before .before .before .before .before .before .before .before .before .pre .0 in let z = c .before .before .before .before .before .before .if2 .left in (omega arith, (c .before .before .before .before .before .before .before .before .before .before .before .pre .1 .0, (c .before .before .before .before .before .before .before .before .before .before .before .pre .1 .1, (opens-quantifier _ (opened-by _ _ (c .before .before .before .before .before .before .before .before .opens .ensures) (c .before .before .before .before .before .before .before .if1 .left)) (c .before .before .before .before .before .if3 .left) (c .before .before .before .before .if4 .left), order-place (kindAt (c .before .before .before .before .before .before .before .before .before .before .before .args .here .now)) _ (c .before .before .before .binds-place .ensures) (c .before .before .if5 .taken)))))
 
--- src/lib.rt:291:9
+-- src/lib.rt:288:9
 operand-returns-5 : (t : ℕ) → operand-lts.Need-returns-5 (
   opens-reads.Asked,
   opens-reads.Learnt,
   atom-reads.Asked,
   atom-reads.Learnt,
-  refuse-reads.Asked,
-  refuse-reads.Learnt,
   bracket-below t,
   bracket.Post,
   look-reads.Asked,
@@ -1067,14 +908,12 @@ operand-returns-5 : (t : ℕ) → operand-lts.Need-returns-5 (
 ) (operand-at t) operand.Post
 operand-returns-5 t c = let q = opens-quantifier _ (opened-by _ _ (c .before .before .before .before .before .before .before .before .before .opens .ensures) (c .before .before .before .before .before .before .before .before .if1 .left)) (c .before .before .before .before .before .before .if3 .left) (c .before .before .before .before .before .if4 .left) in operand-quantifier _ (c .before .before .before .before .before .before .before .before .before .before .before .before .pre .1 .1) (c .before .before .before .before .before .before .before .if2 .left) (q .0) (q .1) (c .quantified .ensures)
 
--- src/lib.rt:293:50
+-- src/lib.rt:290:50
 operand-sub-quantified-2 : (t : ℕ) → operand-lts.Need-sub-quantified-2 (
   opens-reads.Asked,
   opens-reads.Learnt,
   atom-reads.Asked,
   atom-reads.Learnt,
-  refuse-reads.Asked,
-  refuse-reads.Learnt,
   bracket-below t,
   bracket.Post,
   look-reads.Asked,
@@ -1090,14 +929,12 @@ operand-sub-quantified-2 : (t : ℕ) → operand-lts.Need-sub-quantified-2 (
 ) (operand-at t) operand.Post
 operand-sub-quantified-2 t c = let z = c .before .before .before .before .before .before .if2 .left in omega arith
 
--- src/lib.rt:293:5
+-- src/lib.rt:290:5
 operand-quantified-requires-2 : (t : ℕ) → operand-lts.Need-quantified-requires-2 (
   opens-reads.Asked,
   opens-reads.Learnt,
   atom-reads.Asked,
   atom-reads.Learnt,
-  refuse-reads.Asked,
-  refuse-reads.Learnt,
   bracket-below t,
   bracket.Post,
   look-reads.Asked,
@@ -1113,14 +950,12 @@ operand-quantified-requires-2 : (t : ℕ) → operand-lts.Need-quantified-requir
 ) (operand-at t) operand.Post
 operand-quantified-requires-2 t c κs = let m = c .before .before .before .before .before .before .before .before .before .before .before .pre .0 in let z = c .before .before .before .before .before .before .if2 .left in (omega arith, (c .before .before .before .before .before .before .before .before .before .before .before .pre .1 .0, (c .before .before .before .before .before .before .before .before .before .before .before .pre .1 .1, (opens-quantifier _ (opened-by _ _ (c .before .before .before .before .before .before .before .before .opens .ensures) (c .before .before .before .before .before .before .before .if1 .left)) (c .before .before .before .before .before .if3 .left) (c .before .before .before .before .if4 .left), order-set (kindAt (c .before .before .before .before .before .before .before .before .before .before .before .args .here .now)) _ (c .before .before .before .binds-place .ensures) (c .before .before .if5 .left)))))
 
--- src/lib.rt:261:1
+-- src/lib.rt:258:1
 operand-returns-6 : (t : ℕ) → operand-lts.Need-returns-6 (
   opens-reads.Asked,
   opens-reads.Learnt,
   atom-reads.Asked,
   atom-reads.Learnt,
-  refuse-reads.Asked,
-  refuse-reads.Learnt,
   bracket-below t,
   bracket.Post,
   look-reads.Asked,
@@ -1136,7 +971,7 @@ operand-returns-6 : (t : ℕ) → operand-lts.Need-returns-6 (
 ) (operand-at t) operand.Post
 operand-returns-6 t c = let q = opens-quantifier _ (opened-by _ _ (c .before .before .before .before .before .before .before .before .before .opens .ensures) (c .before .before .before .before .before .before .before .before .if1 .left)) (c .before .before .before .before .before .before .if3 .left) (c .before .before .before .before .before .if4 .left) in operand-quantifier _ (c .before .before .before .before .before .before .before .before .before .before .before .before .pre .1 .1) (c .before .before .before .before .before .before .before .if2 .left) (q .0) (q .1) (c .quantified2 .ensures)
 
--- src/lib.rt:335:16
+-- src/lib.rt:332:16
 quantified-element-copy-out-kind : (t : ℕ) → quantified-lts.Need-element-copy-out-kind (
   read-binder-reads.Asked,
   read-binder-reads.Learnt,
@@ -1153,7 +988,7 @@ quantified-element-copy-out-kind : (t : ℕ) → quantified-lts.Need-element-cop
 ) (quantified-at t) quantified.Post
 quantified-element-copy-out-kind t c = search needs
 
--- src/lib.rt:336:46
+-- src/lib.rt:333:46
 quantified-element-copy-out-read-binder :
     (t : ℕ) → quantified-lts.Need-element-copy-out-read-binder (
       read-binder-reads.Asked,
@@ -1171,7 +1006,7 @@ quantified-element-copy-out-read-binder :
     ) (quantified-at t) quantified.Post
 quantified-element-copy-out-read-binder t c = search needs
 
--- src/lib.rt:336:11
+-- src/lib.rt:333:11
 quantified-read-binder-requires : (t : ℕ) → quantified-lts.Need-read-binder-requires (
   read-binder-reads.Asked,
   read-binder-reads.Learnt,
@@ -1188,7 +1023,7 @@ quantified-read-binder-requires : (t : ℕ) → quantified-lts.Need-read-binder-
 ) (quantified-at t) quantified.Post
 quantified-read-binder-requires t c κs = search needs
 
--- src/lib.rt:337:34
+-- src/lib.rt:334:34
 quantified-enum-known-start : (t : ℕ) → quantified-lts.Need-enum-known-start (
   read-binder-reads.Asked,
   read-binder-reads.Learnt,
@@ -1205,7 +1040,7 @@ quantified-enum-known-start : (t : ℕ) → quantified-lts.Need-enum-known-start
 ) (quantified-at t) quantified.Post
 quantified-enum-known-start t c = search needs
 
--- src/lib.rt:338:25
+-- src/lib.rt:335:25
 quantified-bound-requires : (t : ℕ) → quantified-lts.Need-bound-requires (
   read-binder-reads.Asked,
   read-binder-reads.Learnt,
@@ -1222,7 +1057,7 @@ quantified-bound-requires : (t : ℕ) → quantified-lts.Need-bound-requires (
 ) (quantified-at t) quantified.Post
 quantified-bound-requires t c κs = (binder-there (c .before .before .before .read-binder .ensures) (c .before .start .given .1)) .few
 
--- src/lib.rt:339:36
+-- src/lib.rt:336:36
 quantified-element-copy-out-greater : (t : ℕ) → quantified-lts.Need-element-copy-out-greater (
   read-binder-reads.Asked,
   read-binder-reads.Learnt,
@@ -1239,7 +1074,7 @@ quantified-element-copy-out-greater : (t : ℕ) → quantified-lts.Need-element-
 ) (quantified-at t) quantified.Post
 quantified-element-copy-out-greater t c = search needs
 
--- src/lib.rt:339:50
+-- src/lib.rt:336:50
 quantified-add-greater : (t : ℕ) → quantified-lts.Need-add-greater (
   read-binder-reads.Asked,
   read-binder-reads.Learnt,
@@ -1256,7 +1091,7 @@ quantified-add-greater : (t : ℕ) → quantified-lts.Need-add-greater (
 ) (quantified-at t) quantified.Post
 quantified-add-greater t c = let l = (binder-there (c .before .before .before .before .before .read-binder .ensures) (c .before .before .before .start .given .1)) .few in omega arith
 
--- src/lib.rt:339:28
+-- src/lib.rt:336:28
 quantified-greater-requires : (t : ℕ) → quantified-lts.Need-greater-requires (
   read-binder-reads.Asked,
   read-binder-reads.Learnt,
@@ -1273,7 +1108,7 @@ quantified-greater-requires : (t : ℕ) → quantified-lts.Need-greater-requires
 ) (quantified-at t) quantified.Post
 quantified-greater-requires t c κs = search needs
 
--- src/lib.rt:339:13
+-- src/lib.rt:336:13
 quantified-element-write-here : (t : ℕ) → quantified-lts.Need-element-write-here (
   read-binder-reads.Asked,
   read-binder-reads.Learnt,
@@ -1290,7 +1125,7 @@ quantified-element-write-here : (t : ℕ) → quantified-lts.Need-element-write-
 ) (quantified-at t) quantified.Post
 quantified-element-write-here t c = search needs
 
--- src/lib.rt:340:13
+-- src/lib.rt:337:13
 quantified-look-requires : (t : ℕ) → quantified-lts.Need-look-requires (
   read-binder-reads.Asked,
   read-binder-reads.Learnt,
@@ -1305,9 +1140,9 @@ quantified-look-requires : (t : ℕ) → quantified-lts.Need-look-requires (
   finish-reads.Asked,
   finish-reads.Learnt,
 ) (quantified-at t) quantified.Post
-quantified-look-requires t c κs = size-after (c .before .before .before .before .before .before .before .before .before .before .before .args .here .now) 4 (c .before .greater .result) (c .before .before .before .before .before .before .before .before .before .before .before .pre .1 .1 .0 .size)
+quantified-look-requires t c κs = size-after (c .before .before .before .before .before .before .before .before .before .before .before .args .here .now) 3 (c .before .greater .result) (c .before .before .before .before .before .before .before .before .before .before .before .pre .1 .1 .0 .size)
 
--- src/lib.rt:341:46
+-- src/lib.rt:338:46
 quantified-add-formula : (t : ℕ) → quantified-lts.Need-add-formula (
   read-binder-reads.Asked,
   read-binder-reads.Learnt,
@@ -1324,7 +1159,7 @@ quantified-add-formula : (t : ℕ) → quantified-lts.Need-add-formula (
 ) (quantified-at t) quantified.Post
 quantified-add-formula t c = let l = (binder-there (c .before .before .before .before .before .before .before .before .before .read-binder .ensures) (c .before .before .before .before .before .before .before .start .given .1)) .few in omega arith
 
--- src/lib.rt:341:17
+-- src/lib.rt:338:17
 quantified-formula-requires : (t : ℕ) → quantified-lts.Need-formula-requires (
   read-binder-reads.Asked,
   read-binder-reads.Learnt,
@@ -1341,7 +1176,7 @@ quantified-formula-requires : (t : ℕ) → quantified-lts.Need-formula-requires
 ) (quantified-at t) quantified.Post
 quantified-formula-requires t c κs = let m = c .before .before .before .before .before .before .before .before .before .before .before .before .before .before .before .pre .0 in (omega arith, (bound-fits (c .before .before .before .before .before .before .before .bound .ensures) (c .before .before .before .before .before .before .before .before .before .before .before .before .before .before .before .pre .1 .0) ((binder-there (c .before .before .before .before .before .before .before .before .before .before .before .read-binder .ensures) (c .before .before .before .before .before .before .before .before .before .start .given .1)) .span), (looks-ready (c .before .before .before .look .ensures), joins-alike)))
 
--- src/lib.rt:342:13
+-- src/lib.rt:339:13
 quantified-finish-requires : (t : ℕ) → quantified-lts.Need-finish-requires (
   read-binder-reads.Asked,
   read-binder-reads.Learnt,
@@ -1358,7 +1193,7 @@ quantified-finish-requires : (t : ℕ) → quantified-lts.Need-finish-requires (
 ) (quantified-at t) quantified.Post
 quantified-finish-requires t c κs = let p = c .before .before .before .before .before .before .before .before .before .before .before .before .before .before .before .before .before .before .pre .1 .1 .1 .0 in let l = p .0 in let g = p .1 in let f = (binder-there (c .before .before .before .before .before .before .before .before .before .before .before .before .before .before .read-binder .ensures) (c .before .before .before .before .before .before .before .before .before .before .before .before .start .given .1)) .few in (c .before .before .formula .ensures .size, ((l, omega arith), λ x. (g, omega arith)))
 
--- src/lib.rt:345:13
+-- src/lib.rt:342:13
 quantified-enum-known-number : (t : ℕ) → quantified-lts.Need-enum-known-number (
   read-binder-reads.Asked,
   read-binder-reads.Learnt,
@@ -1375,7 +1210,41 @@ quantified-enum-known-number : (t : ℕ) → quantified-lts.Need-enum-known-numb
 ) (quantified-at t) quantified.Post
 quantified-enum-known-number t c = search needs
 
--- src/lib.rt:319:1
+-- src/lib.rt:346:13
+quantified-element-write-here-2 : (t : ℕ) → quantified-lts.Need-element-write-here-2 (
+  read-binder-reads.Asked,
+  read-binder-reads.Learnt,
+  bound-reads.Asked,
+  bound-reads.Learnt,
+  greater-reads.Asked,
+  greater-reads.Learnt,
+  look-reads.Asked,
+  look-reads.Learnt,
+  formula-below t,
+  formula.Post,
+  finish-reads.Asked,
+  finish-reads.Learnt,
+) (quantified-at t) quantified.Post
+quantified-element-write-here-2 t c = search needs
+
+-- src/lib.rt:347:13
+quantified-element-write-here-3 : (t : ℕ) → quantified-lts.Need-element-write-here-3 (
+  read-binder-reads.Asked,
+  read-binder-reads.Learnt,
+  bound-reads.Asked,
+  bound-reads.Learnt,
+  greater-reads.Asked,
+  greater-reads.Learnt,
+  look-reads.Asked,
+  look-reads.Learnt,
+  formula-below t,
+  formula.Post,
+  finish-reads.Asked,
+  finish-reads.Learnt,
+) (quantified-at t) quantified.Post
+quantified-element-write-here-3 t c = search needs
+
+-- src/lib.rt:316:1
 quantified-returns : (t : ℕ) → quantified-lts.Need-returns (
   read-binder-reads.Asked,
   read-binder-reads.Learnt,
@@ -1392,7 +1261,7 @@ quantified-returns : (t : ℕ) → quantified-lts.Need-returns (
 ) (quantified-at t) quantified.Post
 quantified-returns t c = quantified-reads _ (c .before .before .before .before .before .before .before .before .before .before .before .before .before .before .before .before .before .before .before .pre .1 .1 .0) (c .before .before .before .before .before .before .before .before .before .before .before .before .before .before .before .before .before .before .before .pre .1 .1 .1 .0 .0) (c .before .before .before .before .before .before .before .before .before .before .before .before .before .before .before .before .before .before .before .pre .1 .1 .1 .0 .1) _ _ (binder-there (c .before .before .before .before .before .before .before .before .before .before .before .before .before .before .before .read-binder .ensures) (c .before .before .before .before .before .before .before .before .before .before .before .before .before .start .given .1)) (c .before .before .before .before .before .before .before .before .before .before .before .bound .ensures) (c .before .before .before .before .before .before .before .before .before .before .before .before .before .before .before .before .before .before .before .pre .1 .1 .1 .1) (tracked-as (c .before .before .before .before .before .before .before .before .before .before .before .before .before .before .before .before .before .before .before .pre .1 .1 .0 .size) (c .before .before .before .before .before .before .before .before .before .greater .ensures)) (c .before .before .before .before .before .before .before .look .ensures) (c .before .before .before .formula .ensures) (c .finish .ensures)
 
--- src/lib.rt:319:1
+-- src/lib.rt:316:1
 quantified-returns-2 : (t : ℕ) → quantified-lts.Need-returns-2 (
   read-binder-reads.Asked,
   read-binder-reads.Learnt,
@@ -1409,7 +1278,7 @@ quantified-returns-2 : (t : ℕ) → quantified-lts.Need-returns-2 (
 ) (quantified-at t) quantified.Post
 quantified-returns-2 t c = quantified-unbound _ (c .before .before .before .before .before .before .before .pre .1 .1 .0) (c .before .before .before .before .before .before .before .pre .1 .1 .1 .0 .0) (c .before .before .before .before .before .before .before .pre .1 .1 .1 .0 .1) _ _ (c .before .before .before .read-binder .ensures) (c .before .number .given .1)
 
--- src/lib.rt:220:9
+-- src/lib.rt:217:9
 tighter-implication-requires : (t : ℕ) → tighter-lts.Need-implication-requires (
   implication-below t,
   implication.Post,
@@ -1420,7 +1289,7 @@ tighter-implication-requires : (t : ℕ) → tighter-lts.Need-implication-requir
 ) (tighter-at t) tighter.Post
 tighter-implication-requires t c κs = let m = c .before .before .before .before .pre .0 in let e = c .before .before .if1 .taken in (omega arith, (c .before .before .before .before .pre .1 .0, c .before .before .before .before .pre .1 .1 .0))
 
--- src/lib.rt:220:9
+-- src/lib.rt:217:9
 tighter-returns : (t : ℕ) → tighter-lts.Need-returns (
   implication-below t,
   implication.Post,
@@ -1431,7 +1300,7 @@ tighter-returns : (t : ℕ) → tighter-lts.Need-returns (
 ) (tighter-at t) tighter.Post
 tighter-returns t c = level-as _ _ _ (let e = c .before .before .before .if1 .taken in omega arith) (c .implication .ensures)
 
--- src/lib.rt:223:9
+-- src/lib.rt:220:9
 tighter-formula-requires : (t : ℕ) → tighter-lts.Need-formula-requires (
   implication-below t,
   implication.Post,
@@ -1442,7 +1311,7 @@ tighter-formula-requires : (t : ℕ) → tighter-lts.Need-formula-requires (
 ) (tighter-at t) tighter.Post
 tighter-formula-requires t c κs = let m = c .before .before .before .before .before .pre .0 in let e = c .before .before .if2 .taken in (omega arith, (c .before .before .before .before .before .pre .1 .0, (c .before .before .before .before .before .pre .1 .1 .0, joins-both)))
 
--- src/lib.rt:223:9
+-- src/lib.rt:220:9
 tighter-returns-2 : (t : ℕ) → tighter-lts.Need-returns-2 (
   implication-below t,
   implication.Post,
@@ -1453,7 +1322,7 @@ tighter-returns-2 : (t : ℕ) → tighter-lts.Need-returns-2 (
 ) (tighter-at t) tighter.Post
 tighter-returns-2 t c = level-as _ _ _ (let e = c .before .before .before .if2 .taken in omega arith) (c .formula .ensures)
 
--- src/lib.rt:225:5
+-- src/lib.rt:222:5
 tighter-operand-requires : (t : ℕ) → tighter-lts.Need-operand-requires (
   implication-below t,
   implication.Post,
@@ -1464,7 +1333,7 @@ tighter-operand-requires : (t : ℕ) → tighter-lts.Need-operand-requires (
 ) (tighter-at t) tighter.Post
 tighter-operand-requires t c κs = let m = c .before .before .before .before .before .pre .0 in let e = joining-last (c .before .before .before .before .before .pre .1 .1 .1) (c .before .before .before .if1 .left) (c .before .before .if2 .left) in (omega arith, (c .before .before .before .before .before .pre .1 .0, c .before .before .before .before .before .pre .1 .1 .0))
 
--- src/lib.rt:204:1
+-- src/lib.rt:201:1
 tighter-returns-3 : (t : ℕ) → tighter-lts.Need-returns-3 (
   implication-below t,
   implication.Post,
@@ -1513,11 +1382,9 @@ pub +bracket+formula+implication+operand+quantified+tighter-spec : {M : Type 1} 
     formula-μ-loop
     (formula-tighter-requires t)
     (formula-loop-holds t)
-    (formula-enum-told t)
-    (formula-enum-told-2 t)
     (formula-returns t)
-    (formula-element-copy-out-if1 t)
-    (formula-sub-if1 t)
+    (formula-element-copy-out-if2 t)
+    (formula-sub-if2 t)
     (formula-returns-2 t)
     (formula-element-copy-out-left t)
     (formula-element-copy-out-behind t)
@@ -1530,8 +1397,6 @@ pub +bracket+formula+implication+operand+quantified+tighter-spec : {M : Type 1} 
     (λ t. implication-lts.spec (
       formula-below t,
       formula.Post,
-      refuse-reads.Asked,
-      refuse-reads.Learnt,
       put-not-reads.Asked,
       put-not-reads.Learnt,
       look-reads.Asked,
@@ -1544,12 +1409,9 @@ pub +bracket+formula+implication+operand+quantified+tighter-spec : {M : Type 1} 
     (implication-at t)
     implication.Post
     (implication-formula-requires t)
-    (implication-enum-told t)
-    (implication-enum-told-2 t)
     (implication-returns t)
-    (implication-element-copy-out-if1 t)
+    (implication-element-copy-out-if2 t)
     (implication-returns-2 t)
-    (implication-refuse-requires t)
     (implication-returns-3 t)
     (implication-element-copy-out-put-not t)
     (implication-put-not-requires t)
@@ -1565,8 +1427,6 @@ pub +bracket+formula+implication+operand+quantified+tighter-spec : {M : Type 1} 
       opens-reads.Learnt,
       atom-reads.Asked,
       atom-reads.Learnt,
-      refuse-reads.Asked,
-      refuse-reads.Learnt,
       bracket-below t,
       bracket.Post,
       look-reads.Asked,
@@ -1586,7 +1446,6 @@ pub +bracket+formula+implication+operand+quantified+tighter-spec : {M : Type 1} 
     (operand-opens-requires t)
     (operand-atom-requires t)
     (operand-returns t)
-    (operand-refuse-requires t)
     (operand-returns-2 t)
     (operand-sub-bracket t)
     (operand-bracket-requires t)
@@ -1634,6 +1493,8 @@ pub +bracket+formula+implication+operand+quantified+tighter-spec : {M : Type 1} 
     (quantified-formula-requires t)
     (quantified-finish-requires t)
     (quantified-enum-known-number t)
+    (quantified-element-write-here-2 t)
+    (quantified-element-write-here-3 t)
     (quantified-returns t)
     (quantified-returns-2 t))
     λ t. tighter-lts.spec (
