@@ -1,6 +1,7 @@
 -- The names in use: two are held against each other, one is looked for from the latest down, and one more is bound. Assumes nothing.
 use Prim.Native.Nat.{ℕ, zero, suc, _+_, _-_, _*_, _<_, _≤_}
 use mathlib.Core.Path.{_≡_, refl, sym, _∙_, ap, ap₂}
+use mathlib.Core.Logic.{_⊎_, inl, inr}
 use mathlib.Core.Bool.{Bool, true, false, cond, _&&_}
 use mathlib.Core.List.{List, [], _∷_}
 use native.Mathlib.Omega.{arith}
@@ -69,6 +70,42 @@ module _ (s : List ℕ) (a e b f : ℕ) where
   pub same-none : a ≡ e → b ≡ f → true ≡ sameBytes (part s a e) (part s b f)
   unfolding sameBytes
   same-none i j = rw (i, j, part-empty s e, part-empty s f) refl
+
+-- whether the first k bytes of both are the same, differ being 0 or not, tells what is left to hold against each other
+pub record Held (s : List ℕ) (a e b f k differ : ℕ) : Type 0 where
+  pub same-yet : differ ≡ 0 → sameBytes (part s a e) (part s b f) ≡ sameBytes (part s (a + k) e) (part s (b + k) f)
+  pub not-same : (differ ≡ 0 → ⊥) → sameBytes (part s a e) (part s b f) ≡ false
+
+pub held-none : (s : List ℕ) (a e b f : ℕ) → Held s a e b f 0 0
+held-none s a e b f = record {
+  same-yet = λ z. let x : a + 0 ≡ a = omega arith in let y : b + 0 ≡ b = omega arith in rw (x, y) refl;
+  not-same = λ z. absurd (z refl);
+}
+
+module _ {s : List ℕ} {a e b f k d : ℕ} (H : Held s a e b f k d) (h : a + k < e) (l : e ≤ length s) (i : b + k < f) (m : f ≤ length s) where
+  pub held-differs : (getD s (a + k) 0 ≡ getD s (b + k) 0 → ⊥) → Held s a e b f (k + 1) 1
+  held-differs t = record { same-yet = λ z. absurd (omega arith); not-same = λ z. whole (decide d) }
+    where
+      decide : (n : ℕ) → (n ≡ 0) ⊎ (n ≡ 0 → ⊥)
+      decide zero = inl refl
+      decide (suc n) = inr (λ z. omega arith)
+
+      whole : (d ≡ 0) ⊎ (d ≡ 0 → ⊥) → sameBytes (part s a e) (part s b f) ≡ false
+      whole (inl z) = H .same-yet z ∙ sym (same-not s (a + k) e (b + k) f h l i m t)
+      whole (inr z) = H .not-same z
+
+  pub held-goes : getD s (a + k) 0 ≡ getD s (b + k) 0 → Held s a e b f (k + 1) d
+  held-goes t = record {
+    same-yet = λ z. H .same-yet z ∙ same-next s (a + k) e (b + k) f h l i m (omega arith) (omega arith) t;
+    not-same = H .not-same;
+  }
+
+pub held-all : {s : List ℕ} {a e b f k d : ℕ} → Held s a e b f k d → a + k ≡ e → b + k ≡ f → eqb d 0 ≡ sameBytes (part s a e) (part s b f)
+held-all {s} {a} {e} {b} {f} {k} {d} H x y = go d refl
+  where
+    go : (n : ℕ) → d ≡ n → eqb n 0 ≡ sameBytes (part s a e) (part s b f)
+    go zero z = same-none s (a + k) e (b + k) f x y ∙ sym (H .same-yet z)
+    go (suc n) z = ne-eqb (suc n) 0 (λ w. omega arith) ∙ sym (H .not-same (λ w. let v : suc n ≡ 0 = sym z ∙ w in omega arith))
 
 -- ---- a name x is looked for: none of the n in use has it, but for the first i
 pub record Passed (s ns : List ℕ) (n : ℕ) (x : Name) (i : ℕ) : Type 0 where

@@ -7,7 +7,7 @@ ghost use Rattle.text.specs.Token.{sameBytes};
 ghost use Rattle.tokens.specs.Tokens.{part, Span};
 ghost use Rattle.tokens.specs.InUse.{NamesFit, Found, Bound};
 
-// Whether two spans of the text have the same bytes.
+// Whether two spans of the text have the same bytes. All of them are looked at, so that the loop takes many at a time.
 fn same(text: &[u8], a_start: usize, a_stop: usize, b_start: usize, b_stop: usize) -> bool
     requires { ⌜ Span (now text) «a_start» «a_stop» ⌝ }
     requires { ⌜ Span (now text) «b_start» «b_stop» ⌝ }
@@ -17,14 +17,15 @@ fn same(text: &[u8], a_start: usize, a_stop: usize, b_start: usize, b_stop: usiz
     if size != b_stop - b_start {
         return false;
     }
+    let mut differ: u8 = 0;
     let mut k = 0;
     while k < size {
         if text[a_start + k] != text[b_start + k] {
-            return false;
+            differ = 1;
         }
         k += 1;
     }
-    true
+    differ == 0
 }
 
 // The latest name with the bytes of a span, or 8 where none has them.
