@@ -35,7 +35,7 @@ use Rattle.drafting.specs.Joined.{putJoined, putQuantified}
 use Rattle.drafting.specs.declared.Atom.{Atom as AtomCode}
 use Rattle.drafting.proofs.Sentences.{write-longer}
 use Rattle.formulas.specs.Reading.{deeperAt, levelAt, opensBy, bracketAt, orderBy, quantifierBy, quantifiedAt, Joining}
-use Rattle.formulas.specs.Reading.{kindAt, startAt, stopAt, tokenOf, countAt, tracksAt, Ready, Looks, refusedHere, Told, told-got, told-refused, Reads}
+use Rattle.formulas.specs.Reading.{kindAt, startAt, stopAt, tokenOf, countAt, tracksAt, Ready, Looks, refusedHere, Told, told-got, told-refused, Reads, Left}
 use Rattle.formulas.specs.Reading.{Owns, Counted, Finishes, finishes, passes, Closes, closes, lacks-closing, closes-refused}
 use Rattle.formulas.specs.Reading.{Reading, Got, Refused, readingOf}
 use Rattle.formulas.proofs.Strengths.{wordOf, joinOf, joining-most, tighter-within, ahead, level-starts, spells-operator, write-join, tracks-join, then-then}
@@ -658,3 +658,15 @@ tracked-as {h} {n} l e = subst (λ (k : ℕ). Tracked h k (set h 3 n)) e (tracke
 
 pub size-after : (h : List ℕ) (i c : ℕ) → length h ≡ 5 → length (set h i c) ≡ 5
 size-after h i c l = length-set h i c ∙ l
+
+-- what is known of the array after a first part
+pub left-of : {read : Reader} {s : List ℕ} {sc : Scope} {ws h ws′ h′ : List ℕ} (r : ℕ) → Reads read s sc ws h ws′ h′ (readingOf r h′) → Left s h′ r
+left-of {h′ = h′} r X = record { size = X .size; ready = λ z. X .ready (got-zero h′ z) }
+
+-- where the operands of an operator begin
+pub joined-left : {s : List ℕ} {sc : Scope} {d k : ℕ} {ws h : List ℕ} {r : ℕ} → Joining k → Left s h r → Joined s sc d k ws h (readingOf r h) ws h (readingOf r h)
+joined-left {h = h} {r = r} j L = joined-first j (L .size) (λ q. L .ready (zero-got r q))
+  where
+    zero-got : (n : ℕ) → readingOf n h ≡ Got → n ≡ 0
+    zero-got zero e = refl
+    zero-got (suc n) e = absurd (got-refused (sym e))

@@ -121,6 +121,15 @@ pub record Reads (read : Reader) (s : List ℕ) (sc : Scope) (ws h ws′ h′ : 
   pub ready : r ≡ Got → Ready s h′
   pub onward : r ≡ Got → startAt h ≤ startAt h′
 
+-- the first part of something was read, or refused: as much is known of the array
+pub record Left (s h : List ℕ) (first : ℕ) : Type 0 where
+  pub size : length h ≡ 5
+  pub ready : first ≡ 0 → Ready s h
+
+-- whatever the reader of a first part left, the reader of the whole answers so
+abbrev pub Leads : Reader → Reader → List ℕ → Scope → List ℕ → List ℕ → Reading → List ℕ → List ℕ → Reading → Type 0
+Leads part whole s sc ws h q ws′ h′ r = (vs i : List ℕ) → Reads part s sc vs i ws h q → Reads whole s sc vs i ws′ h′ r
+
 -- the records that a construct of that kind puts behind those of its last part, beside: the count after its left side, or the track it binds
 pub record Owns (ws : List ℕ) (kind beside c : ℕ) (ws′ : List ℕ) (c′ : ℕ) : Type 0 where
   pub denies : kind ≡ 15 → (rs : List Record) → Drafted ws c rs → Drafted ws′ c′ (putNot rs)

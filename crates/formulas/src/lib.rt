@@ -9,7 +9,7 @@ ghost use lib.ListN.{length};
 ghost use Rattle.text.specs.Grammar.{atomOf};
 ghost use Rattle.tokens.specs.InUse.{orderOf, scopeOf, NamesFit};
 ghost use Rattle.formulas.specs.Reading.{levelAt, opensBy, bracketAt, placeBy, orderBy, quantifiedAt, Joining};
-ghost use Rattle.formulas.specs.Reading.{kindAt, Ready, Looks, readingOf, Reads, Owns, Finishes, Closes};
+ghost use Rattle.formulas.specs.Reading.{kindAt, Ready, Looks, readingOf, Reads, Left, Leads, Owns, Finishes, Closes};
 use tokens::Token;
 
 // The places of that array. Those of a token are apart: side by side they would be moved in pairs, which a processor does slower than one by one.
@@ -169,7 +169,8 @@ fn atom(
     }
 }
 
-// The operands that an operator joins: strength 0 is `<=>`, 2 `|`, 3 `&`.
+// A formula in which no operator weaker than that of a strength joins: 0 is `<=>`, 1 `=>`, 2 `|`, 3 `&`. Its first operand is read once, and then
+// each operator may go on from there, the strongest first.
 pub fn formula(
     text: &[u8],
     names: &[usize; 24],
@@ -181,11 +182,45 @@ pub fn formula(
 ) -> u64
     requires { ⌜ NamesFit (now text) (now names) «in_use» ⌝ }
     requires { ⌜ Ready (now text) (now here) ⌝ }
-    requires { ⌜ Joining strength ⌝ }
+    requires { ⌜ strength ≤ 3 ⌝ }
     ensures { λ r. ⌜ Reads (levelAt depth strength) (now (text .entry)) (scopeOf (now (text .entry)) (now (names .entry)) «in_use») (now (words .entry))
         (now (here .entry)) (now (words .exit)) (now (here .exit)) (readingOf r (now (here .exit))) ⌝ }
 {
-    let mut reading = tighter(text, names, in_use, words, here, depth, strength);
+    let first = operand(text, names, in_use, words, here, depth);
+    let both = more(text, names, in_use, words, here, depth, 3, first);
+    if strength == 3 {
+        return both;
+    }
+    let either = more(text, names, in_use, words, here, depth, 2, both);
+    if strength == 2 {
+        return either;
+    }
+    let implied = arrow(text, names, in_use, words, here, depth, either);
+    if strength == 1 {
+        return implied;
+    }
+    more(text, names, in_use, words, here, depth, 0, implied)
+}
+
+// The operands that the operator of that strength, `<=>`, `|` or `&`, joins to the first: "`=>` groups to the right, the others to the left".
+fn more(
+    text: &[u8],
+    names: &[usize; 24],
+    in_use: usize,
+    words: &mut [u64; 128],
+    here: &mut [usize; 5],
+    depth: usize,
+    strength: usize,
+    first: u64,
+) -> u64
+    requires { ⌜ NamesFit (now text) (now names) «in_use» ⌝ }
+    requires { ⌜ Left (now text) (now here) first ⌝ }
+    requires { ⌜ Joining strength ⌝ }
+    ensures { λ r. ⌜ Leads (levelAt depth (suc strength)) (levelAt depth strength) (now (text .entry))
+        (scopeOf (now (text .entry)) (now (names .entry)) «in_use») (now (words .entry)) (now (here .entry)) (readingOf first (now (here .entry)))
+        (now (words .exit)) (now (here .exit)) (readingOf r (now (here .exit))) ⌝ }
+{
+    let mut reading = first;
     loop {
         if reading != 0 {
             return reading;
@@ -213,36 +248,34 @@ fn tighter(
 ) -> u64
     requires { ⌜ NamesFit (now text) (now names) «in_use» ⌝ }
     requires { ⌜ Ready (now text) (now here) ⌝ }
-    requires { ⌜ Joining strength ⌝ }
+    requires { ⌜ strength ≤ 3 ⌝ }
     ensures { λ r. ⌜ Reads (levelAt depth (suc strength)) (now (text .entry)) (scopeOf (now (text .entry)) (now (names .entry)) «in_use»)
         (now (words .entry)) (now (here .entry)) (now (words .exit)) (now (here .exit)) (readingOf r (now (here .exit))) ⌝ }
 {
-    if strength == 0 {
-        return implication(text, names, in_use, words, here, depth);
+    if strength == 3 {
+        return operand(text, names, in_use, words, here, depth);
     }
-    if strength == 2 {
-        return formula(text, names, in_use, words, here, depth, 3);
-    }
-    operand(text, names, in_use, words, here, depth)
+    formula(text, names, in_use, words, here, depth, strength + 1)
 }
 
 // "`=>` groups to the right", and its right side is a level of its own.
-fn implication(
+fn arrow(
     text: &[u8],
     names: &[usize; 24],
     in_use: usize,
     words: &mut [u64; 128],
     here: &mut [usize; 5],
     depth: usize,
+    left: u64,
 ) -> u64
     requires { ⌜ NamesFit (now text) (now names) «in_use» ⌝ }
-    requires { ⌜ Ready (now text) (now here) ⌝ }
-    ensures { λ r. ⌜ Reads (levelAt depth 1) (now (text .entry)) (scopeOf (now (text .entry)) (now (names .entry)) «in_use») (now (words .entry))
-        (now (here .entry)) (now (words .exit)) (now (here .exit)) (readingOf r (now (here .exit))) ⌝ }
+    requires { ⌜ Left (now text) (now here) left ⌝ }
+    ensures { λ r. ⌜ Leads (levelAt depth 2) (levelAt depth 1) (now (text .entry)) (scopeOf (now (text .entry)) (now (names .entry)) «in_use»)
+        (now (words .entry)) (now (here .entry)) (readingOf left (now (here .entry))) (now (words .exit)) (now (here .exit))
+        (readingOf r (now (here .exit))) ⌝ }
 {
-    let reading = formula(text, names, in_use, words, here, depth, 2);
-    if reading != 0 {
-        return reading;
+    if left != 0 {
+        return left;
     }
     if here[KIND] != IMPLIES {
         return 0;
@@ -254,7 +287,7 @@ fn implication(
     let behind = here[STOP];
     here[COUNT] = denied;
     look(text, here, behind);
-    let right = implication(text, names, in_use, words, here, depth - 1);
+    let right = formula(text, names, in_use, words, here, depth - 1, 1);
     finish(words, here, IMPLIES, denied, right)
 }
 

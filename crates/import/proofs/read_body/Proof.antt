@@ -1,6 +1,6 @@
+use native.Mathlib.Omega.{arith}
 use Rattle.import.proofs.Whole.{body-undeclared, body-refused, body-read, ends-size}
 use Rattle.formulas.proofs.Levels.{looks-ready, tracked, counted, got-zero, refused-some}
-use Rattle.formulas.specs.Reading.{joins-alike}
 use borrow.Author.Needs.{needs}
 use Rattle.import.proofs.read_body.Statement.{statement}
 use Rattle.import.proofs.read_body.Tie as tie
@@ -38,7 +38,7 @@ look-requires c κs = search needs
 
 -- src/lib.rt:107:9
 formula-requires : tie.Need-formula-requires
-formula-requires c κs = ((c .before .before .before .before .before .before .before .before .read-declarations .ensures .declares (c .before .before .before .before .before .before .if1 .left)) .fit, (looks-ready (c .before .before .before .look .ensures), joins-alike))
+formula-requires c κs = ((c .before .before .before .before .before .before .before .before .read-declarations .ensures .declares (c .before .before .before .before .before .before .if1 .left)) .fit, (looks-ready (c .before .before .before .look .ensures), omega arith))
 
 -- src/lib.rt:108:9
 end-requires : tie.Need-end-requires
