@@ -8,7 +8,7 @@ use native.Mathlib.Omega.{arith}
 use borrow.Author.Tests.{eq-eqb, le-ltb, le-leb}
 use lib.Dec.{T, lit<}
 use lib.ListN.{length, getD, set, drop, replicate, length-append, length-replicate}
-use lib.Seq.{drop-at, sets, sets-eq, getD-set-same, getD-set-other}
+use lib.Seq.{drop-at, sets, sets-eq}
 use Rattle.logic.specs.Rule.{Record, good, goodFrom}
 use Rattle.bits.specs.Bits.{digits, bits, anySet, pack, Clear}
 use Rattle.bits.specs.declared.Fault.the-variants.{Sound}
@@ -206,10 +206,6 @@ module _ (n : ℕ) (rs : List Record) (some : 1 ≤ n) (few : n ≤ 8) (any : 1 
 
 -- ---- records as numbers
 
-pub word-small : (w : ℕ) → Small (recordOfWord w)
-unfolding recordOfWord
-word-small w = record { op-small = omega arith; first-small = omega arith; second-small = omega arith }
-
 pub word-back : (r : Record) → Small r → recordOfWord (recordWord r) ≡ r
 unfolding recordWord recordOfWord
 word-back r h = record-path r _ _ _ (omega arith) (omega arith) (omega arith)
@@ -226,17 +222,6 @@ pub words-length : (m : ℕ) (ws : List ℕ) → length (recordsOfWords m ws) �
 unfolding recordsOfWords
 words-length zero ws = refl
 words-length (suc m) ws = length-append (recordsOfWords m ws) _ ∙ omega (arith, words-length m ws)
-
--- the first m do not change with those after them
-words-kept : (m : ℕ) (ws : List ℕ) (i w : ℕ) → m ≤ i → recordsOfWords m (set ws i w) ≡ recordsOfWords m ws
-unfolding recordsOfWords
-words-kept zero ws i w h = refl
-words-kept (suc m) ws i w h = rw (words-kept m ws i w (omega arith), getD-set-other ws i m w 0 (λ e. omega arith)) refl
-
--- one more number is put behind them
-pub words-more : (m : ℕ) (ws : List ℕ) (w : ℕ) → m < length ws → recordsOfWords (m + 1) (set ws m w) ≡ recordsOfWords m ws ++ (recordOfWord w ∷ [])
-unfolding recordsOfWords
-words-more m ws w h = rw (add-one m, words-kept m ws m w (omega arith), getD-set-same ws m w 0 h) refl
 
 -- ---- the records are put one after the other
 
