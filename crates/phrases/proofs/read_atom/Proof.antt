@@ -15,20 +15,26 @@ look-up-requires c κs = let p = c .before .before .before .pre in (p .0, name-s
 returns-2 : tie.Need-returns-2
 returns-2 c =
     let d = c .before .before in
-    atom-wrong _ (c .before .before .before .before .before .before .before .pre .1) (c .before .before .before .before .if1 .left) (d .before .look-up .ensures) (d .token-at .ensures)
+    let b = d .before .before in
+    atom-wrong _ (b .before .before .before .pre .1) (b .if1 .left) (d .before .look-up .ensures) (d .token-at .ensures)
     (sym (c .before .left-good .ensures) ∙ not-true _ (c .if2 .taken))
 
 -- the left name may stand before the relation
-good : (c : tie.Else2) → goodOrder (relationBy (c .before .before .token-at .result .kind)) (c .before .before .before .look-up .result .order) ≡ true
+good : (c : tie.Else2)
+    → goodOrder (relationBy (c .before .before .token-at .result .kind)) (c .before .before .before .look-up .result .order) ≡ true
 good c = sym (c .before .left-good .ensures) ∙ not-false _ (c .if2 .left)
 
 read-related-requires : tie.Need-read-related-requires
-read-related-requires c κs = (c .before .before .before .before .before .before .before .pre .0, c .before .before .before .look-up .ensures .few (good-some _ _ (good c)))
+read-related-requires c κs =
+    let d = c .before .before .before in
+    (d .before .before .before .before .pre .0, d .look-up .ensures .few (good-some _ _ (good c)))
 
 returns-3 : tie.Need-returns-3
 returns-3 c =
     let d = c .before .before .before in
-    atom-goes _ (c .before .before .before .before .before .before .before .before .pre .1) (c .before .before .before .before .before .if1 .left) (d .before .look-up .ensures) (d .token-at .ensures) (good (c .before)) (c .read-related .ensures)
+    let b = d .before .before in
+    atom-goes _ (b .before .before .before .pre .1) (b .if1 .left) (d .before .look-up .ensures) (d .token-at .ensures) (good (c .before))
+    (c .read-related .ensures)
 
 pub read-atom-spec : {M : Type 1} → statement M
 read-atom-spec =
