@@ -52,9 +52,10 @@ put-field-requires-3 c κs =
 
 put-records-requires : tie.Need-put-records-requires
 put-records-requires c κs =
-    let st = c .before .before .before .before .before .before .before .before .before .before .before .before .before .before .before .before .before .before in
+    let b = c .before .before .before .before .before .before .before .before .before .before .before .before .before .before .before in
+    let st = b .before .before .before in
     let a = st .args in
-    let w = c .before .before .before .before .before .before .before .before .before .before .before .before .before .before .before .clear in
+    let w = b .clear in
     let p = c .before .before .before .before .before .before .before .before .before .before .before .put-field in
     let q = c .before .before .before .before .before .before .before .put-field2 in
     let r = c .before .before .before .put-field3 in
@@ -71,9 +72,10 @@ put-records-requires c κs =
 
 returns : tie.Need-returns
 returns c =
-    let st = c .before .before .before .before .before .before .before .before .before .before .before .before .before .before .before .before .before .before .before .before .before in
+    let b = c .before .before .before .before .before .before .before .before .before .before .before .before .before .before .before .before .before .before in
+    let st = b .before .before .before in
     let a = st .args in
-    let w = c .before .before .before .before .before .before .before .before .before .before .before .before .before .before .before .before .before .before .clear in
+    let w = b .clear in
     let p = c .before .before .before .before .before .before .before .before .before .before .before .before .before .before .put-field in
     let q = c .before .before .before .before .before .before .before .before .before .before .put-field2 in
     let r = c .before .before .before .before .before .before .put-field3 in
