@@ -1,5 +1,5 @@
 -- What reading a formula answers, step by step, as the code takes it. Assumes nothing.
-use Prim.Native.Nat.{ℕ, zero, suc, _+_, _-_, _≤_, _<_, max, min}
+use Prim.Native.Nat.{ℕ, zero, suc, _+_, _-_, _≤_, _<_, max}
 use mathlib.Core.Path.{_≡_, refl, sym, _∙_, ap, subst}
 use mathlib.Core.Bool.{Bool, true, false}
 use mathlib.Core.List.{List, [], _∷_}
@@ -17,7 +17,7 @@ use Rattle.text.specs.Records.{tracks, write, writeAtom, putNot}
 use Rattle.text.proofs.Named.{atom-some, binder-some}
 use Rattle.text.proofs.Steps.{more-is}
 use Rattle.text.proofs.Written.{tracks-least}
-use Rattle.tokens.specs.Tokens.{part, Span, tokensAt, readFrom, Stands}
+use Rattle.tokens.specs.Tokens.{part, Span, tokensAt, Stands}
 use Rattle.tokens.specs.InUse.{orderOf, scopeOf, NamesFit}
 use Rattle.tokens.specs.InUse.{Bound as NewName}
 use Rattle.tokens.specs.declared.Token.{Token as TokenRead}
@@ -31,15 +31,17 @@ use Rattle.phrases.specs.declared.AtomRead.{AtomRead}
 use Rattle.phrases.specs.declared.AtomRead.the-variants.{Read as AtomGot, Refused as AtomRefused}
 use Rattle.drafting.specs.Coded.{codedAtom}
 use Rattle.drafting.specs.Draft.{Drafted, Drafts}
-use Rattle.drafting.specs.Joined.{putJoined, putQuantified}
+use Rattle.drafting.specs.Joined.{putJoined}
 use Rattle.drafting.specs.declared.Atom.{Atom as AtomCode}
 use Rattle.drafting.proofs.Sentences.{write-longer}
 use Rattle.formulas.specs.Reading.{deeperAt, levelAt, opensBy, bracketAt, orderBy, quantifierBy, quantifiedAt, Joining}
-use Rattle.formulas.specs.Reading.{kindAt, startAt, stopAt, tokenOf, countAt, tracksAt, Ready, Looks, refusedHere, Told, told-got, told-refused, Reads, Left}
+use Rattle.formulas.specs.Reading.{kindAt, startAt, stopAt, tokenOf, countAt, tracksAt, Ready, Looks, refusedHere}
+use Rattle.formulas.specs.Reading.{Told, told-got, told-refused, Reads, Left}
 use Rattle.formulas.specs.Reading.{Owns, Counted, Finishes, finishes, passes, Closes, closes, lacks-closing, closes-refused}
 use Rattle.formulas.specs.Reading.{Reading, Got, Refused, readingOf}
-use Rattle.formulas.proofs.Strengths.{wordOf, joinOf, joining-most, tighter-within, ahead, level-starts, spells-operator, write-join, tracks-join, then-then}
-use Rattle.formulas.proofs.Strengths.{deeper-is, implied, level-one, implied-is, startBy, operand-is, start-atomic, start-deep, quantifier-of}
+use Rattle.formulas.proofs.Strengths.{wordOf, joinOf, joining-most, tighter-within, ahead, level-starts, spells-operator}
+use Rattle.formulas.proofs.Strengths.{write-join, tracks-join, then-then}
+use Rattle.formulas.proofs.Strengths.{deeper-is, implied, level-one, implied-is, operand-is, start-atomic, start-deep, quantifier-of}
 use Rattle.formulas.proofs.Strengths.{negation-is, bracket-is, quantifier-is, closing, closing-is, bracket-starts, write-quantified, tracks-quantified}
 
 -- ---- the array
@@ -75,7 +77,9 @@ counted {h} {c} l =
     let k = length-set h 1 c in
     record {
       size = omega arith;
-      token-is = token-path (tokenOf (set h 1 c)) (tokenOf h) (getD-set-other h 1 0 c 0 (λ z. omega arith)) (getD-set-other h 1 2 c 0 (λ z. omega arith)) (getD-set-other h 1 4 c 0 (λ z. omega arith));
+      token-is =
+          token-path (tokenOf (set h 1 c)) (tokenOf h) (getD-set-other h 1 0 c 0 (λ z. omega arith)) (getD-set-other h 1 2 c 0 (λ z. omega arith))
+          (getD-set-other h 1 4 c 0 (λ z. omega arith));
       count-is = getD-set-same h 1 c 0 (omega arith);
       tracks-is = getD-set-other h 1 3 c 0 (λ z. omega arith);
     }
@@ -92,7 +96,9 @@ tracked {h} {n} l =
     let k = length-set h 3 n in
     record {
       size = omega arith;
-      token-is = token-path (tokenOf (set h 3 n)) (tokenOf h) (getD-set-other h 3 0 n 0 (λ z. omega arith)) (getD-set-other h 3 2 n 0 (λ z. omega arith)) (getD-set-other h 3 4 n 0 (λ z. omega arith));
+      token-is =
+          token-path (tokenOf (set h 3 n)) (tokenOf h) (getD-set-other h 3 0 n 0 (λ z. omega arith)) (getD-set-other h 3 2 n 0 (λ z. omega arith))
+          (getD-set-other h 3 4 n 0 (λ z. omega arith));
       count-is = getD-set-other h 3 1 n 0 (λ z. omega arith);
       tracks-is = getD-set-same h 3 n 0 (omega arith);
     }
@@ -187,7 +193,8 @@ module _ {s : List ℕ} {sc sd : Scope} {rs ss : List Record} {h m ws₂ h₂ ws
       told-got (make g) (ap (λ (S : Read Sentence). andThen S (λ g us. got (make g) us)) (i .reads) ∙ ap (λ (n : ℕ). got (make g) (tokensAt s n)) (sym n)) qr
       (subst (λ (x : ℕ). Drafted ws₃ x (write sc (make g) rs)) (sym (p .count-is)) (D g (i .drafts) c o)) (p .tracks-is ∙ i .counts ∙ M g)
   told-finished make D M w (passes k b e qi qr x) =
-      subst (λ (q : Reading). Told s sc rs h ws₃ h₃ (andThen X (λ g us. got (make g) us)) q) (qi ∙ sym qr) (told-up sc rs h ws₃ h₃ (λ g us. got (make g) us) w qi)
+      subst (λ (q : Reading). Told s sc rs h ws₃ h₃ (andThen X (λ g us. got (make g) us)) q) (qi ∙ sym qr)
+      (told-up sc rs h ws₃ h₃ (λ g us. got (make g) us) w qi)
 
 -- and what holds of the array then
 module _ {ws₂ h₂ ws₃ h₃ : List ℕ} {right r : Reading} {kind beside : ℕ} (F : Finishes ws₂ kind beside ws₃ h₂ h₃ right r) where
@@ -224,7 +231,8 @@ module _ (d : ℕ) {k : ℕ} (j : Joining k) {s : List ℕ} {sc : Scope} {rs : L
   module _ (w : Told s sc rs h ws h′ R r) (q : r ≡ Got) (y : Ready s h′) where
     ahead-is : (f : Sentence) → R ≡ got f (tokensAt s (startAt h′)) → (v : Bool) → eqb (kindAt h′) (19 - k) ≡ v
         → ahead d j sc R ≡ (elim v as (λ _. Read Sentence) [
-          | true ↦ andThen (levelAt d (suc k) sc (rest (tokensAt s (startAt h′)))) (λ g us. more (length us) (wordOf j) (joinOf j) (levelAt d (suc k)) sc (joinOf j f g) us)
+          | true ↦ andThen (levelAt d (suc k) sc (rest (tokensAt s (startAt h′))))
+              (λ g us. more (length us) (wordOf j) (joinOf j) (levelAt d (suc k)) sc (joinOf j f g) us)
           | false ↦ got f (tokensAt s (startAt h′))
         ])
     unfolding ahead
@@ -254,7 +262,8 @@ module _ (d : ℕ) {k : ℕ} (j : Joining k) {s : List ℕ} {sc : Scope} {rs : L
           let kl = joining-most j in
           let X₀ = levelAt d (suc k) sc (tokensAt s (startAt m)) in
           let a = ahead-is f (i .reads) true (eq-eqb (kindAt h′) (19 - k) e) in
-          let b = ap (λ (us : List Token). andThen (levelAt d (suc k) sc us) (λ g us. more (length us) (wordOf j) (joinOf j) (levelAt d (suc k)) sc (joinOf j f g) us))
+          let b = ap (λ (us : List Token). andThen (levelAt d (suc k) sc us)
+          (λ g us. more (length us) (wordOf j) (joinOf j) (levelAt d (suc k)) sc (joinOf j f g) us))
           (taken y (omega arith) L) in
           let tr = tracks-join j (length sc) in
           let hi : 16 ≤ 19 - k = omega arith in
@@ -262,7 +271,7 @@ module _ (d : ℕ) {k : ℕ} (j : Joining k) {s : List ℕ} {sc : Scope} {rs : L
             andThen X₀ (λ g us. got (joinOf j f g) us),
             a ∙ b ∙ sym (then-then X₀ (joinOf j f) (λ g us. more (length us) (wordOf j) (joinOf j) (levelAt d (suc k)) sc g us)),
             told-finished (joinOf j f)
-                (λ g D c o. rw (← write-join j sc f g rs) (o .joins hi (write sc f rs) (write sc g (write sc f rs)) (i .drafts .size) (write-longer sc g (write sc f rs)) D))
+                (λ g D c o. let ss = write sc f rs in rw (← write-join j sc f g rs) (o .joins hi ss (write sc g ss) (i .drafts .size) (write-longer sc g ss) D))
                 (λ g. rw (tr f g) (omega arith))
                 (X .tells (write sc f rs) (subst (λ (n : ℕ). Drafted ws n (write sc f rs)) (sym (L .count-is)) (i .drafts)) (omega arith)) A,
           )
@@ -283,7 +292,8 @@ pub record Joined (s : List ℕ) (sc : Scope) (d k : ℕ) (ws₀ h₀ : List ℕ
   pub ready : r ≡ Got → Ready s h
   pub onward : r ≡ Got → (r₀ ≡ Got) × (startAt h₀ ≤ startAt h)
 
-pub joined-first : {s : List ℕ} {sc : Scope} {d k : ℕ} {ws h : List ℕ} {r : Reading} → Joining k → length h ≡ 5 → (r ≡ Got → Ready s h) → Joined s sc d k ws h r ws h r
+pub joined-first : {s : List ℕ} {sc : Scope} {d k : ℕ} {ws h : List ℕ} {r : Reading} → Joining k → length h ≡ 5 → (r ≡ Got → Ready s h)
+    → Joined s sc d k ws h r ws h r
 joined-first j l y = record { operator = j; tells = λ rs i R w x. (R, refl, w); size = l; ready = y; onward = λ q. (q, omega arith) }
 
 module _ {s : List ℕ} {sc : Scope} {d k : ℕ} {ws₀ h₀ ws h : List ℕ} {r₀ r : Reading} (J : Joined s sc d k ws₀ h₀ r₀ ws h r) where
@@ -332,7 +342,8 @@ module _ {s : List ℕ} {sc : Scope} {d k : ℕ} {ws₀ h₀ ws h : List ℕ} {r
       onward = λ p. let o = J .onward q in let a = X .onward (o .0) in let b = o .1 in omega arith;
     }
 
-  pub joined-refused : {ws′ h′ : List ℕ} {n b e : ℕ} → Reads (levelAt d (suc k)) s sc ws′ h′ ws₀ h₀ r₀ → r ≡ Refused n b e → Reads (levelAt d k) s sc ws′ h′ ws h r
+  pub joined-refused : {ws′ h′ : List ℕ} {n b e : ℕ} → Reads (levelAt d (suc k)) s sc ws′ h′ ws₀ h₀ r₀ → r ≡ Refused n b e
+      → Reads (levelAt d k) s sc ws′ h′ ws h r
   joined-refused {ws′} {h′} X q = record {
     tells = λ rs D l.
         let z = J .tells rs h′ _ (X .tells rs D l) l in
@@ -358,7 +369,8 @@ module _ (d : ℕ) {s : List ℕ} {sc : Scope} {ws h ws₂ h₂ : List ℕ} {r :
     y = X .ready q
 
     -- what the whole is, by the token behind the left side
-    whole-is : (rs : List Record) (w : Told s sc rs h ws₂ h₂ (levelAt d 2 sc (tokensAt s (startAt h))) r) (v deep : Bool) → eqb (kindAt h₂) 18 ≡ v → eqb d 0 ≡ deep
+    whole-is : (rs : List Record) (w : Told s sc rs h ws₂ h₂ (levelAt d 2 sc (tokensAt s (startAt h))) r) (v deep : Bool)
+        → eqb (kindAt h₂) 18 ≡ v → eqb d 0 ≡ deep
         → levelAt d 1 sc (tokensAt s (startAt h)) ≡ (elim v as (λ _. Read Sentence) [
           | true ↦ elim deep as (λ _. Read Sentence) [
             | true ↦ leaves 23 (next (tokensAt s (startAt h₂)))
@@ -397,14 +409,17 @@ module _ (d : ℕ) {s : List ℕ} {sc : Scope} {ws h ws₂ h₂ : List ℕ} {r :
       again : Ready s m
       again = record { size = C .size; stands = subst (λ (u : TokenRead). Stands s (u .start) u) (sym (C .token-is)) (y .stands) }
 
-      pub implication-on : {ws₃ ws₄ h₄ ws₅ h₅ : List ℕ} {right r′ : Reading} → kindAt h₂ ≡ 18 → (d ≡ 0 → ⊥) → Drafts ws₂ (countAt h₂) ws₃ c putNot → Reads (levelAt (d - 1) 1) s sc ws₃ n ws₄ h₄ right
+      pub implication-on : {ws₃ ws₄ h₄ ws₅ h₅ : List ℕ} {right r′ : Reading} → kindAt h₂ ≡ 18 → (d ≡ 0 → ⊥) → Drafts ws₂ (countAt h₂) ws₃ c putNot
+          → Reads (levelAt (d - 1) 1) s sc ws₃ n ws₄ h₄ right
           → Finishes ws₄ 18 c ws₅ h₄ h₅ right r′ → Reads (levelAt d 1) s sc ws h ws₅ h₅ r′
       unfolding write tracks putJoined
       implication-on {ws₃} {ws₄} {h₄} {ws₅} {h₅} {right} {r′} e z N Y A = record {
         tells = tells;
         size = finished-size A (Y .size);
         ready = finished-ready A (Y .size) (Y .ready);
-        onward = finished-onward A (λ x. let a = Y .onward x in let b = X .onward q in let k = same-kind in let t = beyond again (omega arith) behind .0 in let g = same-start in omega arith);
+        onward = finished-onward A (λ x.
+            let a = Y .onward x in let b = X .onward q in let k = same-kind in let t = beyond again (omega arith) behind .0 in
+            let g = same-start in omega arith);
       }
         where
           same-kind : kindAt m ≡ kindAt h₂
@@ -423,7 +438,8 @@ module _ (d : ℕ) {s : List ℕ} {sc : Scope} {ws h ws₂ h₂ : List ℕ} {r :
               let P = N (write sc f rs) (i .drafts) in
               let whole = whole-is rs w true false (eq-eqb (kindAt h₂) 18 e) (ne-eqb d 0 z) in
               let k = same-kind in
-              let tk : rest (tokensAt s (startAt h₂)) ≡ tokensAt s (startAt n) = ap (λ (x : ℕ). rest (tokensAt s x)) (sym same-start) ∙ taken again (omega arith) behind in
+              let tk : rest (tokensAt s (startAt h₂)) ≡ tokensAt s (startAt n) =
+              ap (λ (x : ℕ). rest (tokensAt s x)) (sym same-start) ∙ taken again (omega arith) behind in
               let there = ap (λ (us : List Token). andThen (deeperAt d consequent sc us) (λ g us. got (implies f g) us)) tk
               ∙ ap (λ (rd : Reader). andThen (rd sc (tokensAt s (startAt n))) (λ g us. got (implies f g) us)) (deeper-is d z .to-consequent) in
               let hi : 16 ≤ 18 = omega arith in
@@ -437,7 +453,8 @@ module _ (d : ℕ) {s : List ℕ} {sc : Scope} {ws h ws₂ h₂ : List ℕ} {r :
 
 module _ (d : ℕ) {s : List ℕ} {sc : Scope} {ws h : List ℕ} (y : Ready s h) where
   -- by another reader of the same tokens
-  by : {read : Reader} {ws′ h′ : List ℕ} {r : Reading} → levelAt d 4 sc (tokensAt s (startAt h)) ≡ read sc (tokensAt s (startAt h)) → Reads read s sc ws h ws′ h′ r
+  by : {read : Reader} {ws′ h′ : List ℕ} {r : Reading} → levelAt d 4 sc (tokensAt s (startAt h)) ≡ read sc (tokensAt s (startAt h))
+      → Reads read s sc ws h ws′ h′ r
       → Reads (levelAt d 4) s sc ws h ws′ h′ r
   by e X = record { tells = λ rs D l. rw e (X .tells rs D l); size = X .size; ready = X .ready; onward = X .onward }
 
@@ -452,19 +469,22 @@ module _ (d : ℕ) {s : List ℕ} {sc : Scope} {ws h : List ℕ} (y : Ready s h)
   operand-deep x z = record {
     tells = λ rs D l.
         refused-there y
-        (rw z (operand-is 0 sc (tokensAt s (startAt h)) (kindAt h) (kind-is y) ∙ ap (λ (b : Start). operandOf (deeperAt 0) b sc (tokensAt s (startAt h))) (start-deep (kindAt h) x)));
+        (rw z (operand-is 0 sc (tokensAt s (startAt h)) (kindAt h) (kind-is y)
+        ∙ ap (λ (b : Start). operandOf (deeperAt 0) b sc (tokensAt s (startAt h))) (start-deep (kindAt h) x)));
     size = y .size;
     ready = λ p. absurd (got-refused (sym p));
     onward = λ p. absurd (got-refused (sym p));
   }
 
   module _ (z : d ≡ 0 → ⊥) where
-    pub operand-bracket : {ws′ h′ : List ℕ} {r : Reading} → kindAt h ≡ 13 → Reads (bracketAt (d - 1)) s sc ws h ws′ h′ r → Reads (levelAt d 4) s sc ws h ws′ h′ r
+    pub operand-bracket : {ws′ h′ : List ℕ} {r : Reading} → kindAt h ≡ 13 → Reads (bracketAt (d - 1)) s sc ws h ws′ h′ r
+        → Reads (levelAt d 4) s sc ws h ws′ h′ r
     operand-bracket e X = by {read = bracketAt (d - 1)} (bracket-is d z sc (tokensAt s (startAt h)) (kind-is y ∙ e)) X
 
     pub operand-quantifier : {ws′ h′ : List ℕ} {r : Reading} → 3 ≤ kindAt h → kindAt h ≤ 6 → Reads (quantifiedAt (d - 1) (kindAt h)) s sc ws h ws′ h′ r
         → Reads (levelAt d 4) s sc ws h ws′ h′ r
-    operand-quantifier l g X = by {read = quantifiedAt (d - 1) (kindAt h)} (quantifier-is d z sc (tokensAt s (startAt h)) (kindAt h) (quantifier-of (kindAt h) l g) (kind-is y)) X
+    operand-quantifier l g X =
+        by {read = quantifiedAt (d - 1) (kindAt h)} (quantifier-is d z sc (tokensAt s (startAt h)) (kindAt h) (quantifier-of (kindAt h) l g) (kind-is y)) X
 
     pub operand-not : {m ws₂ h₂ ws₃ h₃ : List ℕ} {beside : ℕ} {inner r : Reading} → kindAt h ≡ 15 → Looks s (stopAt h) h m
         → Reads (levelAt (d - 1) 4) s sc ws m ws₂ h₂ inner → Finishes ws₂ 15 beside ws₃ h₂ h₃ inner r → Reads (levelAt d 4) s sc ws h ws₃ h₃ r
@@ -501,7 +521,8 @@ module _ (d : ℕ) {s : List ℕ} {sc : Scope} {ws h m ws₂ h₂ : List ℕ} {i
             let ct = L .tracks-is in
             let mt = M .tracks-is in
             let c = i .counts in
-            told-got f (starts ∙ ap (λ (S : Read Sentence). andThen S (λ f us. closing f us)) (i .reads) ∙ closing-is f us true (eq-eqb (next us .kind) 14 (kind-is y₂ ∙ k))
+            told-got f (starts ∙ ap (λ (S : Read Sentence). andThen S (λ f us. closing f us)) (i .reads)
+            ∙ closing-is f us true (eq-eqb (next us .kind) 14 (kind-is y₂ ∙ k))
             ∙ ap (λ (vs : List Token). got f vs) (taken y₂ (omega arith) M)) qr
             (subst (λ (n : ℕ). Drafted ws₂ n (write sc f rs)) (sym (M .count-is)) (i .drafts)) (omega arith);
         size = M .size;
@@ -548,7 +569,8 @@ binder-lacks {s} {n} {at} {k} {b} {e} (told.refuses {k = k′} {b = b′} {e = e
     let z : e′ ≡ e = cc in
     rw (← x, ← y, ← z) (w sc l go)
 
-pub atom-there : {s : List ℕ} {sc : Scope} {at n : ℕ} {R : Read Sentence} {a : AtomCode} {m : AtomRead} → AtomTold s sc at R m → m ≡ AtomGot a n → AtomIs s sc at R a n
+pub atom-there : {s : List ℕ} {sc : Scope} {at n : ℕ} {R : Read Sentence} {a : AtomCode} {m : AtomRead} → AtomTold s sc at R m → m ≡ AtomGot a n
+    → AtomIs s sc at R a n
 atom-there {s} {sc} {at} {n} {R} {a} (reads {c = c} {p = p} w) q = let x : c ≡ a = cc in let y : p ≡ n = cc in rw (← x, ← y) w
 atom-there (told.refuses w) q = absurd (let z : _≡_ {A = ℕ} 0 1 = cc in omega arith)
 
@@ -578,7 +600,8 @@ atom-reads {s} {sc} {ws} {h} {ws′} {m} {h′} {a} {n} {c} w p C L = record {
   onward = λ q. let a = w .onward in let f = L .stands .forward in omega arith;
 }
 
-pub atom-refused : {s : List ℕ} {sc : Scope} {ws h : List ℕ} {k b e : ℕ} {m : AtomRead} → length h ≡ 5 → AtomTold s sc (startAt h) (atomOf sc (tokensAt s (startAt h))) m
+pub atom-refused : {s : List ℕ} {sc : Scope} {ws h : List ℕ} {k b e : ℕ} {m : AtomRead} → length h ≡ 5
+    → AtomTold s sc (startAt h) (atomOf sc (tokensAt s (startAt h))) m
     → m ≡ AtomRefused k b e → Reads atomOf s sc ws h ws (set (set h 2 b) 4 e) (readingOf k (set (set h 2 b) 4 e))
 atom-refused {s} {sc} {ws} {h} {k} {b} {e} l v q =
     let w = atom-lacks v q in
@@ -642,7 +665,8 @@ module _ (d : ℕ) {s h : List ℕ} (y : Ready s h) (l : 3 ≤ kindAt h) (g : ki
             let tm = L .tracks-is ∙ T .tracks-is in
             let ct = L .count-is ∙ T .count-is in
             let started = quantified-starts sc
-            ∙ w .reads sc ln (λ x vs. andThen (levelAt d 0 (record { name = x; order = orderBy (kindAt h) } ∷ sc) vs) (λ f us. got (quantifierBy (kindAt h) (orderBy (kindAt h)) x f) us))
+            ∙ w .reads sc ln (λ x vs. andThen (levelAt d 0 (record { name = x; order = orderBy (kindAt h) } ∷ sc) vs)
+            (λ f us. got (quantifierBy (kindAt h) (orderBy (kindAt h)) x f) us))
             ∙ ap (λ (us : List Token). andThen (levelAt d 0 sd us) (λ f us. got (make f) us)) (L .stands .skips) in
             let inside : Told s sd rs k ws₂ h₂ (levelAt d 0 sd (tokensAt s (startAt k))) body =
             subst (λ (sx : List Declared). Told s sx rs k ws₂ h₂ (levelAt d 0 sx (tokensAt s (startAt k))) body) inner-scope
@@ -664,7 +688,8 @@ pub left-of : {read : Reader} {s : List ℕ} {sc : Scope} {ws h ws′ h′ : Lis
 left-of {h′ = h′} r X = record { size = X .size; ready = λ z. X .ready (got-zero h′ z) }
 
 -- where the operands of an operator begin
-pub joined-left : {s : List ℕ} {sc : Scope} {d k : ℕ} {ws h : List ℕ} {r : ℕ} → Joining k → Left s h r → Joined s sc d k ws h (readingOf r h) ws h (readingOf r h)
+pub joined-left : {s : List ℕ} {sc : Scope} {d k : ℕ} {ws h : List ℕ} {r : ℕ} → Joining k → Left s h r
+    → Joined s sc d k ws h (readingOf r h) ws h (readingOf r h)
 joined-left {h = h} {r = r} j L = joined-first j (L .size) (λ q. L .ready (zero-got r q))
   where
     zero-got : (n : ℕ) → readingOf n h ≡ Got → n ≡ 0

@@ -3,14 +3,14 @@ use Prim.Native.Nat.{ℕ, zero, suc, _-_, _≤_, max}
 use Prim.Native.String.{String}
 use mathlib.Core.Path.{_≡_, refl, sym, _∙_, ap}
 use mathlib.Core.Bool.{Bool, true, false, cond, true≢false}
-use mathlib.Core.List.{List, [], _∷_}
+use mathlib.Core.List.{List, _∷_}
 use native.Mathlib.Omega.{arith}
 use borrow.Author.Tests.{ne-eqb, leb-true, eqb-false}
 use lib.Dec.{eqb, leb}
 use lib.ListN.{length}
 use Rattle.logic.specs.Rule.{Record}
 use Rattle.text.specs.Token.{Token, spells, placeIn, words, marks}
-use Rattle.text.specs.Syntax.{Name, Sentence, denied, both, either, implies, alike, Order, first, second, forSome, forEvery, Declared, Scope}
+use Rattle.text.specs.Syntax.{Name, Sentence, denied, both, either, implies, alike, Order, first, second, forSome, forEvery, Scope}
 use Rattle.text.specs.Grammar.{Read, got, next, rest, accept, or23, Reader, andThen, joined, more, reader, partAt, operandAt, consequentAt, impliedBy}
 use Rattle.text.specs.Grammar.{Part, operand, consequent, formula, operandOf, Start, negation, bracket, atomic, tooDeep, quantifier, opening, startOf}
 use Rattle.text.specs.Grammar.{refused as leaves}
@@ -50,11 +50,6 @@ unfolding levelAt
 tighter-within d joins-alike sc ts = consequentAt-within d (deeperAt d) (deeper-within d) sc ts
 tighter-within d joins-either sc ts = joined-within "&" both (operandAt d (deeperAt d)) (operandAt-within d (deeperAt d) (deeper-within d)) sc ts
 tighter-within d joins-both sc ts = operandAt-within d (deeperAt d) (deeper-within d) sc ts
-
-pub joining-last : {k : ℕ} → Joining k → (k ≡ 0 → ⊥) → (k ≡ 2 → ⊥) → k ≡ 3
-joining-last joins-alike z w = absurd (z refl)
-joining-last joins-either z w = absurd (w refl)
-joining-last joins-both z w = refl
 
 -- the first operand, and then more
 unfoldable pub ahead : (d : ℕ) {k : ℕ} → Joining k → Scope → Read Sentence → Read Sentence
@@ -125,14 +120,18 @@ level-one d sc ts = refl
 
 pub implied-is : (d : ℕ) (sc : Scope) (f : Sentence) (us : List Token) (v : Bool) → eqb (next us .kind) 18 ≡ v → (deep : Bool) → eqb d 0 ≡ deep
     → implied d sc f us ≡ (elim v as (λ _. Read Sentence) [
-      | true ↦ elim deep as (λ _. Read Sentence) [ true ↦ leaves 23 (next us) | false ↦ andThen (deeperAt d consequent sc (rest us)) (λ g us. got (implies f g) us) ]
+      | true ↦ elim deep as (λ _. Read Sentence) [
+        | true ↦ leaves 23 (next us)
+        | false ↦ andThen (deeperAt d consequent sc (rest us)) (λ g us. got (implies f g) us)
+      ]
       | false ↦ got f us
     ])
 unfolding impliedBy spells placeIn words marks
 implied-is d sc f us v e deep h =
     let right = andThen (deeperAt d consequent sc (rest us)) (λ g us. got (implies f g) us) in
-    ap (λ (b : Bool). elim b as (λ _. Read Sentence) [ true ↦ elim (eqb d 0) as (λ _. Read Sentence) [ true ↦ leaves 23 (next us) | false ↦ right ] | false ↦ got f us ]) e
-    ∙ ap (λ (b : Bool). elim v as (λ _. Read Sentence) [ true ↦ elim b as (λ _. Read Sentence) [ true ↦ leaves 23 (next us) | false ↦ right ] | false ↦ got f us ]) h
+    let sides : Bool → Read Sentence = (λ b. elim b as (λ _. Read Sentence) [ true ↦ leaves 23 (next us) | false ↦ right ]) in
+    ap (λ (b : Bool). elim b as (λ _. Read Sentence) [ true ↦ sides (eqb d 0) | false ↦ got f us ]) e
+    ∙ ap (λ (b : Bool). elim v as (λ _. Read Sentence) [ true ↦ sides b | false ↦ got f us ]) h
 
 -- ---- operands
 
@@ -154,7 +153,10 @@ other-kind n k h o e = true≢false (sym o ∙ ap opensBy (sym e) ∙ h)
 
 pub start-atomic : (d n : ℕ) → opensBy n ≡ false → startBy d n ≡ atomic
 unfolding opensBy
-start-atomic d n h = rw (ne-eqb n 15 (other-kind n 15 h refl), ne-eqb n 13 (other-kind n 13 h refl), ne-eqb n 3 (other-kind n 3 h refl), ne-eqb n 4 (other-kind n 4 h refl), ne-eqb n 5 (other-kind n 5 h refl), ne-eqb n 6 (other-kind n 6 h refl)) refl
+start-atomic d n h = rw (other 15 refl, other 13 refl, other 3 refl, other 4 refl, other 5 refl, other 6 refl) refl
+  where
+    other : (k : ℕ) → opensBy k ≡ true → eqb n k ≡ false
+    other k o = ne-eqb n k (other-kind n k h o)
 
 -- the quantifier words
 pub data Quantifier : ℕ → Type 0 where
@@ -228,7 +230,8 @@ module _ (d : ℕ) (z : d ≡ 0 → ⊥) (sc : Scope) (ts : List Token) where
           ≡ binderOf sc (rest ts) (λ x vs. andThen (levelAt (d - 1) 0 (record { name = x; order = o } ∷ sc) vs) (λ f us. got (make o x f) us))
       bound make o =
           ap (λ (s : Start). operandOf (deeperAt d) s sc ts) (opened (quantifier make o))
-          ∙ ap (λ (rd : Reader). binderOf sc (rest ts) (λ x vs. andThen (rd (record { name = x; order = o } ∷ sc) vs) (λ f us. got (make o x f) us))) (deeper-is d z .to-formula)
+          ∙ ap (λ (rd : Reader). binderOf sc (rest ts) (λ x vs. andThen (rd (record { name = x; order = o } ∷ sc) vs) (λ f us. got (make o x f) us)))
+          (deeper-is d z .to-formula)
 
       by : {m : ℕ} → Quantifier m → operandOf (deeperAt d) (startBy d m) sc ts ≡ quantifiedAt (d - 1) m sc ts
       by is-ex1 = bound forSome first

@@ -1,6 +1,6 @@
 -- The readers of a formula by binding strength, and what the code that reads one answers: request A2, with document 01's "How trainers type
 -- a rule". Assumes nothing.
-use Prim.Native.Nat.{ℕ, zero, suc, _+_, _≤_, _<_, max, min}
+use Prim.Native.Nat.{ℕ, zero, suc, _≤_, max, min}
 use Prim.Native.String.{String}
 use mathlib.Core.Path.{_≡_}
 use mathlib.Core.Bool.{Bool, cond, _||_}
@@ -10,8 +10,8 @@ use lib.ListN.{length, getD}
 use Rattle.logic.specs.Rule.{Record}
 use Rattle.bits.specs.Bits.{between}
 use Rattle.text.specs.Token.{Token, spells}
-use Rattle.text.specs.Syntax.{Name, Order, first, second, Sentence, both, either, alike, forSome, forEvery, Declared, Scope}
-use Rattle.text.specs.Grammar.{Read, got, next, rest, accept, or23, Reader, Part, joined, more, andThen, reader, operandAt, consequentAt}
+use Rattle.text.specs.Syntax.{Name, Order, first, second, Sentence, both, either, alike, forSome, forEvery, Scope}
+use Rattle.text.specs.Grammar.{Read, got, next, rest, accept, or23, Reader, Part, joined, andThen, reader, operandAt, consequentAt}
 use Rattle.text.specs.Grammar.{refused as leaves}
 use Rattle.text.specs.Records.{tracks, write, putNot}
 use Rattle.tokens.specs.Tokens.{tokensAt, Stands}

@@ -4,7 +4,7 @@
 // many tracks were taken. A reader answers 0, or the number of a refusal, whose token is then the array's. The names in use are entries of
 // three numbers (`tokens::names`).
 ghost use mathlib.Core.Path.{_≡_};
-ghost use Prim.Native.Nat.{ℕ, suc, _<_, _≤_, max};
+ghost use Prim.Native.Nat.{suc, _<_, _≤_, max};
 ghost use lib.ListN.{length};
 ghost use Rattle.text.specs.Grammar.{atomOf};
 ghost use Rattle.tokens.specs.InUse.{orderOf, scopeOf, NamesFit};
