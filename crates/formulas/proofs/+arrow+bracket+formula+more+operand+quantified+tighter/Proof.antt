@@ -1,3 +1,5 @@
+-- `formulas::formula` and the six functions that it calls in a circle meet their contracts: each call is made at a smaller measure.
+-- Assumes nothing.
 use native.Mathlib.Omega.{arith}
 use borrow.Author.Needs.{needs}
 use Prim.Native.Nat.{_+_, _-_, _*_}
@@ -8,7 +10,8 @@ use Rattle.formulas.proofs.TokenKinds.{closed-by, opened-by, order-plac
 use Rattle.formulas.proofs.Levels.{counted, tracked-as, size-after, looks-ready, got-zero, refused-some, level-as, bound-fits, binder-there}
 use Rattle.formulas.proofs.Levels.{leftOf, Joined, joined-left, left-of, joined-on, joined-less, joined-ends, joined-refused}
 use Rattle.formulas.proofs.Levels.{implication-refused, implication-none, implication-deep, implication-on}
-use Rattle.formulas.proofs.Levels.{operand-atom, operand-deep, operand-bracket, operand-not, operand-quantifier, bracket-reads, quantified-unbound, quantified-reads}
+use Rattle.formulas.proofs.Levels.{operand-atom, operand-deep, operand-bracket, operand-not, operand-quantifier}
+use Rattle.formulas.proofs.Levels.{bracket-reads, quantified-unbound, quantified-reads}
 use Prim.Native.Nat.{ℕ, _<_}
 use borrow.Fn.Kinds.{In}
 use borrow.Fn.PlainCycle.{Measures, is, falls, and}
@@ -115,7 +118,6 @@ tighter-at t = and 4 tighter-kinds.ps (is 4 tighter-kinds.ps μ-tighter t) tight
 abbrev tighter-below : ℕ → In 4 tighter-kinds.ps
 tighter-below t = and 4 tighter-kinds.ps (falls 4 tighter-kinds.ps _<_ μ-tighter t) tighter.Pre
 
--- src/lib.rt:278:9
 arrow-returns : (t : ℕ) → arrow-lts.Need-returns (
   put-not-reads.Asked,
   put-not-reads.Learnt,
@@ -128,20 +130,6 @@ arrow-returns : (t : ℕ) → arrow-lts.Need-returns (
 ) (arrow-at t) arrow.Post
 arrow-returns t c = λ vs i X. implication-refused _ X (refused-some _ _ (c .if1 .taken))
 
--- src/lib.rt:280:8
-arrow-element-copy-out-if2 : (t : ℕ) → arrow-lts.Need-element-copy-out-if2 (
-  put-not-reads.Asked,
-  put-not-reads.Learnt,
-  look-reads.Asked,
-  look-reads.Learnt,
-  formula-below t,
-  formula.Post,
-  finish-reads.Asked,
-  finish-reads.Learnt,
-) (arrow-at t) arrow.Post
-arrow-element-copy-out-if2 t c = search needs
-
--- src/lib.rt:281:9
 arrow-returns-2 : (t : ℕ) → arrow-lts.Need-returns-2 (
   put-not-reads.Asked,
   put-not-reads.Learnt,
@@ -154,7 +142,6 @@ arrow-returns-2 : (t : ℕ) → arrow-lts.Need-returns-2 (
 ) (arrow-at t) arrow.Post
 arrow-returns-2 t c = λ vs i X. implication-none _ X (got-zero _ (c .before .before .if1 .left)) (c .if2 .taken)
 
--- src/lib.rt:284:9
 arrow-returns-3 : (t : ℕ) → arrow-lts.Need-returns-3 (
   put-not-reads.Asked,
   put-not-reads.Learnt,
@@ -167,59 +154,6 @@ arrow-returns-3 : (t : ℕ) → arrow-lts.Need-returns-3 (
 ) (arrow-at t) arrow.Post
 arrow-returns-3 t c = λ vs i X. implication-deep _ X (got-zero _ (c .before .before .before .if1 .left)) (c .before .if2 .left) (c .if3 .taken)
 
--- src/lib.rt:286:43
-arrow-element-copy-out-put-not : (t : ℕ) → arrow-lts.Need-element-copy-out-put-not (
-  put-not-reads.Asked,
-  put-not-reads.Learnt,
-  look-reads.Asked,
-  look-reads.Learnt,
-  formula-below t,
-  formula.Post,
-  finish-reads.Asked,
-  finish-reads.Learnt,
-) (arrow-at t) arrow.Post
-arrow-element-copy-out-put-not t c = search needs
-
--- src/lib.rt:286:9
-arrow-put-not-requires : (t : ℕ) → arrow-lts.Need-put-not-requires (
-  put-not-reads.Asked,
-  put-not-reads.Learnt,
-  look-reads.Asked,
-  look-reads.Learnt,
-  formula-below t,
-  formula.Post,
-  finish-reads.Asked,
-  finish-reads.Learnt,
-) (arrow-at t) arrow.Post
-arrow-put-not-requires t c κs = search needs
-
--- src/lib.rt:287:18
-arrow-element-copy-out-behind : (t : ℕ) → arrow-lts.Need-element-copy-out-behind (
-  put-not-reads.Asked,
-  put-not-reads.Learnt,
-  look-reads.Asked,
-  look-reads.Learnt,
-  formula-below t,
-  formula.Post,
-  finish-reads.Asked,
-  finish-reads.Learnt,
-) (arrow-at t) arrow.Post
-arrow-element-copy-out-behind t c = search needs
-
--- src/lib.rt:288:5
-arrow-element-write-here : (t : ℕ) → arrow-lts.Need-element-write-here (
-  put-not-reads.Asked,
-  put-not-reads.Learnt,
-  look-reads.Asked,
-  look-reads.Learnt,
-  formula-below t,
-  formula.Post,
-  finish-reads.Asked,
-  finish-reads.Learnt,
-) (arrow-at t) arrow.Post
-arrow-element-write-here t c = search needs
-
--- src/lib.rt:289:5
 arrow-look-requires : (t : ℕ) → arrow-lts.Need-look-requires (
   put-not-reads.Asked,
   put-not-reads.Learnt,
@@ -230,9 +164,10 @@ arrow-look-requires : (t : ℕ) → arrow-lts.Need-look-requires (
   finish-reads.Asked,
   finish-reads.Learnt,
 ) (arrow-at t) arrow.Post
-arrow-look-requires t c κs = size-after (c .before .before .before .before .before .before .before .before .before .before .args .here .now) 1 (c .before .before .put-not .result) (c .before .before .before .before .before .before .before .before .before .before .pre .1 .1 .size)
+arrow-look-requires t c κs =
+    let c₁₀ = c .before .before .before .before .before .before .before .before .before .before in
+    size-after (c₁₀ .args .here .now) 1 (c .before .before .put-not .result) (c₁₀ .pre .1 .1 .size)
 
--- src/lib.rt:290:59
 arrow-sub-formula : (t : ℕ) → arrow-lts.Need-sub-formula (
   put-not-reads.Asked,
   put-not-reads.Learnt,
@@ -245,7 +180,6 @@ arrow-sub-formula : (t : ℕ) → arrow-lts.Need-sub-formula (
 ) (arrow-at t) arrow.Post
 arrow-sub-formula t c = let z = c .before .before .before .before .before .before .before .before .if3 .left in omega arith
 
--- src/lib.rt:290:9
 arrow-formula-requires : (t : ℕ) → arrow-lts.Need-formula-requires (
   put-not-reads.Asked,
   put-not-reads.Learnt,
@@ -256,9 +190,13 @@ arrow-formula-requires : (t : ℕ) → arrow-lts.Need-formula-requires (
   finish-reads.Asked,
   finish-reads.Learnt,
 ) (arrow-at t) arrow.Post
-arrow-formula-requires t c κs = let m = c .before .before .before .before .before .before .before .before .before .before .before .before .before .pre .0 in let z = c .before .before .before .before .before .before .before .before .if3 .left in (omega arith, (c .before .before .before .before .before .before .before .before .before .before .before .before .before .pre .1 .0, (looks-ready (c .before .before .look .ensures), omega arith)))
+arrow-formula-requires t c κs =
+    let c₈ = c .before .before .before .before .before .before .before .before in
+    let c₁₃ = c₈ .before .before .before .before .before in
+    let m = c₁₃ .pre .0 in
+    let z = c₈ .if3 .left in
+    (omega arith, (c₁₃ .pre .1 .0, (looks-ready (c .before .before .look .ensures), omega arith)))
 
--- src/lib.rt:291:5
 arrow-finish-requires : (t : ℕ) → arrow-lts.Need-finish-requires (
   put-not-reads.Asked,
   put-not-reads.Learnt,
@@ -271,7 +209,6 @@ arrow-finish-requires : (t : ℕ) → arrow-lts.Need-finish-requires (
 ) (arrow-at t) arrow.Post
 arrow-finish-requires t c κs = (c .before .before .formula .ensures .size, ((omega arith, omega arith), λ x. absurd (omega arith)))
 
--- src/lib.rt:262:1
 arrow-returns-4 : (t : ℕ) → arrow-lts.Need-returns-4 (
   put-not-reads.Asked,
   put-not-reads.Learnt,
@@ -282,20 +219,17 @@ arrow-returns-4 : (t : ℕ) → arrow-lts.Need-returns-4 (
   finish-reads.Asked,
   finish-reads.Learnt,
 ) (arrow-at t) arrow.Post
-arrow-returns-4 t c = λ vs i X. implication-on _ X (got-zero _ (c .before .before .before .before .before .before .before .before .before .before .before .before .before .before .before .if1 .left)) (counted (c .before .before .before .before .before .before .before .before .before .before .before .before .before .before .before .before .before .pre .1 .1 .size)) (c .before .before .before .before .before .before .look .ensures) (c .before .before .before .before .before .before .before .before .before .before .before .before .before .if2 .left) (c .before .before .before .before .before .before .before .before .before .before .before .before .if3 .left) (c .before .before .before .before .before .before .before .before .before .put-not .ensures) (c .before .before .before .formula .ensures) (c .finish .ensures)
+arrow-returns-4 t c =
+    let c₃ = c .before .before .before in
+    let c₆ = c₃ .before .before .before in
+    let c₉ = c₆ .before .before .before in
+    let c₁₂ = c₉ .before .before .before in
+    let c₁₃ = c₁₂ .before in
+    let c₁₅ = c₁₃ .before .before in
+    let c₁₇ = c₁₅ .before .before in
+    λ vs i X. implication-on _ X (got-zero _ (c₁₅ .if1 .left)) (counted (c₁₇ .pre .1 .1 .size)) (c₆ .look .ensures) (c₁₃ .if2 .left) (c₁₂ .if3 .left)
+    (c₉ .put-not .ensures) (c₃ .formula .ensures) (c .finish .ensures)
 
--- src/lib.rt:345:18
-bracket-element-copy-out-behind : (t : ℕ) → bracket-lts.Need-element-copy-out-behind (
-  look-reads.Asked,
-  look-reads.Learnt,
-  formula-below t,
-  formula.Post,
-  close-reads.Asked,
-  close-reads.Learnt,
-) (bracket-at t) bracket.Post
-bracket-element-copy-out-behind t c = search needs
-
--- src/lib.rt:346:5
 bracket-look-requires : (t : ℕ) → bracket-lts.Need-look-requires (
   look-reads.Asked,
   look-reads.Learnt,
@@ -306,7 +240,6 @@ bracket-look-requires : (t : ℕ) → bracket-lts.Need-look-requires (
 ) (bracket-at t) bracket.Post
 bracket-look-requires t c κs = c .before .before .before .pre .1 .1 .0 .size
 
--- src/lib.rt:347:9
 bracket-formula-requires : (t : ℕ) → bracket-lts.Need-formula-requires (
   look-reads.Asked,
   look-reads.Learnt,
@@ -315,9 +248,11 @@ bracket-formula-requires : (t : ℕ) → bracket-lts.Need-formula-requires (
   close-reads.Asked,
   close-reads.Learnt,
 ) (bracket-at t) bracket.Post
-bracket-formula-requires t c κs = let m = c .before .before .before .before .before .before .pre .0 in (omega arith, (c .before .before .before .before .before .before .pre .1 .0, (looks-ready (c .before .before .look .ensures), omega arith)))
+bracket-formula-requires t c κs =
+    let c₆ = c .before .before .before .before .before .before in
+    let m = c₆ .pre .0 in
+    (omega arith, (c₆ .pre .1 .0, (looks-ready (c .before .before .look .ensures), omega arith)))
 
--- src/lib.rt:348:5
 bracket-close-requires : (t : ℕ) → bracket-lts.Need-close-requires (
   look-reads.Asked,
   look-reads.Learnt,
@@ -328,7 +263,6 @@ bracket-close-requires : (t : ℕ) → bracket-lts.Need-close-requires (
 ) (bracket-at t) bracket.Post
 bracket-close-requires t c κs = c .before .formula .ensures .size
 
--- src/lib.rt:331:1
 bracket-returns : (t : ℕ) → bracket-lts.Need-returns (
   look-reads.Asked,
   look-reads.Learnt,
@@ -337,9 +271,11 @@ bracket-returns : (t : ℕ) → bracket-lts.Need-returns (
   close-reads.Asked,
   close-reads.Learnt,
 ) (bracket-at t) bracket.Post
-bracket-returns t c = bracket-reads _ (c .before .before .before .before .before .before .before .before .before .pre .1 .1 .0) (c .before .before .before .before .before .before .before .before .before .pre .1 .1 .1) (c .before .before .before .before .before .look .ensures) (c .before .before .formula .ensures) (c .close .ensures)
+bracket-returns t c =
+    let c₅ = c .before .before .before .before .before in
+    let c₉ = c₅ .before .before .before .before in
+    bracket-reads _ (c₉ .pre .1 .1 .0) (c₉ .pre .1 .1 .1) (c₅ .look .ensures) (c .before .before .formula .ensures) (c .close .ensures)
 
--- src/lib.rt:189:9
 formula-operand-requires : (t : ℕ) → formula-lts.Need-operand-requires (
   operand-below t,
   operand.Post,
@@ -348,9 +284,12 @@ formula-operand-requires : (t : ℕ) → formula-lts.Need-operand-requires (
   arrow-below t,
   arrow.Post,
 ) (formula-at t) formula.Post
-formula-operand-requires t c κs = let m = c .before .before .before .pre .0 in let l = c .before .before .before .pre .1 .1 .1 in (omega arith, (c .before .before .before .pre .1 .0, c .before .before .before .pre .1 .1 .0))
+formula-operand-requires t c κs =
+    let c₃ = c .before .before .before in
+    let m = c₃ .pre .0 in
+    let l = c₃ .pre .1 .1 .1 in
+    (omega arith, (c₃ .pre .1 .0, c₃ .pre .1 .1 .0))
 
--- src/lib.rt:190:9
 formula-more-requires : (t : ℕ) → formula-lts.Need-more-requires (
   operand-below t,
   operand.Post,
@@ -359,9 +298,12 @@ formula-more-requires : (t : ℕ) → formula-lts.Need-more-requires (
   arrow-below t,
   arrow.Post,
 ) (formula-at t) formula.Post
-formula-more-requires t c κs = let m = c .before .before .before .before .before .before .pre .0 in let l = c .before .before .before .before .before .before .pre .1 .1 .1 in (omega arith, (c .before .before .before .before .before .before .pre .1 .0, (left-of _ (c .before .before .operand .ensures), joins-both)))
+formula-more-requires t c κs =
+    let c₆ = c .before .before .before .before .before .before in
+    let m = c₆ .pre .0 in
+    let l = c₆ .pre .1 .1 .1 in
+    (omega arith, (c₆ .pre .1 .0, (left-of _ (c .before .before .operand .ensures), joins-both)))
 
--- src/lib.rt:192:9
 formula-returns : (t : ℕ) → formula-lts.Need-returns (
   operand-below t,
   operand.Post,
@@ -372,7 +314,6 @@ formula-returns : (t : ℕ) → formula-lts.Need-returns (
 ) (formula-at t) formula.Post
 formula-returns t c = level-as _ _ _ (let e = c .if1 .taken in omega arith) (c .before .more .ensures _ _ (c .before .before .before .before .operand .ensures))
 
--- src/lib.rt:194:9
 formula-more-requires-2 : (t : ℕ) → formula-lts.Need-more-requires-2 (
   operand-below t,
   operand.Post,
@@ -381,9 +322,15 @@ formula-more-requires-2 : (t : ℕ) → formula-lts.Need-more-requires-2 (
   arrow-below t,
   arrow.Post,
 ) (formula-at t) formula.Post
-formula-more-requires-2 t c κs = let m = c .before .before .before .before .before .before .before .before .before .before .pre .0 in let l = c .before .before .before .before .before .before .before .before .before .before .pre .1 .1 .1 in let z = c .before .before .if1 .left in (omega arith, (c .before .before .before .before .before .before .before .before .before .before .pre .1 .0, (left-of _ (c .before .before .before .more .ensures _ _ (c .before .before .before .before .before .before .operand .ensures)), joins-either)))
+formula-more-requires-2 t c κs =
+    let c₃ = c .before .before .before in
+    let c₆ = c₃ .before .before .before in
+    let c₁₀ = c₆ .before .before .before .before in
+    let m = c₁₀ .pre .0 in
+    let l = c₁₀ .pre .1 .1 .1 in
+    let z = c .before .before .if1 .left in
+    (omega arith, (c₁₀ .pre .1 .0, (left-of _ (c₃ .more .ensures _ _ (c₆ .operand .ensures)), joins-either)))
 
--- src/lib.rt:196:9
 formula-returns-2 : (t : ℕ) → formula-lts.Need-returns-2 (
   operand-below t,
   operand.Post,
@@ -392,9 +339,11 @@ formula-returns-2 : (t : ℕ) → formula-lts.Need-returns-2 (
   arrow-below t,
   arrow.Post,
 ) (formula-at t) formula.Post
-formula-returns-2 t c = level-as _ _ _ (let e = c .if2 .taken in omega arith) (c .before .more2 .ensures _ _ (c .before .before .before .before .before .more .ensures _ _ (c .before .before .before .before .before .before .before .before .operand .ensures)))
+formula-returns-2 t c =
+    let c₅ = c .before .before .before .before .before in
+    let c₈ = c₅ .before .before .before in
+    level-as _ _ _ (let e = c .if2 .taken in omega arith) (c .before .more2 .ensures _ _ (c₅ .more .ensures _ _ (c₈ .operand .ensures)))
 
--- src/lib.rt:198:9
 formula-arrow-requires : (t : ℕ) → formula-lts.Need-arrow-requires (
   operand-below t,
   operand.Post,
@@ -403,9 +352,18 @@ formula-arrow-requires : (t : ℕ) → formula-lts.Need-arrow-requires (
   arrow-below t,
   arrow.Post,
 ) (formula-at t) formula.Post
-formula-arrow-requires t c κs = let m = c .before .before .before .before .before .before .before .before .before .before .before .before .before .before .pre .0 in let l = c .before .before .before .before .before .before .before .before .before .before .before .before .before .before .pre .1 .1 .1 in let z = c .before .before .before .before .before .before .if1 .left in let y = c .before .before .if2 .left in (omega arith, (c .before .before .before .before .before .before .before .before .before .before .before .before .before .before .pre .1 .0, left-of _ (c .before .before .before .more2 .ensures _ _ (c .before .before .before .before .before .before .before .more .ensures _ _ (c .before .before .before .before .before .before .before .before .before .before .operand .ensures)))))
+formula-arrow-requires t c κs =
+    let c₃ = c .before .before .before in
+    let c₆ = c₃ .before .before .before in
+    let c₇ = c₆ .before in
+    let c₁₀ = c₇ .before .before .before in
+    let c₁₄ = c₁₀ .before .before .before .before in
+    let m = c₁₄ .pre .0 in
+    let l = c₁₄ .pre .1 .1 .1 in
+    let z = c₆ .if1 .left in
+    let y = c .before .before .if2 .left in
+    (omega arith, (c₁₄ .pre .1 .0, left-of _ (c₃ .more2 .ensures _ _ (c₇ .more .ensures _ _ (c₁₀ .operand .ensures)))))
 
--- src/lib.rt:200:9
 formula-returns-3 : (t : ℕ) → formula-lts.Need-returns-3 (
   operand-below t,
   operand.Post,
@@ -414,9 +372,13 @@ formula-returns-3 : (t : ℕ) → formula-lts.Need-returns-3 (
   arrow-below t,
   arrow.Post,
 ) (formula-at t) formula.Post
-formula-returns-3 t c = level-as _ _ _ (let e = c .if3 .taken in omega arith) (c .before .arrow .ensures _ _ (c .before .before .before .before .before .more2 .ensures _ _ (c .before .before .before .before .before .before .before .before .before .more .ensures _ _ (c .before .before .before .before .before .before .before .before .before .before .before .before .operand .ensures))))
+formula-returns-3 t c =
+    let c₅ = c .before .before .before .before .before in
+    let c₉ = c₅ .before .before .before .before in
+    let c₁₂ = c₉ .before .before .before in
+    level-as _ _ _ (let e = c .if3 .taken in omega arith)
+    (c .before .arrow .ensures _ _ (c₅ .more2 .ensures _ _ (c₉ .more .ensures _ _ (c₁₂ .operand .ensures))))
 
--- src/lib.rt:202:5
 formula-more-requires-3 : (t : ℕ) → formula-lts.Need-more-requires-3 (
   operand-below t,
   operand.Post,
@@ -425,9 +387,21 @@ formula-more-requires-3 : (t : ℕ) → formula-lts.Need-more-requires-3 (
   arrow-below t,
   arrow.Post,
 ) (formula-at t) formula.Post
-formula-more-requires-3 t c κs = let m = c .before .before .before .before .before .before .before .before .before .before .before .before .before .before .before .before .before .before .pre .0 in let l = c .before .before .before .before .before .before .before .before .before .before .before .before .before .before .before .before .before .before .pre .1 .1 .1 in let z = c .before .before .before .before .before .before .before .before .before .before .if1 .left in let y = c .before .before .before .before .before .before .if2 .left in let x = c .before .before .if3 .left in (omega arith, (c .before .before .before .before .before .before .before .before .before .before .before .before .before .before .before .before .before .before .pre .1 .0, (left-of _ (c .before .before .before .arrow .ensures _ _ (c .before .before .before .before .before .before .before .more2 .ensures _ _ (c .before .before .before .before .before .before .before .before .before .before .before .more .ensures _ _ (c .before .before .before .before .before .before .before .before .before .before .before .before .before .before .operand .ensures)))), joins-alike)))
+formula-more-requires-3 t c κs =
+    let c₃ = c .before .before .before in
+    let c₆ = c₃ .before .before .before in
+    let c₇ = c₆ .before in
+    let c₁₀ = c₇ .before .before .before in
+    let c₁₁ = c₁₀ .before in
+    let c₁₄ = c₁₁ .before .before .before in
+    let c₁₈ = c₁₄ .before .before .before .before in
+    let m = c₁₈ .pre .0 in
+    let l = c₁₈ .pre .1 .1 .1 in
+    let z = c₁₀ .if1 .left in
+    let y = c₆ .if2 .left in
+    let x = c .before .before .if3 .left in
+    (omega arith, (c₁₈ .pre .1 .0, (left-of _ (c₃ .arrow .ensures _ _ (c₇ .more2 .ensures _ _ (c₁₁ .more .ensures _ _ (c₁₄ .operand .ensures)))), joins-alike)))
 
--- src/lib.rt:174:1
 formula-returns-4 : (t : ℕ) → formula-lts.Need-returns-4 (
   operand-below t,
   operand.Post,
@@ -436,15 +410,25 @@ formula-returns-4 : (t : ℕ) → formula-lts.Need-returns-4 (
   arrow-below t,
   arrow.Post,
 ) (formula-at t) formula.Post
-formula-returns-4 t c = level-as _ 0 _ (let l = c .before .before .before .before .before .before .before .before .before .before .before .before .before .before .before .before .before .before .before .pre .1 .1 .1 in let z = c .before .before .before .before .before .before .before .before .before .before .before .if1 .left in let y = c .before .before .before .before .before .before .before .if2 .left in let x = c .before .before .before .if3 .left in omega arith) (c .more3 .ensures _ _ (c .before .before .before .before .arrow .ensures _ _ (c .before .before .before .before .before .before .before .before .more2 .ensures _ _ (c .before .before .before .before .before .before .before .before .before .before .before .before .more .ensures _ _ (c .before .before .before .before .before .before .before .before .before .before .before .before .before .before .before .operand .ensures)))))
+formula-returns-4 t c =
+    let c₃ = c .before .before .before in
+    let c₄ = c₃ .before in
+    let c₇ = c₄ .before .before .before in
+    let c₈ = c₇ .before in
+    let c₁₁ = c₈ .before .before .before in
+    let c₁₂ = c₁₁ .before in
+    let c₁₅ = c₁₂ .before .before .before in
+    let c₁₉ = c₁₅ .before .before .before .before in
+    level-as _ 0 _ (let l = c₁₉ .pre .1 .1 .1 in let z = c₁₁ .if1 .left in let y = c₇ .if2 .left in let x = c₃ .if3 .left in omega arith)
+    (c .more3 .ensures _ _ (c₄ .arrow .ensures _ _ (c₈ .more2 .ensures _ _ (c₁₂ .more .ensures _ _ (c₁₅ .operand .ensures)))))
 
 abbrev more-Inv-loop : more-lts.InvT-loop
-more-Inv-loop text names in-use words₀ here₀ depth strength first reading₀ words here reading = Joined text (scopeOf text names in-use) depth strength words₀ here₀ (readingOf reading₀ here₀) words here (readingOf reading here)
+more-Inv-loop text names in-use words₀ here₀ depth strength first reading₀ words here reading =
+    Joined text (scopeOf text names in-use) depth strength words₀ here₀ (readingOf reading₀ here₀) words here (readingOf reading here)
 
 abbrev more-μ-loop : more-lts.MeasureT-loop
 more-μ-loop text names in-use words₀ here₀ depth strength first reading₀ words here reading = leftOf text here (readingOf reading here)
 
--- src/lib.rt:224:5
 more-loop-holds : (t : ℕ) → more-lts.Need-loop-holds (
   look-reads.Asked,
   look-reads.Learnt,
@@ -455,7 +439,6 @@ more-loop-holds : (t : ℕ) → more-lts.Need-loop-holds (
 ) (more-at t) more.Post more-Inv-loop more-μ-loop
 more-loop-holds t c = joined-left (c .before .pre .1 .1 .1) (c .before .pre .1 .1 .0)
 
--- src/lib.rt:226:13
 more-returns : (t : ℕ) → more-lts.Need-returns (
   look-reads.Asked,
   look-reads.Learnt,
@@ -466,18 +449,6 @@ more-returns : (t : ℕ) → more-lts.Need-returns (
 ) (more-at t) more.Post more-Inv-loop more-μ-loop
 more-returns t c = λ vs i X. joined-refused (c .before .loop .inv) X (refused-some _ _ (c .if1 .taken))
 
--- src/lib.rt:228:12
-more-element-copy-out-if2 : (t : ℕ) → more-lts.Need-element-copy-out-if2 (
-  look-reads.Asked,
-  look-reads.Learnt,
-  tighter-below t,
-  tighter.Post,
-  finish-reads.Asked,
-  finish-reads.Learnt,
-) (more-at t) more.Post more-Inv-loop more-μ-loop
-more-element-copy-out-if2 t c = search needs
-
--- src/lib.rt:228:26
 more-sub-if2 : (t : ℕ) → more-lts.Need-sub-if2 (
   look-reads.Asked,
   look-reads.Learnt,
@@ -488,7 +459,6 @@ more-sub-if2 : (t : ℕ) → more-lts.Need-sub-if2 (
 ) (more-at t) more.Post more-Inv-loop more-μ-loop
 more-sub-if2 t c = let l = joining-most (c .before .before .before .before .pre .1 .1 .1) in omega arith
 
--- src/lib.rt:229:13
 more-returns-2 : (t : ℕ) → more-lts.Need-returns-2 (
   look-reads.Asked,
   look-reads.Learnt,
@@ -499,29 +469,6 @@ more-returns-2 : (t : ℕ) → more-lts.Need-returns-2 (
 ) (more-at t) more.Post more-Inv-loop more-μ-loop
 more-returns-2 t c = λ vs i X. joined-ends (c .before .before .before .loop .inv) (got-zero _ (c .before .before .if1 .left)) X (c .if2 .taken)
 
--- src/lib.rt:231:20
-more-element-copy-out-left : (t : ℕ) → more-lts.Need-element-copy-out-left (
-  look-reads.Asked,
-  look-reads.Learnt,
-  tighter-below t,
-  tighter.Post,
-  finish-reads.Asked,
-  finish-reads.Learnt,
-) (more-at t) more.Post more-Inv-loop more-μ-loop
-more-element-copy-out-left t c = search needs
-
--- src/lib.rt:232:22
-more-element-copy-out-behind : (t : ℕ) → more-lts.Need-element-copy-out-behind (
-  look-reads.Asked,
-  look-reads.Learnt,
-  tighter-below t,
-  tighter.Post,
-  finish-reads.Asked,
-  finish-reads.Learnt,
-) (more-at t) more.Post more-Inv-loop more-μ-loop
-more-element-copy-out-behind t c = search needs
-
--- src/lib.rt:233:9
 more-look-requires : (t : ℕ) → more-lts.Need-look-requires (
   look-reads.Asked,
   look-reads.Learnt,
@@ -532,7 +479,6 @@ more-look-requires : (t : ℕ) → more-lts.Need-look-requires (
 ) (more-at t) more.Post more-Inv-loop more-μ-loop
 more-look-requires t c κs = c .before .before .before .before .before .before .loop .inv .size
 
--- src/lib.rt:234:13
 more-tighter-requires : (t : ℕ) → more-lts.Need-tighter-requires (
   look-reads.Asked,
   look-reads.Learnt,
@@ -541,9 +487,12 @@ more-tighter-requires : (t : ℕ) → more-lts.Need-tighter-requires (
   finish-reads.Asked,
   finish-reads.Learnt,
 ) (more-at t) more.Post more-Inv-loop more-μ-loop
-more-tighter-requires t c κs = let m = c .before .before .before .before .before .before .before .before .before .before .before .pre .0 in let l = joining-most (c .before .before .before .before .before .before .before .before .before .before .before .pre .1 .1 .1) in (omega arith, (c .before .before .before .before .before .before .before .before .before .before .before .pre .1 .0, (looks-ready (c .before .before .look .ensures), l)))
+more-tighter-requires t c κs =
+    let c₁₁ = c .before .before .before .before .before .before .before .before .before .before .before in
+    let m = c₁₁ .pre .0 in
+    let l = joining-most (c₁₁ .pre .1 .1 .1) in
+    (omega arith, (c₁₁ .pre .1 .0, (looks-ready (c .before .before .look .ensures), l)))
 
--- src/lib.rt:235:39
 more-sub-finish : (t : ℕ) → more-lts.Need-sub-finish (
   look-reads.Asked,
   look-reads.Learnt,
@@ -552,9 +501,11 @@ more-sub-finish : (t : ℕ) → more-lts.Need-sub-finish (
   finish-reads.Asked,
   finish-reads.Learnt,
 ) (more-at t) more.Post more-Inv-loop more-μ-loop
-more-sub-finish t c = let l = joining-most (c .before .before .before .before .before .before .before .before .before .before .before .before .before .before .pre .1 .1 .1) in omega arith
+more-sub-finish t c =
+    let c₁₄ = c .before .before .before .before .before .before .before .before .before .before .before .before .before .before in
+    let l = joining-most (c₁₄ .pre .1 .1 .1) in
+    omega arith
 
--- src/lib.rt:235:9
 more-finish-requires : (t : ℕ) → more-lts.Need-finish-requires (
   look-reads.Asked,
   look-reads.Learnt,
@@ -563,9 +514,11 @@ more-finish-requires : (t : ℕ) → more-lts.Need-finish-requires (
   finish-reads.Asked,
   finish-reads.Learnt,
 ) (more-at t) more.Post more-Inv-loop more-μ-loop
-more-finish-requires t c κs = let l = joining-most (c .before .before .before .before .before .before .before .before .before .before .before .before .before .before .pre .1 .1 .1) in (c .before .before .tighter .ensures .size, ((omega arith, omega arith), λ x. absurd (omega arith)))
+more-finish-requires t c κs =
+    let c₁₄ = c .before .before .before .before .before .before .before .before .before .before .before .before .before .before in
+    let l = joining-most (c₁₄ .pre .1 .1 .1) in
+    (c .before .before .tighter .ensures .size, ((omega arith, omega arith), λ x. absurd (omega arith)))
 
--- src/lib.rt:224:5
 more-loop-less : (t : ℕ) → more-lts.Need-loop-less (
   look-reads.Asked,
   look-reads.Learnt,
@@ -574,9 +527,14 @@ more-loop-less : (t : ℕ) → more-lts.Need-loop-less (
   finish-reads.Asked,
   finish-reads.Learnt,
 ) (more-at t) more.Post more-Inv-loop more-μ-loop
-more-loop-less t c = joined-less (c .before .before .before .before .before .before .before .before .before .before .before .before .before .loop .inv) (got-zero _ (c .before .before .before .before .before .before .before .before .before .before .before .before .if1 .left)) (c .before .before .before .before .before .before .before .before .before .before .if2 .left) (c .before .before .before .before .before .before .look .ensures) (c .before .before .before .tighter .ensures) (c .finish .ensures)
+more-loop-less t c =
+    let c₃ = c .before .before .before in
+    let c₆ = c₃ .before .before .before in
+    let c₁₀ = c₆ .before .before .before .before in
+    let c₁₂ = c₁₀ .before .before in
+    let c₁₃ = c₁₂ .before in
+    joined-less (c₁₃ .loop .inv) (got-zero _ (c₁₂ .if1 .left)) (c₁₀ .if2 .left) (c₆ .look .ensures) (c₃ .tighter .ensures) (c .finish .ensures)
 
--- src/lib.rt:224:5
 more-loop-again : (t : ℕ) → more-lts.Need-loop-again (
   look-reads.Asked,
   look-reads.Learnt,
@@ -585,51 +543,14 @@ more-loop-again : (t : ℕ) → more-lts.Need-loop-again (
   finish-reads.Asked,
   finish-reads.Learnt,
 ) (more-at t) more.Post more-Inv-loop more-μ-loop
-more-loop-again t c = joined-on (c .before .before .before .before .before .before .before .before .before .before .before .before .before .loop .inv) (got-zero _ (c .before .before .before .before .before .before .before .before .before .before .before .before .if1 .left)) (c .before .before .before .before .before .before .before .before .before .before .if2 .left) (c .before .before .before .before .before .before .look .ensures) (c .before .before .before .tighter .ensures) (c .finish .ensures)
+more-loop-again t c =
+    let c₃ = c .before .before .before in
+    let c₆ = c₃ .before .before .before in
+    let c₁₀ = c₆ .before .before .before .before in
+    let c₁₂ = c₁₀ .before .before in
+    let c₁₃ = c₁₂ .before in
+    joined-on (c₁₃ .loop .inv) (got-zero _ (c₁₂ .if1 .left)) (c₁₀ .if2 .left) (c₆ .look .ensures) (c₃ .tighter .ensures) (c .finish .ensures)
 
--- src/lib.rt:308:16
-operand-element-copy-out-kind : (t : ℕ) → operand-lts.Need-element-copy-out-kind (
-  opens-reads.Asked,
-  opens-reads.Learnt,
-  atom-reads.Asked,
-  atom-reads.Learnt,
-  bracket-below t,
-  bracket.Post,
-  look-reads.Asked,
-  look-reads.Learnt,
-  operand-below t,
-  operand.Post,
-  finish-reads.Asked,
-  finish-reads.Learnt,
-  binds-place-reads.Asked,
-  binds-place-reads.Learnt,
-  quantified-below t,
-  quantified.Post,
-) (operand-at t) operand.Post
-operand-element-copy-out-kind t c = search needs
-
--- src/lib.rt:309:9
-operand-opens-requires : (t : ℕ) → operand-lts.Need-opens-requires (
-  opens-reads.Asked,
-  opens-reads.Learnt,
-  atom-reads.Asked,
-  atom-reads.Learnt,
-  bracket-below t,
-  bracket.Post,
-  look-reads.Asked,
-  look-reads.Learnt,
-  operand-below t,
-  operand.Post,
-  finish-reads.Asked,
-  finish-reads.Learnt,
-  binds-place-reads.Asked,
-  binds-place-reads.Learnt,
-  quantified-below t,
-  quantified.Post,
-) (operand-at t) operand.Post
-operand-opens-requires t c κs = search needs
-
--- src/lib.rt:310:9
 operand-atom-requires : (t : ℕ) → operand-lts.Need-atom-requires (
   opens-reads.Asked,
   opens-reads.Learnt,
@@ -650,7 +571,6 @@ operand-atom-requires : (t : ℕ) → operand-lts.Need-atom-requires (
 ) (operand-at t) operand.Post
 operand-atom-requires t c κs = c .before .before .before .before .before .before .pre .1
 
--- src/lib.rt:310:9
 operand-returns : (t : ℕ) → operand-lts.Need-returns (
   opens-reads.Asked,
   opens-reads.Learnt,
@@ -669,9 +589,12 @@ operand-returns : (t : ℕ) → operand-lts.Need-returns (
   quantified-below t,
   quantified.Post,
 ) (operand-at t) operand.Post
-operand-returns t c = operand-atom _ (c .before .before .before .before .before .before .before .pre .1 .1) (closed-by _ _ (c .before .before .before .before .opens .ensures) (c .before .before .before .if1 .taken)) (c .atom .ensures)
+operand-returns t c =
+    let c₃ = c .before .before .before in
+    let c₄ = c₃ .before in
+    let c₇ = c₄ .before .before .before in
+    operand-atom _ (c₇ .pre .1 .1) (closed-by _ _ (c₄ .opens .ensures) (c₃ .if1 .taken)) (c .atom .ensures)
 
--- src/lib.rt:313:9
 operand-returns-2 : (t : ℕ) → operand-lts.Need-returns-2 (
   opens-reads.Asked,
   opens-reads.Learnt,
@@ -690,9 +613,10 @@ operand-returns-2 : (t : ℕ) → operand-lts.Need-returns-2 (
   quantified-below t,
   quantified.Post,
 ) (operand-at t) operand.Post
-operand-returns-2 t c = operand-deep _ (c .before .before .before .before .before .pre .1 .1) (opened-by _ _ (c .before .before .opens .ensures) (c .before .if1 .left)) (c .if2 .taken)
+operand-returns-2 t c =
+    let c₅ = c .before .before .before .before .before in
+    operand-deep _ (c₅ .pre .1 .1) (opened-by _ _ (c .before .before .opens .ensures) (c .before .if1 .left)) (c .if2 .taken)
 
--- src/lib.rt:316:58
 operand-sub-bracket : (t : ℕ) → operand-lts.Need-sub-bracket (
   opens-reads.Asked,
   opens-reads.Learnt,
@@ -713,7 +637,6 @@ operand-sub-bracket : (t : ℕ) → operand-lts.Need-sub-bracket (
 ) (operand-at t) operand.Post
 operand-sub-bracket t c = let z = c .before .before .before .if2 .left in omega arith
 
--- src/lib.rt:316:9
 operand-bracket-requires : (t : ℕ) → operand-lts.Need-bracket-requires (
   opens-reads.Asked,
   opens-reads.Learnt,
@@ -732,9 +655,13 @@ operand-bracket-requires : (t : ℕ) → operand-lts.Need-bracket-requires (
   quantified-below t,
   quantified.Post,
 ) (operand-at t) operand.Post
-operand-bracket-requires t c κs = let m = c .before .before .before .before .before .before .before .before .pre .0 in let z = c .before .before .before .if2 .left in (omega arith, (c .before .before .before .before .before .before .before .before .pre .1 .0, (c .before .before .before .before .before .before .before .before .pre .1 .1, c .before .before .if3 .taken)))
+operand-bracket-requires t c κs =
+    let c₃ = c .before .before .before in
+    let c₈ = c₃ .before .before .before .before .before in
+    let m = c₈ .pre .0 in
+    let z = c₃ .if2 .left in
+    (omega arith, (c₈ .pre .1 .0, (c₈ .pre .1 .1, c .before .before .if3 .taken)))
 
--- src/lib.rt:316:9
 operand-returns-3 : (t : ℕ) → operand-lts.Need-returns-3 (
   opens-reads.Asked,
   opens-reads.Learnt,
@@ -753,30 +680,12 @@ operand-returns-3 : (t : ℕ) → operand-lts.Need-returns-3 (
   quantified-below t,
   quantified.Post,
 ) (operand-at t) operand.Post
-operand-returns-3 t c = operand-bracket _ (c .before .before .before .before .before .before .before .before .before .pre .1 .1) (c .before .before .before .before .if2 .left) (c .before .before .before .if3 .taken) (c .bracket .ensures)
+operand-returns-3 t c =
+    let c₃ = c .before .before .before in
+    let c₄ = c₃ .before in
+    let c₉ = c₄ .before .before .before .before .before in
+    operand-bracket _ (c₉ .pre .1 .1) (c₄ .if2 .left) (c₃ .if3 .taken) (c .bracket .ensures)
 
--- src/lib.rt:319:22
-operand-element-copy-out-behind : (t : ℕ) → operand-lts.Need-element-copy-out-behind (
-  opens-reads.Asked,
-  opens-reads.Learnt,
-  atom-reads.Asked,
-  atom-reads.Learnt,
-  bracket-below t,
-  bracket.Post,
-  look-reads.Asked,
-  look-reads.Learnt,
-  operand-below t,
-  operand.Post,
-  finish-reads.Asked,
-  finish-reads.Learnt,
-  binds-place-reads.Asked,
-  binds-place-reads.Learnt,
-  quantified-below t,
-  quantified.Post,
-) (operand-at t) operand.Post
-operand-element-copy-out-behind t c = search needs
-
--- src/lib.rt:320:9
 operand-look-requires : (t : ℕ) → operand-lts.Need-look-requires (
   opens-reads.Asked,
   opens-reads.Learnt,
@@ -797,7 +706,6 @@ operand-look-requires : (t : ℕ) → operand-lts.Need-look-requires (
 ) (operand-at t) operand.Post
 operand-look-requires t c κs = c .before .before .before .before .before .before .before .before .before .pre .1 .1 .size
 
--- src/lib.rt:321:63
 operand-sub-operand : (t : ℕ) → operand-lts.Need-sub-operand (
   opens-reads.Asked,
   opens-reads.Learnt,
@@ -818,7 +726,6 @@ operand-sub-operand : (t : ℕ) → operand-lts.Need-sub-operand (
 ) (operand-at t) operand.Post
 operand-sub-operand t c = let z = c .before .before .before .before .before .before .before .if2 .left in omega arith
 
--- src/lib.rt:321:13
 operand-operand-requires : (t : ℕ) → operand-lts.Need-operand-requires (
   opens-reads.Asked,
   opens-reads.Learnt,
@@ -837,9 +744,13 @@ operand-operand-requires : (t : ℕ) → operand-lts.Need-operand-requires (
   quantified-below t,
   quantified.Post,
 ) (operand-at t) operand.Post
-operand-operand-requires t c κs = let m = c .before .before .before .before .before .before .before .before .before .before .before .before .pre .0 in let z = c .before .before .before .before .before .before .before .if2 .left in (omega arith, (c .before .before .before .before .before .before .before .before .before .before .before .before .pre .1 .0, looks-ready (c .before .before .look .ensures)))
+operand-operand-requires t c κs =
+    let c₇ = c .before .before .before .before .before .before .before in
+    let c₁₂ = c₇ .before .before .before .before .before in
+    let m = c₁₂ .pre .0 in
+    let z = c₇ .if2 .left in
+    (omega arith, (c₁₂ .pre .1 .0, looks-ready (c .before .before .look .ensures)))
 
--- src/lib.rt:322:9
 operand-finish-requires : (t : ℕ) → operand-lts.Need-finish-requires (
   opens-reads.Asked,
   opens-reads.Learnt,
@@ -860,7 +771,6 @@ operand-finish-requires : (t : ℕ) → operand-lts.Need-finish-requires (
 ) (operand-at t) operand.Post
 operand-finish-requires t c κs = (c .before .before .operand .ensures .size, ((omega arith, omega arith), λ x. absurd (omega arith)))
 
--- src/lib.rt:322:9
 operand-returns-4 : (t : ℕ) → operand-lts.Need-returns-4 (
   opens-reads.Asked,
   opens-reads.Learnt,
@@ -879,30 +789,14 @@ operand-returns-4 : (t : ℕ) → operand-lts.Need-returns-4 (
   quantified-below t,
   quantified.Post,
 ) (operand-at t) operand.Post
-operand-returns-4 t c = operand-not _ (c .before .before .before .before .before .before .before .before .before .before .before .before .before .before .before .before .pre .1 .1) (c .before .before .before .before .before .before .before .before .before .before .before .if2 .left) (c .before .before .before .before .before .before .before .before .before .if4 .taken) (c .before .before .before .before .before .before .look .ensures) (c .before .before .before .operand .ensures) (c .finish .ensures)
+operand-returns-4 t c =
+    let c₃ = c .before .before .before in
+    let c₆ = c₃ .before .before .before in
+    let c₉ = c₆ .before .before .before in
+    let c₁₁ = c₉ .before .before in
+    let c₁₆ = c₁₁ .before .before .before .before .before in
+    operand-not _ (c₁₆ .pre .1 .1) (c₁₁ .if2 .left) (c₉ .if4 .taken) (c₆ .look .ensures) (c₃ .operand .ensures) (c .finish .ensures)
 
--- src/lib.rt:324:8
-operand-binds-place-requires : (t : ℕ) → operand-lts.Need-binds-place-requires (
-  opens-reads.Asked,
-  opens-reads.Learnt,
-  atom-reads.Asked,
-  atom-reads.Learnt,
-  bracket-below t,
-  bracket.Post,
-  look-reads.Asked,
-  look-reads.Learnt,
-  operand-below t,
-  operand.Post,
-  finish-reads.Asked,
-  finish-reads.Learnt,
-  binds-place-reads.Asked,
-  binds-place-reads.Learnt,
-  quantified-below t,
-  quantified.Post,
-) (operand-at t) operand.Post
-operand-binds-place-requires t c κs = search needs
-
--- src/lib.rt:325:61
 operand-sub-quantified : (t : ℕ) → operand-lts.Need-sub-quantified (
   opens-reads.Asked,
   opens-reads.Learnt,
@@ -923,7 +817,6 @@ operand-sub-quantified : (t : ℕ) → operand-lts.Need-sub-quantified (
 ) (operand-at t) operand.Post
 operand-sub-quantified t c = let z = c .before .before .before .before .before .before .if2 .left in omega arith
 
--- src/lib.rt:325:9
 operand-quantified-requires : (t : ℕ) → operand-lts.Need-quantified-requires (
   opens-reads.Asked,
   opens-reads.Learnt,
@@ -942,9 +835,20 @@ operand-quantified-requires : (t : ℕ) → operand-lts.Need-quantified-requires
   quantified-below t,
   quantified.Post,
 ) (operand-at t) operand.Post
-operand-quantified-requires t c κs = let m = c .before .before .before .before .before .before .before .before .before .before .before .pre .0 in let z = c .before .before .before .before .before .before .if2 .left in (omega arith, (c .before .before .before .before .before .before .before .before .before .before .before .pre .1 .0, (c .before .before .before .before .before .before .before .before .before .before .before .pre .1 .1, (opens-quantifier _ (opened-by _ _ (c .before .before .before .before .before .before .before .before .opens .ensures) (c .before .before .before .before .before .before .before .if1 .left)) (c .before .before .before .before .before .if3 .left) (c .before .before .before .before .if4 .left), order-place (kindAt (c .before .before .before .before .before .before .before .before .before .before .before .args .here .now)) _ (c .before .before .before .binds-place .ensures) (c .before .before .if5 .taken)))))
+operand-quantified-requires t c κs =
+    let c₃ = c .before .before .before in
+    let c₄ = c₃ .before in
+    let c₅ = c₄ .before in
+    let c₆ = c₅ .before in
+    let c₇ = c₆ .before in
+    let c₈ = c₇ .before in
+    let c₁₁ = c₈ .before .before .before in
+    let m = c₁₁ .pre .0 in
+    let z = c₆ .if2 .left in
+    let q = opens-quantifier _ (opened-by _ _ (c₈ .opens .ensures) (c₇ .if1 .left)) (c₅ .if3 .left) (c₄ .if4 .left) in
+    let o = order-place (kindAt (c₁₁ .args .here .now)) _ (c₃ .binds-place .ensures) (c .before .before .if5 .taken) in
+    (omega arith, (c₁₁ .pre .1 .0, (c₁₁ .pre .1 .1, (q, o))))
 
--- src/lib.rt:325:9
 operand-returns-5 : (t : ℕ) → operand-lts.Need-returns-5 (
   opens-reads.Asked,
   opens-reads.Learnt,
@@ -963,9 +867,16 @@ operand-returns-5 : (t : ℕ) → operand-lts.Need-returns-5 (
   quantified-below t,
   quantified.Post,
 ) (operand-at t) operand.Post
-operand-returns-5 t c = let q = opens-quantifier _ (opened-by _ _ (c .before .before .before .before .before .before .before .before .before .opens .ensures) (c .before .before .before .before .before .before .before .before .if1 .left)) (c .before .before .before .before .before .before .if3 .left) (c .before .before .before .before .before .if4 .left) in operand-quantifier _ (c .before .before .before .before .before .before .before .before .before .before .before .before .pre .1 .1) (c .before .before .before .before .before .before .before .if2 .left) (q .0) (q .1) (c .quantified .ensures)
+operand-returns-5 t c =
+    let c₅ = c .before .before .before .before .before in
+    let c₆ = c₅ .before in
+    let c₇ = c₆ .before in
+    let c₈ = c₇ .before in
+    let c₉ = c₈ .before in
+    let c₁₂ = c₉ .before .before .before in
+    let q = opens-quantifier _ (opened-by _ _ (c₉ .opens .ensures) (c₈ .if1 .left)) (c₆ .if3 .left) (c₅ .if4 .left) in
+    operand-quantifier _ (c₁₂ .pre .1 .1) (c₇ .if2 .left) (q .0) (q .1) (c .quantified .ensures)
 
--- src/lib.rt:327:50
 operand-sub-quantified-2 : (t : ℕ) → operand-lts.Need-sub-quantified-2 (
   opens-reads.Asked,
   opens-reads.Learnt,
@@ -986,7 +897,6 @@ operand-sub-quantified-2 : (t : ℕ) → operand-lts.Need-sub-quantified-2 (
 ) (operand-at t) operand.Post
 operand-sub-quantified-2 t c = let z = c .before .before .before .before .before .before .if2 .left in omega arith
 
--- src/lib.rt:327:5
 operand-quantified-requires-2 : (t : ℕ) → operand-lts.Need-quantified-requires-2 (
   opens-reads.Asked,
   opens-reads.Learnt,
@@ -1005,9 +915,20 @@ operand-quantified-requires-2 : (t : ℕ) → operand-lts.Need-quantified-requir
   quantified-below t,
   quantified.Post,
 ) (operand-at t) operand.Post
-operand-quantified-requires-2 t c κs = let m = c .before .before .before .before .before .before .before .before .before .before .before .pre .0 in let z = c .before .before .before .before .before .before .if2 .left in (omega arith, (c .before .before .before .before .before .before .before .before .before .before .before .pre .1 .0, (c .before .before .before .before .before .before .before .before .before .before .before .pre .1 .1, (opens-quantifier _ (opened-by _ _ (c .before .before .before .before .before .before .before .before .opens .ensures) (c .before .before .before .before .before .before .before .if1 .left)) (c .before .before .before .before .before .if3 .left) (c .before .before .before .before .if4 .left), order-set (kindAt (c .before .before .before .before .before .before .before .before .before .before .before .args .here .now)) _ (c .before .before .before .binds-place .ensures) (c .before .before .if5 .left)))))
+operand-quantified-requires-2 t c κs =
+    let c₃ = c .before .before .before in
+    let c₄ = c₃ .before in
+    let c₅ = c₄ .before in
+    let c₆ = c₅ .before in
+    let c₇ = c₆ .before in
+    let c₈ = c₇ .before in
+    let c₁₁ = c₈ .before .before .before in
+    let m = c₁₁ .pre .0 in
+    let z = c₆ .if2 .left in
+    let q = opens-quantifier _ (opened-by _ _ (c₈ .opens .ensures) (c₇ .if1 .left)) (c₅ .if3 .left) (c₄ .if4 .left) in
+    let o = order-set (kindAt (c₁₁ .args .here .now)) _ (c₃ .binds-place .ensures) (c .before .before .if5 .left) in
+    (omega arith, (c₁₁ .pre .1 .0, (c₁₁ .pre .1 .1, (q, o))))
 
--- src/lib.rt:295:1
 operand-returns-6 : (t : ℕ) → operand-lts.Need-returns-6 (
   opens-reads.Asked,
   opens-reads.Learnt,
@@ -1026,26 +947,16 @@ operand-returns-6 : (t : ℕ) → operand-lts.Need-returns-6 (
   quantified-below t,
   quantified.Post,
 ) (operand-at t) operand.Post
-operand-returns-6 t c = let q = opens-quantifier _ (opened-by _ _ (c .before .before .before .before .before .before .before .before .before .opens .ensures) (c .before .before .before .before .before .before .before .before .if1 .left)) (c .before .before .before .before .before .before .if3 .left) (c .before .before .before .before .before .if4 .left) in operand-quantifier _ (c .before .before .before .before .before .before .before .before .before .before .before .before .pre .1 .1) (c .before .before .before .before .before .before .before .if2 .left) (q .0) (q .1) (c .quantified2 .ensures)
+operand-returns-6 t c =
+    let c₅ = c .before .before .before .before .before in
+    let c₆ = c₅ .before in
+    let c₇ = c₆ .before in
+    let c₈ = c₇ .before in
+    let c₉ = c₈ .before in
+    let c₁₂ = c₉ .before .before .before in
+    let q = opens-quantifier _ (opened-by _ _ (c₉ .opens .ensures) (c₈ .if1 .left)) (c₆ .if3 .left) (c₅ .if4 .left) in
+    operand-quantifier _ (c₁₂ .pre .1 .1) (c₇ .if2 .left) (q .0) (q .1) (c .quantified2 .ensures)
 
--- src/lib.rt:369:16
-quantified-element-copy-out-kind : (t : ℕ) → quantified-lts.Need-element-copy-out-kind (
-  read-binder-reads.Asked,
-  read-binder-reads.Learnt,
-  bound-reads.Asked,
-  bound-reads.Learnt,
-  greater-reads.Asked,
-  greater-reads.Learnt,
-  look-reads.Asked,
-  look-reads.Learnt,
-  formula-below t,
-  formula.Post,
-  finish-reads.Asked,
-  finish-reads.Learnt,
-) (quantified-at t) quantified.Post
-quantified-element-copy-out-kind t c = search needs
-
--- src/lib.rt:370:46
 quantified-element-copy-out-read-binder :
     (t : ℕ) → quantified-lts.Need-element-copy-out-read-binder (
       read-binder-reads.Asked,
@@ -1063,41 +974,6 @@ quantified-element-copy-out-read-binder :
     ) (quantified-at t) quantified.Post
 quantified-element-copy-out-read-binder t c = search needs
 
--- src/lib.rt:370:11
-quantified-read-binder-requires : (t : ℕ) → quantified-lts.Need-read-binder-requires (
-  read-binder-reads.Asked,
-  read-binder-reads.Learnt,
-  bound-reads.Asked,
-  bound-reads.Learnt,
-  greater-reads.Asked,
-  greater-reads.Learnt,
-  look-reads.Asked,
-  look-reads.Learnt,
-  formula-below t,
-  formula.Post,
-  finish-reads.Asked,
-  finish-reads.Learnt,
-) (quantified-at t) quantified.Post
-quantified-read-binder-requires t c κs = search needs
-
--- src/lib.rt:371:34
-quantified-enum-known-start : (t : ℕ) → quantified-lts.Need-enum-known-start (
-  read-binder-reads.Asked,
-  read-binder-reads.Learnt,
-  bound-reads.Asked,
-  bound-reads.Learnt,
-  greater-reads.Asked,
-  greater-reads.Learnt,
-  look-reads.Asked,
-  look-reads.Learnt,
-  formula-below t,
-  formula.Post,
-  finish-reads.Asked,
-  finish-reads.Learnt,
-) (quantified-at t) quantified.Post
-quantified-enum-known-start t c = search needs
-
--- src/lib.rt:372:25
 quantified-bound-requires : (t : ℕ) → quantified-lts.Need-bound-requires (
   read-binder-reads.Asked,
   read-binder-reads.Learnt,
@@ -1114,24 +990,6 @@ quantified-bound-requires : (t : ℕ) → quantified-lts.Need-bound-requires (
 ) (quantified-at t) quantified.Post
 quantified-bound-requires t c κs = (binder-there (c .before .before .before .read-binder .ensures) (c .before .start .given .1)) .few
 
--- src/lib.rt:373:36
-quantified-element-copy-out-greater : (t : ℕ) → quantified-lts.Need-element-copy-out-greater (
-  read-binder-reads.Asked,
-  read-binder-reads.Learnt,
-  bound-reads.Asked,
-  bound-reads.Learnt,
-  greater-reads.Asked,
-  greater-reads.Learnt,
-  look-reads.Asked,
-  look-reads.Learnt,
-  formula-below t,
-  formula.Post,
-  finish-reads.Asked,
-  finish-reads.Learnt,
-) (quantified-at t) quantified.Post
-quantified-element-copy-out-greater t c = search needs
-
--- src/lib.rt:373:50
 quantified-add-greater : (t : ℕ) → quantified-lts.Need-add-greater (
   read-binder-reads.Asked,
   read-binder-reads.Learnt,
@@ -1146,43 +1004,12 @@ quantified-add-greater : (t : ℕ) → quantified-lts.Need-add-greater (
   finish-reads.Asked,
   finish-reads.Learnt,
 ) (quantified-at t) quantified.Post
-quantified-add-greater t c = let l = (binder-there (c .before .before .before .before .before .read-binder .ensures) (c .before .before .before .start .given .1)) .few in omega arith
+quantified-add-greater t c =
+    let c₃ = c .before .before .before in
+    let c₅ = c₃ .before .before in
+    let l = (binder-there (c₅ .read-binder .ensures) (c₃ .start .given .1)) .few in
+    omega arith
 
--- src/lib.rt:373:28
-quantified-greater-requires : (t : ℕ) → quantified-lts.Need-greater-requires (
-  read-binder-reads.Asked,
-  read-binder-reads.Learnt,
-  bound-reads.Asked,
-  bound-reads.Learnt,
-  greater-reads.Asked,
-  greater-reads.Learnt,
-  look-reads.Asked,
-  look-reads.Learnt,
-  formula-below t,
-  formula.Post,
-  finish-reads.Asked,
-  finish-reads.Learnt,
-) (quantified-at t) quantified.Post
-quantified-greater-requires t c κs = search needs
-
--- src/lib.rt:373:13
-quantified-element-write-here : (t : ℕ) → quantified-lts.Need-element-write-here (
-  read-binder-reads.Asked,
-  read-binder-reads.Learnt,
-  bound-reads.Asked,
-  bound-reads.Learnt,
-  greater-reads.Asked,
-  greater-reads.Learnt,
-  look-reads.Asked,
-  look-reads.Learnt,
-  formula-below t,
-  formula.Post,
-  finish-reads.Asked,
-  finish-reads.Learnt,
-) (quantified-at t) quantified.Post
-quantified-element-write-here t c = search needs
-
--- src/lib.rt:374:13
 quantified-look-requires : (t : ℕ) → quantified-lts.Need-look-requires (
   read-binder-reads.Asked,
   read-binder-reads.Learnt,
@@ -1197,9 +1024,10 @@ quantified-look-requires : (t : ℕ) → quantified-lts.Need-look-requires (
   finish-reads.Asked,
   finish-reads.Learnt,
 ) (quantified-at t) quantified.Post
-quantified-look-requires t c κs = size-after (c .before .before .before .before .before .before .before .before .before .before .before .args .here .now) 3 (c .before .greater .result) (c .before .before .before .before .before .before .before .before .before .before .before .pre .1 .1 .0 .size)
+quantified-look-requires t c κs =
+    let c₁₁ = c .before .before .before .before .before .before .before .before .before .before .before in
+    size-after (c₁₁ .args .here .now) 3 (c .before .greater .result) (c₁₁ .pre .1 .1 .0 .size)
 
--- src/lib.rt:375:46
 quantified-add-formula : (t : ℕ) → quantified-lts.Need-add-formula (
   read-binder-reads.Asked,
   read-binder-reads.Learnt,
@@ -1214,9 +1042,12 @@ quantified-add-formula : (t : ℕ) → quantified-lts.Need-add-formula (
   finish-reads.Asked,
   finish-reads.Learnt,
 ) (quantified-at t) quantified.Post
-quantified-add-formula t c = let l = (binder-there (c .before .before .before .before .before .before .before .before .before .read-binder .ensures) (c .before .before .before .before .before .before .before .start .given .1)) .few in omega arith
+quantified-add-formula t c =
+    let c₇ = c .before .before .before .before .before .before .before in
+    let c₉ = c₇ .before .before in
+    let l = (binder-there (c₉ .read-binder .ensures) (c₇ .start .given .1)) .few in
+    omega arith
 
--- src/lib.rt:375:17
 quantified-formula-requires : (t : ℕ) → quantified-lts.Need-formula-requires (
   read-binder-reads.Asked,
   read-binder-reads.Learnt,
@@ -1231,9 +1062,16 @@ quantified-formula-requires : (t : ℕ) → quantified-lts.Need-formula-requires
   finish-reads.Asked,
   finish-reads.Learnt,
 ) (quantified-at t) quantified.Post
-quantified-formula-requires t c κs = let m = c .before .before .before .before .before .before .before .before .before .before .before .before .before .before .before .pre .0 in (omega arith, (bound-fits (c .before .before .before .before .before .before .before .bound .ensures) (c .before .before .before .before .before .before .before .before .before .before .before .before .before .before .before .pre .1 .0) ((binder-there (c .before .before .before .before .before .before .before .before .before .before .before .read-binder .ensures) (c .before .before .before .before .before .before .before .before .before .start .given .1)) .span), (looks-ready (c .before .before .before .look .ensures), omega arith)))
+quantified-formula-requires t c κs =
+    let c₃ = c .before .before .before in
+    let c₇ = c₃ .before .before .before .before in
+    let c₉ = c₇ .before .before in
+    let c₁₁ = c₉ .before .before in
+    let c₁₅ = c₁₁ .before .before .before .before in
+    let m = c₁₅ .pre .0 in
+    let b = binder-there (c₁₁ .read-binder .ensures) (c₉ .start .given .1) in
+    (omega arith, (bound-fits (c₇ .bound .ensures) (c₁₅ .pre .1 .0) (b .span), (looks-ready (c₃ .look .ensures), omega arith)))
 
--- src/lib.rt:376:13
 quantified-finish-requires : (t : ℕ) → quantified-lts.Need-finish-requires (
   read-binder-reads.Asked,
   read-binder-reads.Learnt,
@@ -1248,60 +1086,16 @@ quantified-finish-requires : (t : ℕ) → quantified-lts.Need-finish-requires (
   finish-reads.Asked,
   finish-reads.Learnt,
 ) (quantified-at t) quantified.Post
-quantified-finish-requires t c κs = let p = c .before .before .before .before .before .before .before .before .before .before .before .before .before .before .before .before .before .before .pre .1 .1 .1 .0 in let l = p .0 in let g = p .1 in let f = (binder-there (c .before .before .before .before .before .before .before .before .before .before .before .before .before .before .read-binder .ensures) (c .before .before .before .before .before .before .before .before .before .before .before .before .start .given .1)) .few in (c .before .before .formula .ensures .size, ((l, omega arith), λ x. (g, omega arith)))
+quantified-finish-requires t c κs =
+    let c₁₂ = c .before .before .before .before .before .before .before .before .before .before .before .before in
+    let c₁₄ = c₁₂ .before .before in
+    let c₁₈ = c₁₄ .before .before .before .before in
+    let p = c₁₈ .pre .1 .1 .1 .0 in
+    let l = p .0 in
+    let g = p .1 in
+    let f = (binder-there (c₁₄ .read-binder .ensures) (c₁₂ .start .given .1)) .few in
+    (c .before .before .formula .ensures .size, ((l, omega arith), λ x. (g, omega arith)))
 
--- src/lib.rt:379:13
-quantified-enum-known-number : (t : ℕ) → quantified-lts.Need-enum-known-number (
-  read-binder-reads.Asked,
-  read-binder-reads.Learnt,
-  bound-reads.Asked,
-  bound-reads.Learnt,
-  greater-reads.Asked,
-  greater-reads.Learnt,
-  look-reads.Asked,
-  look-reads.Learnt,
-  formula-below t,
-  formula.Post,
-  finish-reads.Asked,
-  finish-reads.Learnt,
-) (quantified-at t) quantified.Post
-quantified-enum-known-number t c = search needs
-
--- src/lib.rt:383:13
-quantified-element-write-here-2 : (t : ℕ) → quantified-lts.Need-element-write-here-2 (
-  read-binder-reads.Asked,
-  read-binder-reads.Learnt,
-  bound-reads.Asked,
-  bound-reads.Learnt,
-  greater-reads.Asked,
-  greater-reads.Learnt,
-  look-reads.Asked,
-  look-reads.Learnt,
-  formula-below t,
-  formula.Post,
-  finish-reads.Asked,
-  finish-reads.Learnt,
-) (quantified-at t) quantified.Post
-quantified-element-write-here-2 t c = search needs
-
--- src/lib.rt:384:13
-quantified-element-write-here-3 : (t : ℕ) → quantified-lts.Need-element-write-here-3 (
-  read-binder-reads.Asked,
-  read-binder-reads.Learnt,
-  bound-reads.Asked,
-  bound-reads.Learnt,
-  greater-reads.Asked,
-  greater-reads.Learnt,
-  look-reads.Asked,
-  look-reads.Learnt,
-  formula-below t,
-  formula.Post,
-  finish-reads.Asked,
-  finish-reads.Learnt,
-) (quantified-at t) quantified.Post
-quantified-element-write-here-3 t c = search needs
-
--- src/lib.rt:353:1
 quantified-returns : (t : ℕ) → quantified-lts.Need-returns (
   read-binder-reads.Asked,
   read-binder-reads.Learnt,
@@ -1316,9 +1110,18 @@ quantified-returns : (t : ℕ) → quantified-lts.Need-returns (
   finish-reads.Asked,
   finish-reads.Learnt,
 ) (quantified-at t) quantified.Post
-quantified-returns t c = quantified-reads _ (c .before .before .before .before .before .before .before .before .before .before .before .before .before .before .before .before .before .before .before .pre .1 .1 .0) (c .before .before .before .before .before .before .before .before .before .before .before .before .before .before .before .before .before .before .before .pre .1 .1 .1 .0 .0) (c .before .before .before .before .before .before .before .before .before .before .before .before .before .before .before .before .before .before .before .pre .1 .1 .1 .0 .1) _ _ (binder-there (c .before .before .before .before .before .before .before .before .before .before .before .before .before .before .before .read-binder .ensures) (c .before .before .before .before .before .before .before .before .before .before .before .before .before .start .given .1)) (c .before .before .before .before .before .before .before .before .before .before .before .bound .ensures) (c .before .before .before .before .before .before .before .before .before .before .before .before .before .before .before .before .before .before .before .pre .1 .1 .1 .1) (tracked-as (c .before .before .before .before .before .before .before .before .before .before .before .before .before .before .before .before .before .before .before .pre .1 .1 .0 .size) (c .before .before .before .before .before .before .before .before .before .greater .ensures)) (c .before .before .before .before .before .before .before .look .ensures) (c .before .before .before .formula .ensures) (c .finish .ensures)
+quantified-returns t c =
+    let c₃ = c .before .before .before in
+    let c₇ = c₃ .before .before .before .before in
+    let c₉ = c₇ .before .before in
+    let c₁₁ = c₉ .before .before in
+    let c₁₃ = c₁₁ .before .before in
+    let c₁₅ = c₁₃ .before .before in
+    let c₁₉ = c₁₅ .before .before .before .before in
+    quantified-reads _ (c₁₉ .pre .1 .1 .0) (c₁₉ .pre .1 .1 .1 .0 .0) (c₁₉ .pre .1 .1 .1 .0 .1) _ _
+    (binder-there (c₁₅ .read-binder .ensures) (c₁₃ .start .given .1)) (c₁₁ .bound .ensures) (c₁₉ .pre .1 .1 .1 .1)
+    (tracked-as (c₁₉ .pre .1 .1 .0 .size) (c₉ .greater .ensures)) (c₇ .look .ensures) (c₃ .formula .ensures) (c .finish .ensures)
 
--- src/lib.rt:353:1
 quantified-returns-2 : (t : ℕ) → quantified-lts.Need-returns-2 (
   read-binder-reads.Asked,
   read-binder-reads.Learnt,
@@ -1333,18 +1136,23 @@ quantified-returns-2 : (t : ℕ) → quantified-lts.Need-returns-2 (
   finish-reads.Asked,
   finish-reads.Learnt,
 ) (quantified-at t) quantified.Post
-quantified-returns-2 t c = quantified-unbound _ (c .before .before .before .before .before .before .before .pre .1 .1 .0) (c .before .before .before .before .before .before .before .pre .1 .1 .1 .0 .0) (c .before .before .before .before .before .before .before .pre .1 .1 .1 .0 .1) _ _ (c .before .before .before .read-binder .ensures) (c .before .number .given .1)
+quantified-returns-2 t c =
+    let c₃ = c .before .before .before in
+    let c₇ = c₃ .before .before .before .before in
+    quantified-unbound _ (c₇ .pre .1 .1 .0) (c₇ .pre .1 .1 .1 .0 .0) (c₇ .pre .1 .1 .1 .0 .1) _ _ (c₃ .read-binder .ensures) (c .before .number .given .1)
 
--- src/lib.rt:256:9
 tighter-operand-requires : (t : ℕ) → tighter-lts.Need-operand-requires (
   operand-below t,
   operand.Post,
   formula-below t,
   formula.Post,
 ) (tighter-at t) tighter.Post
-tighter-operand-requires t c κs = let m = c .before .before .before .before .pre .0 in let e = c .before .before .if1 .taken in (omega arith, (c .before .before .before .before .pre .1 .0, c .before .before .before .before .pre .1 .1 .0))
+tighter-operand-requires t c κs =
+    let c₄ = c .before .before .before .before in
+    let m = c₄ .pre .0 in
+    let e = c .before .before .if1 .taken in
+    (omega arith, (c₄ .pre .1 .0, c₄ .pre .1 .1 .0))
 
--- src/lib.rt:256:9
 tighter-returns : (t : ℕ) → tighter-lts.Need-returns (
   operand-below t,
   operand.Post,
@@ -1353,7 +1161,6 @@ tighter-returns : (t : ℕ) → tighter-lts.Need-returns (
 ) (tighter-at t) tighter.Post
 tighter-returns t c = level-as _ _ _ (let e = c .before .before .before .if1 .taken in omega arith) (c .operand .ensures)
 
--- src/lib.rt:258:54
 tighter-add-formula : (t : ℕ) → tighter-lts.Need-add-formula (
   operand-below t,
   operand.Post,
@@ -1362,16 +1169,19 @@ tighter-add-formula : (t : ℕ) → tighter-lts.Need-add-formula (
 ) (tighter-at t) tighter.Post
 tighter-add-formula t c = let l = c .before .before .before .before .pre .1 .1 .1 in omega arith
 
--- src/lib.rt:258:5
 tighter-formula-requires : (t : ℕ) → tighter-lts.Need-formula-requires (
   operand-below t,
   operand.Post,
   formula-below t,
   formula.Post,
 ) (tighter-at t) tighter.Post
-tighter-formula-requires t c κs = let m = c .before .before .before .before .pre .0 in let l = c .before .before .before .before .pre .1 .1 .1 in let z = c .before .before .if1 .left in (omega arith, (c .before .before .before .before .pre .1 .0, (c .before .before .before .before .pre .1 .1 .0, omega arith)))
+tighter-formula-requires t c κs =
+    let c₄ = c .before .before .before .before in
+    let m = c₄ .pre .0 in
+    let l = c₄ .pre .1 .1 .1 in
+    let z = c .before .before .if1 .left in
+    (omega arith, (c₄ .pre .1 .0, (c₄ .pre .1 .1 .0, omega arith)))
 
--- src/lib.rt:240:1
 tighter-returns-2 : (t : ℕ) → tighter-lts.Need-returns-2 (
   operand-below t,
   operand.Post,
@@ -1395,13 +1205,13 @@ pub +arrow+bracket+formula+more+operand+quantified+tighter-spec : {M : Type 1} �
     (arrow-at t)
     arrow.Post
     (arrow-returns t)
-    (arrow-element-copy-out-if2 t)
+    (λ c. search needs)
     (arrow-returns-2 t)
     (arrow-returns-3 t)
-    (arrow-element-copy-out-put-not t)
-    (arrow-put-not-requires t)
-    (arrow-element-copy-out-behind t)
-    (arrow-element-write-here t)
+    (λ c. search needs)
+    (λ c κs. search needs)
+    (λ c. search needs)
+    (λ c. search needs)
     (arrow-look-requires t)
     (arrow-sub-formula t)
     (arrow-formula-requires t)
@@ -1417,7 +1227,7 @@ pub +arrow+bracket+formula+more+operand+quantified+tighter-spec : {M : Type 1} �
     )
     (bracket-at t)
     bracket.Post
-    (bracket-element-copy-out-behind t)
+    (λ c. search needs)
     (bracket-look-requires t)
     (bracket-formula-requires t)
     (bracket-close-requires t)
@@ -1455,11 +1265,11 @@ pub +arrow+bracket+formula+more+operand+quantified+tighter-spec : {M : Type 1} �
     more-μ-loop
     (more-loop-holds t)
     (more-returns t)
-    (more-element-copy-out-if2 t)
+    (λ c. search needs)
     (more-sub-if2 t)
     (more-returns-2 t)
-    (more-element-copy-out-left t)
-    (more-element-copy-out-behind t)
+    (λ c. search needs)
+    (λ c. search needs)
     (more-look-requires t)
     (more-tighter-requires t)
     (more-sub-finish t)
@@ -1486,21 +1296,21 @@ pub +arrow+bracket+formula+more+operand+quantified+tighter-spec : {M : Type 1} �
     )
     (operand-at t)
     operand.Post
-    (operand-element-copy-out-kind t)
-    (operand-opens-requires t)
+    (λ c. search needs)
+    (λ c κs. search needs)
     (operand-atom-requires t)
     (operand-returns t)
     (operand-returns-2 t)
     (operand-sub-bracket t)
     (operand-bracket-requires t)
     (operand-returns-3 t)
-    (operand-element-copy-out-behind t)
+    (λ c. search needs)
     (operand-look-requires t)
     (operand-sub-operand t)
     (operand-operand-requires t)
     (operand-finish-requires t)
     (operand-returns-4 t)
-    (operand-binds-place-requires t)
+    (λ c κs. search needs)
     (operand-sub-quantified t)
     (operand-quantified-requires t)
     (operand-returns-5 t)
@@ -1523,22 +1333,22 @@ pub +arrow+bracket+formula+more+operand+quantified+tighter-spec : {M : Type 1} �
     )
     (quantified-at t)
     quantified.Post
-    (quantified-element-copy-out-kind t)
+    (λ c. search needs)
     (quantified-element-copy-out-read-binder t)
-    (quantified-read-binder-requires t)
-    (quantified-enum-known-start t)
+    (λ c κs. search needs)
+    (λ c. search needs)
     (quantified-bound-requires t)
-    (quantified-element-copy-out-greater t)
+    (λ c. search needs)
     (quantified-add-greater t)
-    (quantified-greater-requires t)
-    (quantified-element-write-here t)
+    (λ c κs. search needs)
+    (λ c. search needs)
     (quantified-look-requires t)
     (quantified-add-formula t)
     (quantified-formula-requires t)
     (quantified-finish-requires t)
-    (quantified-enum-known-number t)
-    (quantified-element-write-here-2 t)
-    (quantified-element-write-here-3 t)
+    (λ c. search needs)
+    (λ c. search needs)
+    (λ c. search needs)
     (quantified-returns t)
     (quantified-returns-2 t))
     λ t. tighter-lts.spec
