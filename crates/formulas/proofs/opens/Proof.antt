@@ -1,23 +1,18 @@
+-- `formulas::opens` meets its contract. Assumes nothing.
 use native.Mathlib.Omega.{arith}
 use Rattle.formulas.proofs.TokenKinds.{opens-low, opens-word, opens-bracket, opens-not}
 use Rattle.formulas.proofs.opens.Statement.{statement}
 use Rattle.formulas.proofs.opens.Tie as tie
-use Rattle.formulas.proofs.opens.Reads as reads
-use Rattle.formulas.proofs.opens.Lts as lts
 
--- src/lib.rt:40:9
 returns : tie.Need-returns
 returns c = opens-low _ (c .if1 .taken)
 
--- src/lib.rt:43:9
 returns-2 : tie.Need-returns-2
 returns-2 c = opens-word _ (omega arith) (c .if2 .taken)
 
--- src/lib.rt:46:9
 returns-3 : tie.Need-returns-3
 returns-3 c = opens-bracket _ (c .if3 .taken)
 
--- src/lib.rt:36:1
 returns-4 : tie.Need-returns-4
 returns-4 c = opens-not _ (omega arith) (c .if3 .left)
 
