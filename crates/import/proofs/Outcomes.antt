@@ -2,13 +2,12 @@
 use Prim.Native.Nat.{ℕ, _+_, _-_, _*_, _/_, _≤_, _<_}
 use mathlib.Core.Path.{_≡_, refl, sym, _∙_, ap, subst}
 use mathlib.Core.Bool.{Bool, true, false}
-use mathlib.Core.List.{List, []}
+use mathlib.Core.List.{List}
 use native.Mathlib.Omega.{arith}
 use borrow.Author.Tests.{le-leb, lt-leb, le-ltb, lt-ltb, leb-true, leb-false, ltb-false}
-use lib.Dec.{T, leb, ltb}
+use lib.Dec.{leb, ltb}
 use lib.ListN.{length, take, drop}
 use lib.Seq.{sets, sets-eq, take-at}
-use Rattle.logic.specs.Rule.{Record, goodFrom}
 use Rattle.rule_strip.specs.RuleStrip.{ruleBytes}
 use Rattle.rule_strip.specs.RuleWriting.{ruleStrip, recordsOfWords}
 use Rattle.rule_strip.proofs.RuleWriting.{AllSmall, good-small}
@@ -19,14 +18,12 @@ use Rattle.text.specs.Grammar.{refused as leaves}
 use Rattle.text.specs.Records.{variablesIn, countIn, recordsIn}
 use Rattle.text.specs.Import.{written, ruleOf, import, outAfter}
 use Rattle.text.specs.Import.{Import as Answer, refused as turnedDown}
-use Rattle.text.specs.Claims.{Imported}
 use Rattle.text.proofs.Texts.{text-right}
 use Rattle.text.proofs.Readers.{read-good}
 use Rattle.text.proofs.Claimed.{claimed}
-use Rattle.drafting.specs.Draft.{Drafted}
 use Rattle.drafting.proofs.Kept.{drafted-count, drafted-words}
 use Rattle.formulas.specs.Reading.{countAt, tracksAt}
-use Rattle.formulas.specs.Reading.{Reading, Got, startAt, stopAt}
+use Rattle.formulas.specs.Reading.{Reading, Got}
 use Rattle.formulas.specs.Reading.{Refused as Unread}
 use Rattle.formulas.proofs.Levels.{got-refused}
 use Rattle.import.specs.Answers.{importedOf, faultOf, Claimed, TextTold, text-got, text-refused}
@@ -63,7 +60,8 @@ rule-many : (t : Text) (ts : List Token) → 128 < countIn t → ruleOf (got t t
 unfolding ruleOf
 rule-many t ts h = rw (lt-leb (countIn t) 128 h, ruleOf) refl
 
-rule-written : (t : Text) (ts : List Token) → countIn t ≤ 128 → ruleOf (got t ts) ≡ written (variablesIn t) (countIn t) (ruleStrip (variablesIn t) (recordsIn t))
+rule-written : (t : Text) (ts : List Token) → countIn t ≤ 128
+    → ruleOf (got t ts) ≡ written (variablesIn t) (countIn t) (ruleStrip (variablesIn t) (recordsIn t))
 unfolding ruleOf
 rule-written t ts h = rw (le-leb (countIn t) 128 h, ruleOf) refl
 
@@ -119,7 +117,8 @@ claim-follows s out (written n′ m′ strip) e n m len q =
     rw (← x, ← y, ← z, f) w
 claim-follows s out (turnedDown k) e n m len q = absurd (let z : _≡_ {A = ℕ} 0 1 = cc in omega arith)
 
-outcome : (s out : List ℕ) (a : Answer) (r : Import) (out′ : List ℕ) → import s (length out) ≡ a → r ≡ importedOf a → out′ ≡ outAfter a out → Outcome s out r out′
+outcome : (s out : List ℕ) (a : Answer) (r : Import) (out′ : List ℕ) → import s (length out) ≡ a → r ≡ importedOf a
+    → out′ ≡ outAfter a out → Outcome s out r out′
 outcome s out a r out′ e q p =
     (q ∙ ap importedOf (sym e), (p ∙ ap (λ (b : Answer). outAfter b out) (sym e), rw (q, p) (claim-follows s out a e)))
 
@@ -140,7 +139,8 @@ module _ (s out : List ℕ) where
     outcome-refused {k} (text-got t us e q m D) p = absurd (got-refused (sym q ∙ p))
     outcome-refused {k} (text-refused k′ t e q) p =
         let x : k′ ≡ k = cc in
-        outcome s out (turnedDown k) (Refused k) out (import-roomy s (length out) roomy ∙ ap ruleOf e ∙ rule-refused k′ t ∙ ap turnedDown x) refl (unchanged out k)
+        outcome s out (turnedDown k) (Refused k) out
+        (import-roomy s (length out) roomy ∙ ap ruleOf e ∙ rule-refused k′ t ∙ ap turnedDown x) refl (unchanged out k)
 
     pub outcome-many : TextTold ws h (textOf s) r → r ≡ Got → 128 < countAt h → Outcome s out (Refused 26) out
     outcome-many (text-got t us e q m D) p l =

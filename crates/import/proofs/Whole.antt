@@ -1,23 +1,21 @@
 -- A whole text, step by step, as the code takes it. Assumes nothing.
-use Prim.Native.Nat.{ℕ, zero, suc, _+_, _*_, _≤_, _<_, max}
+use Prim.Native.Nat.{ℕ, suc, _+_, _*_, _≤_, _<_}
 use Prim.Native.String.{String}
 use mathlib.Core.Path.{_≡_, refl, sym, _∙_, ap, subst}
-use mathlib.Core.Bool.{Bool, true, false}
-use mathlib.Core.List.{List, [], _∷_, _++_}
+use mathlib.Core.List.{List, [], _++_}
 use native.Mathlib.Omega.{arith}
-use borrow.Author.Tests.{eq-eqb, ne-eqb, le-leb, lt-leb, le-ltb, lt-ltb}
-use lib.Dec.{eqb, leb}
+use borrow.Author.Tests.{ne-eqb}
+use lib.Dec.{eqb}
 use lib.ListN.{length, getD, set}
 use Rattle.logic.specs.Rule.{Record}
 use Rattle.text.specs.Token.{Token, theEnd, spells, placeIn, words, marks}
-use Rattle.text.specs.Syntax.{Name, Order, first, second, Sentence, Scope, Text}
+use Rattle.text.specs.Syntax.{Name, Sentence, Scope, Text}
 use Rattle.text.specs.Grammar.{Read, got, next, rest, accept, or23, andThen, declarations, reader, formula, textFrom, textOf}
 use Rattle.text.specs.Grammar.{refused as leaves}
-use Rattle.text.specs.Records.{tracks, write, writeFree, putSingle, variablesIn, recordsIn}
+use Rattle.text.specs.Records.{write, writeFree, putSingle, variablesIn, recordsIn}
 use Rattle.text.proofs.Written.{tracks-least}
-use Rattle.tokens.specs.Tokens.{tokensAt, Stands}
-use Rattle.tokens.specs.InUse.{orderOf, scopeOf}
-use Rattle.tokens.specs.declared.Token.{Token as TokenRead}
+use Rattle.tokens.specs.Tokens.{tokensAt}
+use Rattle.tokens.specs.InUse.{scopeOf}
 use Rattle.tokens.proofs.Reading.{tokens-start}
 use Rattle.tokens.proofs.Scopes.{scope-length}
 use Rattle.drafting.specs.Draft.{Drafted, Drafts}
@@ -26,12 +24,13 @@ use Rattle.phrases.specs.Told.{RefusedAt, MarkStands, MarkLacks, MarkTold, stan
 use Rattle.phrases.specs.declared.Mark.{Mark}
 use Rattle.phrases.specs.declared.Mark.the-variants.{Stands as Stood, Refused as Lacked}
 use Rattle.phrases.proofs.Taking.{mark-taken, mark-turned}
-use Rattle.formulas.specs.Reading.{levelAt, kindAt, startAt, stopAt, countAt, tracksAt, Ready, Looks, refusedHere, Reads, Told, told-got, told-refused, Counted}
+use Rattle.formulas.specs.Reading.{levelAt, kindAt, startAt, stopAt, countAt, Ready, Looks, refusedHere, Reads, Told, told-got, told-refused, Counted}
 use Rattle.formulas.specs.Reading.{Reading, Got, readingOf}
 use Rattle.formulas.specs.Reading.{Refused as Unread}
 use Rattle.formulas.proofs.Strengths.{reader-formula}
 use Rattle.formulas.proofs.Levels.{Tracked, looks-ready, kind-is, taken, got-refused, refused-put, told-is}
-use Rattle.import.specs.Answers.{headed, ended, bodyOf, HeadingTold, heads, heads-not, Ends, ends, no-semicolon, no-end, ends-refused, FreePut, Blank, TextTold, text-got, text-refused}
+use Rattle.import.specs.Answers.{headed, ended, bodyOf, HeadingTold, heads, heads-not, Ends, ends, no-semicolon, no-end, ends-refused}
+use Rattle.import.specs.Answers.{FreePut, Blank, TextTold, text-got, text-refused}
 
 heading-is : placeIn 0 (words ++ marks) "ws2s" ≡ 0
 unfolding placeIn words marks
@@ -70,7 +69,9 @@ module _ {s : List ℕ} where
   pub heading-told : {p : ℕ} {r : Mark} → MarkStands s 0 0 p → MarkTold s 10 p r → HeadingTold s r
   unfolding behind-heading
   heading-told st (stands {p = q} w) = heads q refl (λ go. headed-first go st ∙ mark-taken ";" semicolon-is (λ _ vs. go vs) w)
-  heading-told st (lacks {k = k} {b = b} {e = e} w) = heads-not k b e refl (λ z. let n = w .number-is in omega arith) (λ go. refused-as (headed-first go st) (mark-turned ";" semicolon-is (λ _ vs. go vs) w))
+  heading-told st (lacks {k = k} {b = b} {e = e} w) =
+      heads-not k b e refl (λ z. let n = w .number-is in omega arith)
+      (λ go. refused-as (headed-first go st) (mark-turned ";" semicolon-is (λ _ vs. go vs) w))
 
   pub heading-lacks : {k b e : ℕ} → MarkLacks s 0 0 k b e → HeadingTold s (Lacked k b e)
   unfolding behind-heading
@@ -111,16 +112,20 @@ unfolding scopeOf writeFree
 freed-none = record { upto = omega arith; put-so-far = λ s rs D. D }
 
 module _ {ns ws₀ : List ℕ} {c₀ n : ℕ} {ws : List ℕ} {c i : ℕ} (F : Freed ns ws₀ c₀ n ws c i) (l : i < n) where
-  next-put : {ws′ : List ℕ} {c′ : ℕ} → ((s : List ℕ) (rs : List Record) → Drafted ws c (writeFree (scopeOf s ns i) rs) → Drafted ws′ c′ (writeFree (scopeOf s ns (suc i)) rs))
+  next-put : {ws′ : List ℕ} {c′ : ℕ}
+      → ((s : List ℕ) (rs : List Record) → Drafted ws c (writeFree (scopeOf s ns i) rs) → Drafted ws′ c′ (writeFree (scopeOf s ns (suc i)) rs))
       → Freed ns ws₀ c₀ n ws′ c′ (i + 1)
   next-put {ws′} {c′} h = record {
     upto = omega arith;
-    put-so-far = λ s rs D. let e : suc i ≡ i + 1 = omega arith in subst (λ (j : ℕ). Drafted ws′ c′ (writeFree (scopeOf s ns j) rs)) e (h s rs (F .put-so-far s rs D));
+    put-so-far = λ s rs D.
+        let e : suc i ≡ i + 1 = omega arith in
+        subst (λ (j : ℕ). Drafted ws′ c′ (writeFree (scopeOf s ns j) rs)) e (h s rs (F .put-so-far s rs D));
   }
 
   pub freed-first : {ws′ : List ℕ} {c′ : ℕ} → getD ns (3 * i + 2) 0 ≡ 1 → Drafts ws c ws′ c′ (putSingle i) → Freed ns ws₀ c₀ n ws′ c′ (i + 1)
   unfolding scopeOf writeFree
-  freed-first {ws′} {c′} e P = next-put (λ s rs D. rw e (subst (λ (k : ℕ). Drafted ws′ c′ (putSingle k (writeFree (scopeOf s ns i) rs))) (sym (scope-length s ns i)) (P _ D)))
+  freed-first {ws′} {c′} e P =
+      next-put (λ s rs D. rw e (subst (λ (k : ℕ). Drafted ws′ c′ (putSingle k (writeFree (scopeOf s ns i) rs))) (sym (scope-length s ns i)) (P _ D)))
 
   pub freed-second : (getD ns (3 * i + 2) 0 ≡ 1 → ⊥) → Freed ns ws₀ c₀ n ws c (i + 1)
   unfolding scopeOf writeFree
@@ -136,21 +141,24 @@ abbrev sentenced : Scope → List Token → Read Text
 sentenced sc ws = andThen (reader 32 formula sc ws) (λ f xs. ended (record { declared = sc; sentence = f }) xs)
 
 -- a token that stands next, told as a refusal
-told-there : {s h ws h′ : List ℕ} {R : Read Text} {r : Reading} → Ready s h → R ≡ leaves 23 (next (tokensAt s (startAt h))) → r ≡ refusedHere h → TextTold ws h′ R r
+told-there : {s h ws h′ : List ℕ} {R : Read Text} {r : Reading} → Ready s h → R ≡ leaves 23 (next (tokensAt s (startAt h))) → r ≡ refusedHere h
+    → TextTold ws h′ R r
 told-there {s} {h} y e q =
     let a = ap (λ (u : Token). u .start) (y .stands .stands) in
     let b = ap (λ (u : Token). u .stop) (y .stands .stands) in
     text-refused 23 (next (tokensAt s (startAt h))) e (q ∙ rw (a, b) refl)
 
 module _ (s : List ℕ) (at : ℕ) where
-  pub body-undeclared : {ws : List ℕ} (h : List ℕ) {k b e : ℕ} → length h ≡ 5 → (k ≡ 0 → ⊥) → RefusedAt (declarations (length (tokensAt s at)) [] (tokensAt s at)) k b e
+  pub body-undeclared : {ws : List ℕ} (h : List ℕ) {k b e : ℕ} → length h ≡ 5 → (k ≡ 0 → ⊥)
+      → RefusedAt (declarations (length (tokensAt s at)) [] (tokensAt s at)) k b e
       → TextTold ws (set (set h 2 b) 4 e) (bodyOf (tokensAt s at)) (readingOf k (set (set h 2 b) 4 e))
   unfolding bodyOf
   body-undeclared {ws} h {k} {b} {e} l z w =
       let p = refused-put k b e h z l in
       text-refused _ (w .token) (ap (λ (R : Read Scope). andThen R sentenced) (w .refuses)) (p .0 ∙ rw (w .start-is, w .stop-is) refl)
 
-  module _ {ns : List ℕ} {n p : ℕ} (N : NamesAre s at (declarations (length (tokensAt s at)) [] (tokensAt s at)) ns n p) {ws h m k ws₂ h₂ : List ℕ} {sentence : Reading}
+  module _ {ns : List ℕ} {n p : ℕ} (N : NamesAre s at (declarations (length (tokensAt s at)) [] (tokensAt s at)) ns n p)
+      {ws h m k ws₂ h₂ : List ℕ} {sentence : Reading}
       (B : Blank ws h) (T : Tracked h n m) (L : Looks s p m k) (X : Reads (levelAt 32 0) s (scopeOf s ns n) ws k ws₂ h₂ sentence) where
     -- the formula, and then the end
     body-is : bodyOf (tokensAt s at)
@@ -170,7 +178,8 @@ module _ (s : List ℕ) (at : ℕ) where
         X .tells [] (subst (λ (i : ℕ). Drafted ws i []) (sym c) (drafted-none ws (B .room))) (omega arith)
 
     -- what was read, up to the end
-    read-to : (q : sentence ≡ Got) → bodyOf (tokensAt s at) ≡ ended (record { declared = scopeOf s ns n; sentence = told-is tells q .sentence }) (tokensAt s (startAt h₂))
+    read-to : (q : sentence ≡ Got)
+        → bodyOf (tokensAt s at) ≡ ended (record { declared = scopeOf s ns n; sentence = told-is tells q .sentence }) (tokensAt s (startAt h₂))
     read-to q = body-is ∙ ap (λ (R : Read Sentence). andThen R (λ f xs. ended (record { declared = scopeOf s ns n; sentence = f }) xs)) (told-is tells q .reads)
 
     -- up to what stands behind the semicolon
@@ -181,7 +190,8 @@ module _ (s : List ℕ) (at : ℕ) where
         let t : Text = record { declared = scopeOf s ns n; sentence = told-is tells q .sentence } in
         read-to q ∙ semicolon-there t (tokensAt s (startAt h₂)) (kind-is y ∙ e) ∙ ap (λ (ys : List Token). last t ys) (taken y (omega arith) M)
 
-    pub body-refused : {h₃ h₄ : List ℕ} {whole : Reading} {i b e : ℕ} → Ends s h₂ h₃ sentence whole → whole ≡ Unread i b e → TextTold ws₂ h₄ (bodyOf (tokensAt s at)) whole
+    pub body-refused : {h₃ h₄ : List ℕ} {whole : Reading} {i b e : ℕ} → Ends s h₂ h₃ sentence whole → whole ≡ Unread i b e
+        → TextTold ws₂ h₄ (bodyOf (tokensAt s at)) whole
     body-refused (ends qi qr e M x) q = absurd (got-refused (sym qr ∙ q))
     body-refused (no-semicolon qi qr z) q =
         let y = X .ready qi in
@@ -195,9 +205,11 @@ module _ (s : List ℕ) (at : ℕ) where
             → sentence ≡ Unread i b e → whole ≡ Unread i b e → TextTold ws₂ h₄ (bodyOf (tokensAt s at)) whole
         up (told-got f e q d m) x z = absurd (got-refused (sym q ∙ x))
         up (told-refused i t e q) x z =
-            text-refused i t (body-is ∙ ap (λ (R : Read Sentence). andThen R (λ f xs. ended (record { declared = scopeOf s ns n; sentence = f }) xs)) e) (z ∙ sym x ∙ q)
+            text-refused i t (body-is ∙ ap (λ (R : Read Sentence). andThen R (λ f xs. ended (record { declared = scopeOf s ns n; sentence = f }) xs)) e)
+            (z ∙ sym x ∙ q)
 
-    pub body-read : {h₃ ws₃ h₄ : List ℕ} {whole : Reading} {c : ℕ} → Ends s h₂ h₃ sentence whole → whole ≡ Got → FreePut ns n ws₂ (countAt h₃) ws₃ c → Counted h₃ c h₄
+    pub body-read : {h₃ ws₃ h₄ : List ℕ} {whole : Reading} {c : ℕ} → Ends s h₂ h₃ sentence whole → whole ≡ Got
+        → FreePut ns n ws₂ (countAt h₃) ws₃ c → Counted h₃ c h₄
         → TextTold ws₃ h₄ (bodyOf (tokensAt s at)) Got
     unfolding variablesIn recordsIn
     body-read {h₃} {ws₃} {h₄} {whole} {c} (ends qi qr e M x) q F C =
@@ -211,7 +223,8 @@ module _ (s : List ℕ) (at : ℕ) where
         let t = L .tracks-is ∙ T .tracks-is in
         let mt = M .tracks-is in
         let tc = C .tracks-is in
-        text-got (record { declared = sc; sentence = g }) (rest (tokensAt s (startAt h₃))) (read-on qi e M ∙ last-there _ (tokensAt s (startAt h₃)) (kind-is y ∙ x)) refl
+        text-got (record { declared = sc; sentence = g }) (rest (tokensAt s (startAt h₃)))
+        (read-on qi e M ∙ last-there _ (tokensAt s (startAt h₃)) (kind-is y ∙ x)) refl
         (tc ∙ mt ∙ a ∙ omega arith)
         (subst (λ (v : ℕ). Drafted ws₃ v (writeFree sc (write sc g []))) (sym (C .count-is))
         (F s (write sc g []) (subst (λ (v : ℕ). Drafted ws₂ v (write sc g [])) (sym (M .count-is)) (i .drafts))))
@@ -231,8 +244,11 @@ text-is : (s : List ℕ) → textOf s ≡ headed (tokensAt s 0) bodyOf
 unfolding textOf textFrom bodyOf
 text-is s = rw (tokens-start s) refl
 
-pub text-told : {s ws h : List ℕ} {p : ℕ} {m : Mark} {r : Reading} → HeadingTold s m → m ≡ Stood p → TextTold ws h (bodyOf (tokensAt s p)) r → TextTold ws h (textOf s) r
-text-told {s} {ws} {h} {p} {m} {r} (heads q e g) f w = let x : q ≡ p = cc in subst (λ (R : Read Text). TextTold ws h R r) (sym (text-is s ∙ g bodyOf ∙ ap (λ (i : ℕ). bodyOf (tokensAt s i)) x)) w
+pub text-told : {s ws h : List ℕ} {p : ℕ} {m : Mark} {r : Reading} → HeadingTold s m → m ≡ Stood p
+    → TextTold ws h (bodyOf (tokensAt s p)) r → TextTold ws h (textOf s) r
+text-told {s} {ws} {h} {p} {m} {r} (heads q e g) f w =
+    let x : q ≡ p = cc in
+    subst (λ (R : Read Text). TextTold ws h R r) (sym (text-is s ∙ g bodyOf ∙ ap (λ (i : ℕ). bodyOf (tokensAt s i)) x)) w
 text-told (heads-not k b e q z h) f w = absurd (let z : _≡_ {A = ℕ} 0 1 = cc in omega arith)
 
 pub text-unheaded : {s ws : List ℕ} (h : List ℕ) {k b e : ℕ} {m : Mark} → length h ≡ 5 → HeadingTold s m → m ≡ Lacked k b e
