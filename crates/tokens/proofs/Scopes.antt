@@ -30,10 +30,6 @@ unfolding scopeOf
 scope-length s ns zero = refl
 scope-length s ns (suc n) = ap suc (scope-length s ns n)
 
--- the earlier names fit too
-pub fits-less : {s ns : List ℕ} {m n : ℕ} → m ≤ n → NamesFit s ns n → NamesFit s ns m
-fits-less h f = record { few = omega arith; ordered = λ i l. f .ordered i (omega arith); inside = λ i l. f .inside i (omega arith) }
-
 -- ---- two parts of the text s are held against each other
 differ : (v w : List ℕ) → (length v ≡ length w → ⊥) → sameBytes v w ≡ false
 unfolding sameBytes
