@@ -1,13 +1,13 @@
--- What is put behind a sentence's parts, by kind, and that this is what `write` writes. Assumes nothing.
-use Prim.Native.Nat.{ℕ, _+_, _<_, _≤_}
+-- What is put behind a sentence's parts, by kind, and that a sentence never makes the records fewer. Assumes nothing.
+use Prim.Native.Nat.{ℕ, _+_, _≤_}
 use mathlib.Core.Path.{_≡_, refl, sym, _∙_, ap, subst}
-use mathlib.Core.List.{List, [], _∷_}
+use mathlib.Core.List.{List, _∷_}
 use native.Mathlib.Nat.{le-trans}
 use native.Mathlib.Omega.{arith}
 use lib.ListN.{length}
 use borrow.Author.Tests.{eq-eqb, ne-eqb}
 use Rattle.logic.specs.Rule.{Record, lastOf}
-use Rattle.text.specs.Syntax.{Name, first, second, variable, branch, root, Atom, sub, member, equal, Scope}
+use Rattle.text.specs.Syntax.{first, second, variable, branch, root, Atom, sub, member, equal, Scope}
 use Rattle.text.specs.Syntax.{Sentence, atom, denied, both, either, implies, alike, forSome, forEvery}
 use Rattle.text.specs.Records.{put, putNot, putSingle, putExists, putAlike, writeAtom, write}
 use Rattle.drafting.specs.Draft.{Drafted, Drafts, Puts, Joins}
@@ -18,41 +18,6 @@ use Rattle.drafting.specs.declared.Spot.the-variants.{Variable, Branch, 
 use Rattle.drafting.specs.declared.Atom.{Atom as AtomCode}
 use Rattle.drafting.specs.declared.Atom.the-variants.{Sub, Member, Equal}
 use Rattle.drafting.proofs.Drafts.{put-length}
-
--- what `write` writes is what is put behind the parts, by kind
-module _ (sc : Scope) (f g : Sentence) (rs : List Record) where
-  pub write-both : write sc (both f g) rs ≡ putJoined 16 (write sc f rs) (write sc g (write sc f rs))
-  unfolding write putJoined
-  write-both = refl
-
-  pub write-either : write sc (either f g) rs ≡ putJoined 17 (write sc f rs) (write sc g (write sc f rs))
-  unfolding write putJoined
-  write-either = refl
-
-  pub write-implies : write sc (implies f g) rs ≡ putJoined 18 (putNot (write sc f rs)) (write sc g (putNot (write sc f rs)))
-  unfolding write putJoined
-  write-implies = refl
-
-  pub write-alike : write sc (alike f g) rs ≡ putJoined 19 (write sc f rs) (write sc g (write sc f rs))
-  unfolding write putJoined
-  write-alike = refl
-
-module _ (sc : Scope) (x : Name) (f : Sentence) (rs : List Record) where
-  pub write-ex1 : write sc (forSome first x f) rs ≡ putQuantified 3 (length sc) (write (record { name = x; order = first } ∷ sc) f rs)
-  unfolding write putQuantified
-  write-ex1 = refl
-
-  pub write-ex2 : write sc (forSome second x f) rs ≡ putQuantified 4 (length sc) (write (record { name = x; order = second } ∷ sc) f rs)
-  unfolding write putQuantified
-  write-ex2 = refl
-
-  pub write-all1 : write sc (forEvery first x f) rs ≡ putQuantified 5 (length sc) (write (record { name = x; order = first } ∷ sc) f rs)
-  unfolding write putQuantified
-  write-all1 = refl
-
-  pub write-all2 : write sc (forEvery second x f) rs ≡ putQuantified 6 (length sc) (write (record { name = x; order = second } ∷ sc) f rs)
-  unfolding write putQuantified
-  write-all2 = refl
 
 -- nothing that is put makes the records fewer: those of a left side are no more than those of both
 put-longer : (op a b : ℕ) (rs : List Record) → length rs ≤ length (put op a b rs)
