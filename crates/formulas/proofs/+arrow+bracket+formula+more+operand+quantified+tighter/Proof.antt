@@ -2,7 +2,6 @@
 -- Assumes nothing.
 use native.Mathlib.Omega.{arith}
 use borrow.Author.Needs.{needs}
-use Prim.Native.Nat.{_+_, _-_, _*_}
 use Rattle.tokens.specs.InUse.{scopeOf}
 use Rattle.formulas.specs.Reading.{joins-alike, joins-either, joins-both, kindAt, readingOf}
 use Rattle.formulas.proofs.Strengths.{joining-most, opens-quantifier}
@@ -12,7 +11,7 @@ use Rattle.formulas.proofs.Levels.{leftOf, Joined, joined-left, left-of
 use Rattle.formulas.proofs.Levels.{implication-refused, implication-none, implication-deep, implication-on}
 use Rattle.formulas.proofs.Levels.{operand-atom, operand-deep, operand-bracket, operand-not, operand-quantifier}
 use Rattle.formulas.proofs.Levels.{bracket-reads, quantified-unbound, quantified-reads}
-use Prim.Native.Nat.{ℕ, _<_}
+use Prim.Native.Nat.{ℕ, _+_, _-_, _*_, _<_}
 use borrow.Fn.Kinds.{In}
 use borrow.Fn.PlainCycle.{Measures, is, falls, and}
 use Rattle.formulas.proofs.arrow.Reads as arrow
@@ -118,7 +117,9 @@ tighter-at t = and 4 tighter-kinds.ps (is 4 tighter-kinds.ps μ-tighter t) tight
 abbrev tighter-below : ℕ → In 4 tighter-kinds.ps
 tighter-below t = and 4 tighter-kinds.ps (falls 4 tighter-kinds.ps _<_ μ-tighter t) tighter.Pre
 
-arrow-returns : (t : ℕ) → arrow-lts.Need-returns (
+-- what each of them may use of the functions that it calls
+abbrev arrow-calls : ℕ → arrow-lts.Claims
+arrow-calls t = (
   put-not-reads.Asked,
   put-not-reads.Learnt,
   look-reads.Asked,
@@ -127,69 +128,74 @@ arrow-returns : (t : ℕ) → arrow-lts.Need-returns (
   formula.Post,
   finish-reads.Asked,
   finish-reads.Learnt,
-) (arrow-at t) arrow.Post
+)
+
+abbrev bracket-calls : ℕ → bracket-lts.Claims
+bracket-calls t = (look-reads.Asked, look-reads.Learnt, formula-below t, formula.Post, close-reads.Asked, close-reads.Learnt)
+
+abbrev formula-calls : ℕ → formula-lts.Claims
+formula-calls t = (operand-below t, operand.Post, more-below t, more.Post, arrow-below t, arrow.Post)
+
+abbrev more-calls : ℕ → more-lts.Claims
+more-calls t = (look-reads.Asked, look-reads.Learnt, tighter-below t, tighter.Post, finish-reads.Asked, finish-reads.Learnt)
+
+abbrev operand-calls : ℕ → operand-lts.Claims
+operand-calls t = (
+  opens-reads.Asked,
+  opens-reads.Learnt,
+  atom-reads.Asked,
+  atom-reads.Learnt,
+  bracket-below t,
+  bracket.Post,
+  look-reads.Asked,
+  look-reads.Learnt,
+  operand-below t,
+  operand.Post,
+  finish-reads.Asked,
+  finish-reads.Learnt,
+  binds-place-reads.Asked,
+  binds-place-reads.Learnt,
+  quantified-below t,
+  quantified.Post,
+)
+
+abbrev quantified-calls : ℕ → quantified-lts.Claims
+quantified-calls t = (
+  read-binder-reads.Asked,
+  read-binder-reads.Learnt,
+  bound-reads.Asked,
+  bound-reads.Learnt,
+  greater-reads.Asked,
+  greater-reads.Learnt,
+  look-reads.Asked,
+  look-reads.Learnt,
+  formula-below t,
+  formula.Post,
+  finish-reads.Asked,
+  finish-reads.Learnt,
+)
+
+abbrev tighter-calls : ℕ → tighter-lts.Claims
+tighter-calls t = (operand-below t, operand.Post, formula-below t, formula.Post)
+
+arrow-returns : (t : ℕ) → arrow-lts.Need-returns (arrow-calls t) (arrow-at t) arrow.Post
 arrow-returns t c = λ vs i X. implication-refused _ X (refused-some _ _ (c .if1 .taken))
 
-arrow-returns-2 : (t : ℕ) → arrow-lts.Need-returns-2 (
-  put-not-reads.Asked,
-  put-not-reads.Learnt,
-  look-reads.Asked,
-  look-reads.Learnt,
-  formula-below t,
-  formula.Post,
-  finish-reads.Asked,
-  finish-reads.Learnt,
-) (arrow-at t) arrow.Post
+arrow-returns-2 : (t : ℕ) → arrow-lts.Need-returns-2 (arrow-calls t) (arrow-at t) arrow.Post
 arrow-returns-2 t c = λ vs i X. implication-none _ X (got-zero _ (c .before .before .if1 .left)) (c .if2 .taken)
 
-arrow-returns-3 : (t : ℕ) → arrow-lts.Need-returns-3 (
-  put-not-reads.Asked,
-  put-not-reads.Learnt,
-  look-reads.Asked,
-  look-reads.Learnt,
-  formula-below t,
-  formula.Post,
-  finish-reads.Asked,
-  finish-reads.Learnt,
-) (arrow-at t) arrow.Post
+arrow-returns-3 : (t : ℕ) → arrow-lts.Need-returns-3 (arrow-calls t) (arrow-at t) arrow.Post
 arrow-returns-3 t c = λ vs i X. implication-deep _ X (got-zero _ (c .before .before .before .if1 .left)) (c .before .if2 .left) (c .if3 .taken)
 
-arrow-look-requires : (t : ℕ) → arrow-lts.Need-look-requires (
-  put-not-reads.Asked,
-  put-not-reads.Learnt,
-  look-reads.Asked,
-  look-reads.Learnt,
-  formula-below t,
-  formula.Post,
-  finish-reads.Asked,
-  finish-reads.Learnt,
-) (arrow-at t) arrow.Post
+arrow-look-requires : (t : ℕ) → arrow-lts.Need-look-requires (arrow-calls t) (arrow-at t) arrow.Post
 arrow-look-requires t c κs =
     let c₁₀ = c .before .before .before .before .before .before .before .before .before .before in
     size-after (c₁₀ .args .here .now) 1 (c .before .before .put-not .result) (c₁₀ .pre .1 .1 .size)
 
-arrow-sub-formula : (t : ℕ) → arrow-lts.Need-sub-formula (
-  put-not-reads.Asked,
-  put-not-reads.Learnt,
-  look-reads.Asked,
-  look-reads.Learnt,
-  formula-below t,
-  formula.Post,
-  finish-reads.Asked,
-  finish-reads.Learnt,
-) (arrow-at t) arrow.Post
+arrow-sub-formula : (t : ℕ) → arrow-lts.Need-sub-formula (arrow-calls t) (arrow-at t) arrow.Post
 arrow-sub-formula t c = let z = c .before .before .before .before .before .before .before .before .if3 .left in omega arith
 
-arrow-formula-requires : (t : ℕ) → arrow-lts.Need-formula-requires (
-  put-not-reads.Asked,
-  put-not-reads.Learnt,
-  look-reads.Asked,
-  look-reads.Learnt,
-  formula-below t,
-  formula.Post,
-  finish-reads.Asked,
-  finish-reads.Learnt,
-) (arrow-at t) arrow.Post
+arrow-formula-requires : (t : ℕ) → arrow-lts.Need-formula-requires (arrow-calls t) (arrow-at t) arrow.Post
 arrow-formula-requires t c κs =
     let c₈ = c .before .before .before .before .before .before .before .before in
     let c₁₃ = c₈ .before .before .before .before .before in
@@ -197,28 +203,10 @@ arrow-formula-requires t c κs =
     let z = c₈ .if3 .left in
     (omega arith, (c₁₃ .pre .1 .0, (looks-ready (c .before .before .look .ensures), omega arith)))
 
-arrow-finish-requires : (t : ℕ) → arrow-lts.Need-finish-requires (
-  put-not-reads.Asked,
-  put-not-reads.Learnt,
-  look-reads.Asked,
-  look-reads.Learnt,
-  formula-below t,
-  formula.Post,
-  finish-reads.Asked,
-  finish-reads.Learnt,
-) (arrow-at t) arrow.Post
+arrow-finish-requires : (t : ℕ) → arrow-lts.Need-finish-requires (arrow-calls t) (arrow-at t) arrow.Post
 arrow-finish-requires t c κs = (c .before .before .formula .ensures .size, ((omega arith, omega arith), λ x. absurd (omega arith)))
 
-arrow-returns-4 : (t : ℕ) → arrow-lts.Need-returns-4 (
-  put-not-reads.Asked,
-  put-not-reads.Learnt,
-  look-reads.Asked,
-  look-reads.Learnt,
-  formula-below t,
-  formula.Post,
-  finish-reads.Asked,
-  finish-reads.Learnt,
-) (arrow-at t) arrow.Post
+arrow-returns-4 : (t : ℕ) → arrow-lts.Need-returns-4 (arrow-calls t) (arrow-at t) arrow.Post
 arrow-returns-4 t c =
     let c₃ = c .before .before .before in
     let c₆ = c₃ .before .before .before in
@@ -230,98 +218,42 @@ arrow-returns-4 t c =
     λ vs i X. implication-on _ X (got-zero _ (c₁₅ .if1 .left)) (counted (c₁₇ .pre .1 .1 .size)) (c₆ .look .ensures) (c₁₃ .if2 .left) (c₁₂ .if3 .left)
     (c₉ .put-not .ensures) (c₃ .formula .ensures) (c .finish .ensures)
 
-bracket-look-requires : (t : ℕ) → bracket-lts.Need-look-requires (
-  look-reads.Asked,
-  look-reads.Learnt,
-  formula-below t,
-  formula.Post,
-  close-reads.Asked,
-  close-reads.Learnt,
-) (bracket-at t) bracket.Post
+bracket-look-requires : (t : ℕ) → bracket-lts.Need-look-requires (bracket-calls t) (bracket-at t) bracket.Post
 bracket-look-requires t c κs = c .before .before .before .pre .1 .1 .0 .size
 
-bracket-formula-requires : (t : ℕ) → bracket-lts.Need-formula-requires (
-  look-reads.Asked,
-  look-reads.Learnt,
-  formula-below t,
-  formula.Post,
-  close-reads.Asked,
-  close-reads.Learnt,
-) (bracket-at t) bracket.Post
+bracket-formula-requires : (t : ℕ) → bracket-lts.Need-formula-requires (bracket-calls t) (bracket-at t) bracket.Post
 bracket-formula-requires t c κs =
     let c₆ = c .before .before .before .before .before .before in
     let m = c₆ .pre .0 in
     (omega arith, (c₆ .pre .1 .0, (looks-ready (c .before .before .look .ensures), omega arith)))
 
-bracket-close-requires : (t : ℕ) → bracket-lts.Need-close-requires (
-  look-reads.Asked,
-  look-reads.Learnt,
-  formula-below t,
-  formula.Post,
-  close-reads.Asked,
-  close-reads.Learnt,
-) (bracket-at t) bracket.Post
+bracket-close-requires : (t : ℕ) → bracket-lts.Need-close-requires (bracket-calls t) (bracket-at t) bracket.Post
 bracket-close-requires t c κs = c .before .formula .ensures .size
 
-bracket-returns : (t : ℕ) → bracket-lts.Need-returns (
-  look-reads.Asked,
-  look-reads.Learnt,
-  formula-below t,
-  formula.Post,
-  close-reads.Asked,
-  close-reads.Learnt,
-) (bracket-at t) bracket.Post
+bracket-returns : (t : ℕ) → bracket-lts.Need-returns (bracket-calls t) (bracket-at t) bracket.Post
 bracket-returns t c =
     let c₅ = c .before .before .before .before .before in
     let c₉ = c₅ .before .before .before .before in
     bracket-reads _ (c₉ .pre .1 .1 .0) (c₉ .pre .1 .1 .1) (c₅ .look .ensures) (c .before .before .formula .ensures) (c .close .ensures)
 
-formula-operand-requires : (t : ℕ) → formula-lts.Need-operand-requires (
-  operand-below t,
-  operand.Post,
-  more-below t,
-  more.Post,
-  arrow-below t,
-  arrow.Post,
-) (formula-at t) formula.Post
+formula-operand-requires : (t : ℕ) → formula-lts.Need-operand-requires (formula-calls t) (formula-at t) formula.Post
 formula-operand-requires t c κs =
     let c₃ = c .before .before .before in
     let m = c₃ .pre .0 in
     let l = c₃ .pre .1 .1 .1 in
     (omega arith, (c₃ .pre .1 .0, c₃ .pre .1 .1 .0))
 
-formula-more-requires : (t : ℕ) → formula-lts.Need-more-requires (
-  operand-below t,
-  operand.Post,
-  more-below t,
-  more.Post,
-  arrow-below t,
-  arrow.Post,
-) (formula-at t) formula.Post
+formula-more-requires : (t : ℕ) → formula-lts.Need-more-requires (formula-calls t) (formula-at t) formula.Post
 formula-more-requires t c κs =
     let c₆ = c .before .before .before .before .before .before in
     let m = c₆ .pre .0 in
     let l = c₆ .pre .1 .1 .1 in
     (omega arith, (c₆ .pre .1 .0, (left-of _ (c .before .before .operand .ensures), joins-both)))
 
-formula-returns : (t : ℕ) → formula-lts.Need-returns (
-  operand-below t,
-  operand.Post,
-  more-below t,
-  more.Post,
-  arrow-below t,
-  arrow.Post,
-) (formula-at t) formula.Post
+formula-returns : (t : ℕ) → formula-lts.Need-returns (formula-calls t) (formula-at t) formula.Post
 formula-returns t c = level-as _ _ _ (let e = c .if1 .taken in omega arith) (c .before .more .ensures _ _ (c .before .before .before .before .operand .ensures))
 
-formula-more-requires-2 : (t : ℕ) → formula-lts.Need-more-requires-2 (
-  operand-below t,
-  operand.Post,
-  more-below t,
-  more.Post,
-  arrow-below t,
-  arrow.Post,
-) (formula-at t) formula.Post
+formula-more-requires-2 : (t : ℕ) → formula-lts.Need-more-requires-2 (formula-calls t) (formula-at t) formula.Post
 formula-more-requires-2 t c κs =
     let c₃ = c .before .before .before in
     let c₆ = c₃ .before .before .before in
@@ -331,27 +263,13 @@ formula-more-requires-2 t c κs =
     let z = c .before .before .if1 .left in
     (omega arith, (c₁₀ .pre .1 .0, (left-of _ (c₃ .more .ensures _ _ (c₆ .operand .ensures)), joins-either)))
 
-formula-returns-2 : (t : ℕ) → formula-lts.Need-returns-2 (
-  operand-below t,
-  operand.Post,
-  more-below t,
-  more.Post,
-  arrow-below t,
-  arrow.Post,
-) (formula-at t) formula.Post
+formula-returns-2 : (t : ℕ) → formula-lts.Need-returns-2 (formula-calls t) (formula-at t) formula.Post
 formula-returns-2 t c =
     let c₅ = c .before .before .before .before .before in
     let c₈ = c₅ .before .before .before in
     level-as _ _ _ (let e = c .if2 .taken in omega arith) (c .before .more2 .ensures _ _ (c₅ .more .ensures _ _ (c₈ .operand .ensures)))
 
-formula-arrow-requires : (t : ℕ) → formula-lts.Need-arrow-requires (
-  operand-below t,
-  operand.Post,
-  more-below t,
-  more.Post,
-  arrow-below t,
-  arrow.Post,
-) (formula-at t) formula.Post
+formula-arrow-requires : (t : ℕ) → formula-lts.Need-arrow-requires (formula-calls t) (formula-at t) formula.Post
 formula-arrow-requires t c κs =
     let c₃ = c .before .before .before in
     let c₆ = c₃ .before .before .before in
@@ -364,14 +282,7 @@ formula-arrow-requires t c κs =
     let y = c .before .before .if2 .left in
     (omega arith, (c₁₄ .pre .1 .0, left-of _ (c₃ .more2 .ensures _ _ (c₇ .more .ensures _ _ (c₁₀ .operand .ensures)))))
 
-formula-returns-3 : (t : ℕ) → formula-lts.Need-returns-3 (
-  operand-below t,
-  operand.Post,
-  more-below t,
-  more.Post,
-  arrow-below t,
-  arrow.Post,
-) (formula-at t) formula.Post
+formula-returns-3 : (t : ℕ) → formula-lts.Need-returns-3 (formula-calls t) (formula-at t) formula.Post
 formula-returns-3 t c =
     let c₅ = c .before .before .before .before .before in
     let c₉ = c₅ .before .before .before .before in
@@ -379,14 +290,7 @@ formula-returns-3 t c =
     level-as _ _ _ (let e = c .if3 .taken in omega arith)
     (c .before .arrow .ensures _ _ (c₅ .more2 .ensures _ _ (c₉ .more .ensures _ _ (c₁₂ .operand .ensures))))
 
-formula-more-requires-3 : (t : ℕ) → formula-lts.Need-more-requires-3 (
-  operand-below t,
-  operand.Post,
-  more-below t,
-  more.Post,
-  arrow-below t,
-  arrow.Post,
-) (formula-at t) formula.Post
+formula-more-requires-3 : (t : ℕ) → formula-lts.Need-more-requires-3 (formula-calls t) (formula-at t) formula.Post
 formula-more-requires-3 t c κs =
     let c₃ = c .before .before .before in
     let c₆ = c₃ .before .before .before in
@@ -402,14 +306,7 @@ formula-more-requires-3 t c κs =
     let x = c .before .before .if3 .left in
     (omega arith, (c₁₈ .pre .1 .0, (left-of _ (c₃ .arrow .ensures _ _ (c₇ .more2 .ensures _ _ (c₁₁ .more .ensures _ _ (c₁₄ .operand .ensures)))), joins-alike)))
 
-formula-returns-4 : (t : ℕ) → formula-lts.Need-returns-4 (
-  operand-below t,
-  operand.Post,
-  more-below t,
-  more.Post,
-  arrow-below t,
-  arrow.Post,
-) (formula-at t) formula.Post
+formula-returns-4 : (t : ℕ) → formula-lts.Need-returns-4 (formula-calls t) (formula-at t) formula.Post
 formula-returns-4 t c =
     let c₃ = c .before .before .before in
     let c₄ = c₃ .before in
@@ -429,104 +326,41 @@ more-Inv-loop text names in-use words₀ here₀ depth strength first reading₀
 abbrev more-μ-loop : more-lts.MeasureT-loop
 more-μ-loop text names in-use words₀ here₀ depth strength first reading₀ words here reading = leftOf text here (readingOf reading here)
 
-more-loop-holds : (t : ℕ) → more-lts.Need-loop-holds (
-  look-reads.Asked,
-  look-reads.Learnt,
-  tighter-below t,
-  tighter.Post,
-  finish-reads.Asked,
-  finish-reads.Learnt,
-) (more-at t) more.Post more-Inv-loop more-μ-loop
+more-loop-holds : (t : ℕ) → more-lts.Need-loop-holds (more-calls t) (more-at t) more.Post more-Inv-loop more-μ-loop
 more-loop-holds t c = joined-left (c .before .pre .1 .1 .1) (c .before .pre .1 .1 .0)
 
-more-returns : (t : ℕ) → more-lts.Need-returns (
-  look-reads.Asked,
-  look-reads.Learnt,
-  tighter-below t,
-  tighter.Post,
-  finish-reads.Asked,
-  finish-reads.Learnt,
-) (more-at t) more.Post more-Inv-loop more-μ-loop
+more-returns : (t : ℕ) → more-lts.Need-returns (more-calls t) (more-at t) more.Post more-Inv-loop more-μ-loop
 more-returns t c = λ vs i X. joined-refused (c .before .loop .inv) X (refused-some _ _ (c .if1 .taken))
 
-more-sub-if2 : (t : ℕ) → more-lts.Need-sub-if2 (
-  look-reads.Asked,
-  look-reads.Learnt,
-  tighter-below t,
-  tighter.Post,
-  finish-reads.Asked,
-  finish-reads.Learnt,
-) (more-at t) more.Post more-Inv-loop more-μ-loop
+more-sub-if2 : (t : ℕ) → more-lts.Need-sub-if2 (more-calls t) (more-at t) more.Post more-Inv-loop more-μ-loop
 more-sub-if2 t c = let l = joining-most (c .before .before .before .before .pre .1 .1 .1) in omega arith
 
-more-returns-2 : (t : ℕ) → more-lts.Need-returns-2 (
-  look-reads.Asked,
-  look-reads.Learnt,
-  tighter-below t,
-  tighter.Post,
-  finish-reads.Asked,
-  finish-reads.Learnt,
-) (more-at t) more.Post more-Inv-loop more-μ-loop
+more-returns-2 : (t : ℕ) → more-lts.Need-returns-2 (more-calls t) (more-at t) more.Post more-Inv-loop more-μ-loop
 more-returns-2 t c = λ vs i X. joined-ends (c .before .before .before .loop .inv) (got-zero _ (c .before .before .if1 .left)) X (c .if2 .taken)
 
-more-look-requires : (t : ℕ) → more-lts.Need-look-requires (
-  look-reads.Asked,
-  look-reads.Learnt,
-  tighter-below t,
-  tighter.Post,
-  finish-reads.Asked,
-  finish-reads.Learnt,
-) (more-at t) more.Post more-Inv-loop more-μ-loop
+more-look-requires : (t : ℕ) → more-lts.Need-look-requires (more-calls t) (more-at t) more.Post more-Inv-loop more-μ-loop
 more-look-requires t c κs = c .before .before .before .before .before .before .loop .inv .size
 
-more-tighter-requires : (t : ℕ) → more-lts.Need-tighter-requires (
-  look-reads.Asked,
-  look-reads.Learnt,
-  tighter-below t,
-  tighter.Post,
-  finish-reads.Asked,
-  finish-reads.Learnt,
-) (more-at t) more.Post more-Inv-loop more-μ-loop
+more-tighter-requires : (t : ℕ) → more-lts.Need-tighter-requires (more-calls t) (more-at t) more.Post more-Inv-loop more-μ-loop
 more-tighter-requires t c κs =
     let c₁₁ = c .before .before .before .before .before .before .before .before .before .before .before in
     let m = c₁₁ .pre .0 in
     let l = joining-most (c₁₁ .pre .1 .1 .1) in
     (omega arith, (c₁₁ .pre .1 .0, (looks-ready (c .before .before .look .ensures), l)))
 
-more-sub-finish : (t : ℕ) → more-lts.Need-sub-finish (
-  look-reads.Asked,
-  look-reads.Learnt,
-  tighter-below t,
-  tighter.Post,
-  finish-reads.Asked,
-  finish-reads.Learnt,
-) (more-at t) more.Post more-Inv-loop more-μ-loop
+more-sub-finish : (t : ℕ) → more-lts.Need-sub-finish (more-calls t) (more-at t) more.Post more-Inv-loop more-μ-loop
 more-sub-finish t c =
     let c₁₄ = c .before .before .before .before .before .before .before .before .before .before .before .before .before .before in
     let l = joining-most (c₁₄ .pre .1 .1 .1) in
     omega arith
 
-more-finish-requires : (t : ℕ) → more-lts.Need-finish-requires (
-  look-reads.Asked,
-  look-reads.Learnt,
-  tighter-below t,
-  tighter.Post,
-  finish-reads.Asked,
-  finish-reads.Learnt,
-) (more-at t) more.Post more-Inv-loop more-μ-loop
+more-finish-requires : (t : ℕ) → more-lts.Need-finish-requires (more-calls t) (more-at t) more.Post more-Inv-loop more-μ-loop
 more-finish-requires t c κs =
     let c₁₄ = c .before .before .before .before .before .before .before .before .before .before .before .before .before .before in
     let l = joining-most (c₁₄ .pre .1 .1 .1) in
     (c .before .before .tighter .ensures .size, ((omega arith, omega arith), λ x. absurd (omega arith)))
 
-more-loop-less : (t : ℕ) → more-lts.Need-loop-less (
-  look-reads.Asked,
-  look-reads.Learnt,
-  tighter-below t,
-  tighter.Post,
-  finish-reads.Asked,
-  finish-reads.Learnt,
-) (more-at t) more.Post more-Inv-loop more-μ-loop
+more-loop-less : (t : ℕ) → more-lts.Need-loop-less (more-calls t) (more-at t) more.Post more-Inv-loop more-μ-loop
 more-loop-less t c =
     let c₃ = c .before .before .before in
     let c₆ = c₃ .before .before .before in
@@ -535,14 +369,7 @@ more-loop-less t c =
     let c₁₃ = c₁₂ .before in
     joined-less (c₁₃ .loop .inv) (got-zero _ (c₁₂ .if1 .left)) (c₁₀ .if2 .left) (c₆ .look .ensures) (c₃ .tighter .ensures) (c .finish .ensures)
 
-more-loop-again : (t : ℕ) → more-lts.Need-loop-again (
-  look-reads.Asked,
-  look-reads.Learnt,
-  tighter-below t,
-  tighter.Post,
-  finish-reads.Asked,
-  finish-reads.Learnt,
-) (more-at t) more.Post more-Inv-loop more-μ-loop
+more-loop-again : (t : ℕ) → more-lts.Need-loop-again (more-calls t) (more-at t) more.Post more-Inv-loop more-μ-loop
 more-loop-again t c =
     let c₃ = c .before .before .before in
     let c₆ = c₃ .before .before .before in
@@ -551,110 +378,25 @@ more-loop-again t c =
     let c₁₃ = c₁₂ .before in
     joined-on (c₁₃ .loop .inv) (got-zero _ (c₁₂ .if1 .left)) (c₁₀ .if2 .left) (c₆ .look .ensures) (c₃ .tighter .ensures) (c .finish .ensures)
 
-operand-atom-requires : (t : ℕ) → operand-lts.Need-atom-requires (
-  opens-reads.Asked,
-  opens-reads.Learnt,
-  atom-reads.Asked,
-  atom-reads.Learnt,
-  bracket-below t,
-  bracket.Post,
-  look-reads.Asked,
-  look-reads.Learnt,
-  operand-below t,
-  operand.Post,
-  finish-reads.Asked,
-  finish-reads.Learnt,
-  binds-place-reads.Asked,
-  binds-place-reads.Learnt,
-  quantified-below t,
-  quantified.Post,
-) (operand-at t) operand.Post
+operand-atom-requires : (t : ℕ) → operand-lts.Need-atom-requires (operand-calls t) (operand-at t) operand.Post
 operand-atom-requires t c κs = c .before .before .before .before .before .before .pre .1
 
-operand-returns : (t : ℕ) → operand-lts.Need-returns (
-  opens-reads.Asked,
-  opens-reads.Learnt,
-  atom-reads.Asked,
-  atom-reads.Learnt,
-  bracket-below t,
-  bracket.Post,
-  look-reads.Asked,
-  look-reads.Learnt,
-  operand-below t,
-  operand.Post,
-  finish-reads.Asked,
-  finish-reads.Learnt,
-  binds-place-reads.Asked,
-  binds-place-reads.Learnt,
-  quantified-below t,
-  quantified.Post,
-) (operand-at t) operand.Post
+operand-returns : (t : ℕ) → operand-lts.Need-returns (operand-calls t) (operand-at t) operand.Post
 operand-returns t c =
     let c₃ = c .before .before .before in
     let c₄ = c₃ .before in
     let c₇ = c₄ .before .before .before in
     operand-atom _ (c₇ .pre .1 .1) (closed-by _ _ (c₄ .opens .ensures) (c₃ .if1 .taken)) (c .atom .ensures)
 
-operand-returns-2 : (t : ℕ) → operand-lts.Need-returns-2 (
-  opens-reads.Asked,
-  opens-reads.Learnt,
-  atom-reads.Asked,
-  atom-reads.Learnt,
-  bracket-below t,
-  bracket.Post,
-  look-reads.Asked,
-  look-reads.Learnt,
-  operand-below t,
-  operand.Post,
-  finish-reads.Asked,
-  finish-reads.Learnt,
-  binds-place-reads.Asked,
-  binds-place-reads.Learnt,
-  quantified-below t,
-  quantified.Post,
-) (operand-at t) operand.Post
+operand-returns-2 : (t : ℕ) → operand-lts.Need-returns-2 (operand-calls t) (operand-at t) operand.Post
 operand-returns-2 t c =
     let c₅ = c .before .before .before .before .before in
     operand-deep _ (c₅ .pre .1 .1) (opened-by _ _ (c .before .before .opens .ensures) (c .before .if1 .left)) (c .if2 .taken)
 
-operand-sub-bracket : (t : ℕ) → operand-lts.Need-sub-bracket (
-  opens-reads.Asked,
-  opens-reads.Learnt,
-  atom-reads.Asked,
-  atom-reads.Learnt,
-  bracket-below t,
-  bracket.Post,
-  look-reads.Asked,
-  look-reads.Learnt,
-  operand-below t,
-  operand.Post,
-  finish-reads.Asked,
-  finish-reads.Learnt,
-  binds-place-reads.Asked,
-  binds-place-reads.Learnt,
-  quantified-below t,
-  quantified.Post,
-) (operand-at t) operand.Post
+operand-sub-bracket : (t : ℕ) → operand-lts.Need-sub-bracket (operand-calls t) (operand-at t) operand.Post
 operand-sub-bracket t c = let z = c .before .before .before .if2 .left in omega arith
 
-operand-bracket-requires : (t : ℕ) → operand-lts.Need-bracket-requires (
-  opens-reads.Asked,
-  opens-reads.Learnt,
-  atom-reads.Asked,
-  atom-reads.Learnt,
-  bracket-below t,
-  bracket.Post,
-  look-reads.Asked,
-  look-reads.Learnt,
-  operand-below t,
-  operand.Post,
-  finish-reads.Asked,
-  finish-reads.Learnt,
-  binds-place-reads.Asked,
-  binds-place-reads.Learnt,
-  quantified-below t,
-  quantified.Post,
-) (operand-at t) operand.Post
+operand-bracket-requires : (t : ℕ) → operand-lts.Need-bracket-requires (operand-calls t) (operand-at t) operand.Post
 operand-bracket-requires t c κs =
     let c₃ = c .before .before .before in
     let c₈ = c₃ .before .before .before .before .before in
@@ -662,88 +404,20 @@ operand-bracket-requires t c κs =
     let z = c₃ .if2 .left in
     (omega arith, (c₈ .pre .1 .0, (c₈ .pre .1 .1, c .before .before .if3 .taken)))
 
-operand-returns-3 : (t : ℕ) → operand-lts.Need-returns-3 (
-  opens-reads.Asked,
-  opens-reads.Learnt,
-  atom-reads.Asked,
-  atom-reads.Learnt,
-  bracket-below t,
-  bracket.Post,
-  look-reads.Asked,
-  look-reads.Learnt,
-  operand-below t,
-  operand.Post,
-  finish-reads.Asked,
-  finish-reads.Learnt,
-  binds-place-reads.Asked,
-  binds-place-reads.Learnt,
-  quantified-below t,
-  quantified.Post,
-) (operand-at t) operand.Post
+operand-returns-3 : (t : ℕ) → operand-lts.Need-returns-3 (operand-calls t) (operand-at t) operand.Post
 operand-returns-3 t c =
     let c₃ = c .before .before .before in
     let c₄ = c₃ .before in
     let c₉ = c₄ .before .before .before .before .before in
     operand-bracket _ (c₉ .pre .1 .1) (c₄ .if2 .left) (c₃ .if3 .taken) (c .bracket .ensures)
 
-operand-look-requires : (t : ℕ) → operand-lts.Need-look-requires (
-  opens-reads.Asked,
-  opens-reads.Learnt,
-  atom-reads.Asked,
-  atom-reads.Learnt,
-  bracket-below t,
-  bracket.Post,
-  look-reads.Asked,
-  look-reads.Learnt,
-  operand-below t,
-  operand.Post,
-  finish-reads.Asked,
-  finish-reads.Learnt,
-  binds-place-reads.Asked,
-  binds-place-reads.Learnt,
-  quantified-below t,
-  quantified.Post,
-) (operand-at t) operand.Post
+operand-look-requires : (t : ℕ) → operand-lts.Need-look-requires (operand-calls t) (operand-at t) operand.Post
 operand-look-requires t c κs = c .before .before .before .before .before .before .before .before .before .pre .1 .1 .size
 
-operand-sub-operand : (t : ℕ) → operand-lts.Need-sub-operand (
-  opens-reads.Asked,
-  opens-reads.Learnt,
-  atom-reads.Asked,
-  atom-reads.Learnt,
-  bracket-below t,
-  bracket.Post,
-  look-reads.Asked,
-  look-reads.Learnt,
-  operand-below t,
-  operand.Post,
-  finish-reads.Asked,
-  finish-reads.Learnt,
-  binds-place-reads.Asked,
-  binds-place-reads.Learnt,
-  quantified-below t,
-  quantified.Post,
-) (operand-at t) operand.Post
+operand-sub-operand : (t : ℕ) → operand-lts.Need-sub-operand (operand-calls t) (operand-at t) operand.Post
 operand-sub-operand t c = let z = c .before .before .before .before .before .before .before .if2 .left in omega arith
 
-operand-operand-requires : (t : ℕ) → operand-lts.Need-operand-requires (
-  opens-reads.Asked,
-  opens-reads.Learnt,
-  atom-reads.Asked,
-  atom-reads.Learnt,
-  bracket-below t,
-  bracket.Post,
-  look-reads.Asked,
-  look-reads.Learnt,
-  operand-below t,
-  operand.Post,
-  finish-reads.Asked,
-  finish-reads.Learnt,
-  binds-place-reads.Asked,
-  binds-place-reads.Learnt,
-  quantified-below t,
-  quantified.Post,
-) (operand-at t) operand.Post
+operand-operand-requires : (t : ℕ) → operand-lts.Need-operand-requires (operand-calls t) (operand-at t) operand.Post
 operand-operand-requires t c κs =
     let c₇ = c .before .before .before .before .before .before .before in
     let c₁₂ = c₇ .before .before .before .before .before in
@@ -751,44 +425,10 @@ operand-operand-requires t c κs =
     let z = c₇ .if2 .left in
     (omega arith, (c₁₂ .pre .1 .0, looks-ready (c .before .before .look .ensures)))
 
-operand-finish-requires : (t : ℕ) → operand-lts.Need-finish-requires (
-  opens-reads.Asked,
-  opens-reads.Learnt,
-  atom-reads.Asked,
-  atom-reads.Learnt,
-  bracket-below t,
-  bracket.Post,
-  look-reads.Asked,
-  look-reads.Learnt,
-  operand-below t,
-  operand.Post,
-  finish-reads.Asked,
-  finish-reads.Learnt,
-  binds-place-reads.Asked,
-  binds-place-reads.Learnt,
-  quantified-below t,
-  quantified.Post,
-) (operand-at t) operand.Post
+operand-finish-requires : (t : ℕ) → operand-lts.Need-finish-requires (operand-calls t) (operand-at t) operand.Post
 operand-finish-requires t c κs = (c .before .before .operand .ensures .size, ((omega arith, omega arith), λ x. absurd (omega arith)))
 
-operand-returns-4 : (t : ℕ) → operand-lts.Need-returns-4 (
-  opens-reads.Asked,
-  opens-reads.Learnt,
-  atom-reads.Asked,
-  atom-reads.Learnt,
-  bracket-below t,
-  bracket.Post,
-  look-reads.Asked,
-  look-reads.Learnt,
-  operand-below t,
-  operand.Post,
-  finish-reads.Asked,
-  finish-reads.Learnt,
-  binds-place-reads.Asked,
-  binds-place-reads.Learnt,
-  quantified-below t,
-  quantified.Post,
-) (operand-at t) operand.Post
+operand-returns-4 : (t : ℕ) → operand-lts.Need-returns-4 (operand-calls t) (operand-at t) operand.Post
 operand-returns-4 t c =
     let c₃ = c .before .before .before in
     let c₆ = c₃ .before .before .before in
@@ -797,44 +437,10 @@ operand-returns-4 t c =
     let c₁₆ = c₁₁ .before .before .before .before .before in
     operand-not _ (c₁₆ .pre .1 .1) (c₁₁ .if2 .left) (c₉ .if4 .taken) (c₆ .look .ensures) (c₃ .operand .ensures) (c .finish .ensures)
 
-operand-sub-quantified : (t : ℕ) → operand-lts.Need-sub-quantified (
-  opens-reads.Asked,
-  opens-reads.Learnt,
-  atom-reads.Asked,
-  atom-reads.Learnt,
-  bracket-below t,
-  bracket.Post,
-  look-reads.Asked,
-  look-reads.Learnt,
-  operand-below t,
-  operand.Post,
-  finish-reads.Asked,
-  finish-reads.Learnt,
-  binds-place-reads.Asked,
-  binds-place-reads.Learnt,
-  quantified-below t,
-  quantified.Post,
-) (operand-at t) operand.Post
+operand-sub-quantified : (t : ℕ) → operand-lts.Need-sub-quantified (operand-calls t) (operand-at t) operand.Post
 operand-sub-quantified t c = let z = c .before .before .before .before .before .before .if2 .left in omega arith
 
-operand-quantified-requires : (t : ℕ) → operand-lts.Need-quantified-requires (
-  opens-reads.Asked,
-  opens-reads.Learnt,
-  atom-reads.Asked,
-  atom-reads.Learnt,
-  bracket-below t,
-  bracket.Post,
-  look-reads.Asked,
-  look-reads.Learnt,
-  operand-below t,
-  operand.Post,
-  finish-reads.Asked,
-  finish-reads.Learnt,
-  binds-place-reads.Asked,
-  binds-place-reads.Learnt,
-  quantified-below t,
-  quantified.Post,
-) (operand-at t) operand.Post
+operand-quantified-requires : (t : ℕ) → operand-lts.Need-quantified-requires (operand-calls t) (operand-at t) operand.Post
 operand-quantified-requires t c κs =
     let c₃ = c .before .before .before in
     let c₄ = c₃ .before in
@@ -849,24 +455,7 @@ operand-quantified-requires t c κs =
     let o = order-place (kindAt (c₁₁ .args .here .now)) _ (c₃ .binds-place .ensures) (c .before .before .if5 .taken) in
     (omega arith, (c₁₁ .pre .1 .0, (c₁₁ .pre .1 .1, (q, o))))
 
-operand-returns-5 : (t : ℕ) → operand-lts.Need-returns-5 (
-  opens-reads.Asked,
-  opens-reads.Learnt,
-  atom-reads.Asked,
-  atom-reads.Learnt,
-  bracket-below t,
-  bracket.Post,
-  look-reads.Asked,
-  look-reads.Learnt,
-  operand-below t,
-  operand.Post,
-  finish-reads.Asked,
-  finish-reads.Learnt,
-  binds-place-reads.Asked,
-  binds-place-reads.Learnt,
-  quantified-below t,
-  quantified.Post,
-) (operand-at t) operand.Post
+operand-returns-5 : (t : ℕ) → operand-lts.Need-returns-5 (operand-calls t) (operand-at t) operand.Post
 operand-returns-5 t c =
     let c₅ = c .before .before .before .before .before in
     let c₆ = c₅ .before in
@@ -877,44 +466,10 @@ operand-returns-5 t c =
     let q = opens-quantifier _ (opened-by _ _ (c₉ .opens .ensures) (c₈ .if1 .left)) (c₆ .if3 .left) (c₅ .if4 .left) in
     operand-quantifier _ (c₁₂ .pre .1 .1) (c₇ .if2 .left) (q .0) (q .1) (c .quantified .ensures)
 
-operand-sub-quantified-2 : (t : ℕ) → operand-lts.Need-sub-quantified-2 (
-  opens-reads.Asked,
-  opens-reads.Learnt,
-  atom-reads.Asked,
-  atom-reads.Learnt,
-  bracket-below t,
-  bracket.Post,
-  look-reads.Asked,
-  look-reads.Learnt,
-  operand-below t,
-  operand.Post,
-  finish-reads.Asked,
-  finish-reads.Learnt,
-  binds-place-reads.Asked,
-  binds-place-reads.Learnt,
-  quantified-below t,
-  quantified.Post,
-) (operand-at t) operand.Post
+operand-sub-quantified-2 : (t : ℕ) → operand-lts.Need-sub-quantified-2 (operand-calls t) (operand-at t) operand.Post
 operand-sub-quantified-2 t c = let z = c .before .before .before .before .before .before .if2 .left in omega arith
 
-operand-quantified-requires-2 : (t : ℕ) → operand-lts.Need-quantified-requires-2 (
-  opens-reads.Asked,
-  opens-reads.Learnt,
-  atom-reads.Asked,
-  atom-reads.Learnt,
-  bracket-below t,
-  bracket.Post,
-  look-reads.Asked,
-  look-reads.Learnt,
-  operand-below t,
-  operand.Post,
-  finish-reads.Asked,
-  finish-reads.Learnt,
-  binds-place-reads.Asked,
-  binds-place-reads.Learnt,
-  quantified-below t,
-  quantified.Post,
-) (operand-at t) operand.Post
+operand-quantified-requires-2 : (t : ℕ) → operand-lts.Need-quantified-requires-2 (operand-calls t) (operand-at t) operand.Post
 operand-quantified-requires-2 t c κs =
     let c₃ = c .before .before .before in
     let c₄ = c₃ .before in
@@ -929,24 +484,7 @@ operand-quantified-requires-2 t c κs =
     let o = order-set (kindAt (c₁₁ .args .here .now)) _ (c₃ .binds-place .ensures) (c .before .before .if5 .left) in
     (omega arith, (c₁₁ .pre .1 .0, (c₁₁ .pre .1 .1, (q, o))))
 
-operand-returns-6 : (t : ℕ) → operand-lts.Need-returns-6 (
-  opens-reads.Asked,
-  opens-reads.Learnt,
-  atom-reads.Asked,
-  atom-reads.Learnt,
-  bracket-below t,
-  bracket.Post,
-  look-reads.Asked,
-  look-reads.Learnt,
-  operand-below t,
-  operand.Post,
-  finish-reads.Asked,
-  finish-reads.Learnt,
-  binds-place-reads.Asked,
-  binds-place-reads.Learnt,
-  quantified-below t,
-  quantified.Post,
-) (operand-at t) operand.Post
+operand-returns-6 : (t : ℕ) → operand-lts.Need-returns-6 (operand-calls t) (operand-at t) operand.Post
 operand-returns-6 t c =
     let c₅ = c .before .before .before .before .before in
     let c₆ = c₅ .before in
@@ -957,111 +495,32 @@ operand-returns-6 t c =
     let q = opens-quantifier _ (opened-by _ _ (c₉ .opens .ensures) (c₈ .if1 .left)) (c₆ .if3 .left) (c₅ .if4 .left) in
     operand-quantifier _ (c₁₂ .pre .1 .1) (c₇ .if2 .left) (q .0) (q .1) (c .quantified2 .ensures)
 
-quantified-element-copy-out-read-binder :
-    (t : ℕ) → quantified-lts.Need-element-copy-out-read-binder (
-      read-binder-reads.Asked,
-      read-binder-reads.Learnt,
-      bound-reads.Asked,
-      bound-reads.Learnt,
-      greater-reads.Asked,
-      greater-reads.Learnt,
-      look-reads.Asked,
-      look-reads.Learnt,
-      formula-below t,
-      formula.Post,
-      finish-reads.Asked,
-      finish-reads.Learnt,
-    ) (quantified-at t) quantified.Post
+quantified-element-copy-out-read-binder : (t : ℕ) → quantified-lts.Need-element-copy-out-read-binder (quantified-calls t) (quantified-at t) quantified.Post
 quantified-element-copy-out-read-binder t c = search needs
 
-quantified-bound-requires : (t : ℕ) → quantified-lts.Need-bound-requires (
-  read-binder-reads.Asked,
-  read-binder-reads.Learnt,
-  bound-reads.Asked,
-  bound-reads.Learnt,
-  greater-reads.Asked,
-  greater-reads.Learnt,
-  look-reads.Asked,
-  look-reads.Learnt,
-  formula-below t,
-  formula.Post,
-  finish-reads.Asked,
-  finish-reads.Learnt,
-) (quantified-at t) quantified.Post
+quantified-bound-requires : (t : ℕ) → quantified-lts.Need-bound-requires (quantified-calls t) (quantified-at t) quantified.Post
 quantified-bound-requires t c κs = (binder-there (c .before .before .before .read-binder .ensures) (c .before .start .given .1)) .few
 
-quantified-add-greater : (t : ℕ) → quantified-lts.Need-add-greater (
-  read-binder-reads.Asked,
-  read-binder-reads.Learnt,
-  bound-reads.Asked,
-  bound-reads.Learnt,
-  greater-reads.Asked,
-  greater-reads.Learnt,
-  look-reads.Asked,
-  look-reads.Learnt,
-  formula-below t,
-  formula.Post,
-  finish-reads.Asked,
-  finish-reads.Learnt,
-) (quantified-at t) quantified.Post
+quantified-add-greater : (t : ℕ) → quantified-lts.Need-add-greater (quantified-calls t) (quantified-at t) quantified.Post
 quantified-add-greater t c =
     let c₃ = c .before .before .before in
     let c₅ = c₃ .before .before in
     let l = (binder-there (c₅ .read-binder .ensures) (c₃ .start .given .1)) .few in
     omega arith
 
-quantified-look-requires : (t : ℕ) → quantified-lts.Need-look-requires (
-  read-binder-reads.Asked,
-  read-binder-reads.Learnt,
-  bound-reads.Asked,
-  bound-reads.Learnt,
-  greater-reads.Asked,
-  greater-reads.Learnt,
-  look-reads.Asked,
-  look-reads.Learnt,
-  formula-below t,
-  formula.Post,
-  finish-reads.Asked,
-  finish-reads.Learnt,
-) (quantified-at t) quantified.Post
+quantified-look-requires : (t : ℕ) → quantified-lts.Need-look-requires (quantified-calls t) (quantified-at t) quantified.Post
 quantified-look-requires t c κs =
     let c₁₁ = c .before .before .before .before .before .before .before .before .before .before .before in
     size-after (c₁₁ .args .here .now) 3 (c .before .greater .result) (c₁₁ .pre .1 .1 .0 .size)
 
-quantified-add-formula : (t : ℕ) → quantified-lts.Need-add-formula (
-  read-binder-reads.Asked,
-  read-binder-reads.Learnt,
-  bound-reads.Asked,
-  bound-reads.Learnt,
-  greater-reads.Asked,
-  greater-reads.Learnt,
-  look-reads.Asked,
-  look-reads.Learnt,
-  formula-below t,
-  formula.Post,
-  finish-reads.Asked,
-  finish-reads.Learnt,
-) (quantified-at t) quantified.Post
+quantified-add-formula : (t : ℕ) → quantified-lts.Need-add-formula (quantified-calls t) (quantified-at t) quantified.Post
 quantified-add-formula t c =
     let c₇ = c .before .before .before .before .before .before .before in
     let c₉ = c₇ .before .before in
     let l = (binder-there (c₉ .read-binder .ensures) (c₇ .start .given .1)) .few in
     omega arith
 
-quantified-formula-requires : (t : ℕ) → quantified-lts.Need-formula-requires (
-  read-binder-reads.Asked,
-  read-binder-reads.Learnt,
-  bound-reads.Asked,
-  bound-reads.Learnt,
-  greater-reads.Asked,
-  greater-reads.Learnt,
-  look-reads.Asked,
-  look-reads.Learnt,
-  formula-below t,
-  formula.Post,
-  finish-reads.Asked,
-  finish-reads.Learnt,
-) (quantified-at t) quantified.Post
+quantified-formula-requires : (t : ℕ) → quantified-lts.Need-formula-requires (quantified-calls t) (quantified-at t) quantified.Post
 quantified-formula-requires t c κs =
     let c₃ = c .before .before .before in
     let c₇ = c₃ .before .before .before .before in
@@ -1072,20 +531,7 @@ quantified-formula-requires t c κs =
     let b = binder-there (c₁₁ .read-binder .ensures) (c₉ .start .given .1) in
     (omega arith, (bound-fits (c₇ .bound .ensures) (c₁₅ .pre .1 .0) (b .span), (looks-ready (c₃ .look .ensures), omega arith)))
 
-quantified-finish-requires : (t : ℕ) → quantified-lts.Need-finish-requires (
-  read-binder-reads.Asked,
-  read-binder-reads.Learnt,
-  bound-reads.Asked,
-  bound-reads.Learnt,
-  greater-reads.Asked,
-  greater-reads.Learnt,
-  look-reads.Asked,
-  look-reads.Learnt,
-  formula-below t,
-  formula.Post,
-  finish-reads.Asked,
-  finish-reads.Learnt,
-) (quantified-at t) quantified.Post
+quantified-finish-requires : (t : ℕ) → quantified-lts.Need-finish-requires (quantified-calls t) (quantified-at t) quantified.Post
 quantified-finish-requires t c κs =
     let c₁₂ = c .before .before .before .before .before .before .before .before .before .before .before .before in
     let c₁₄ = c₁₂ .before .before in
@@ -1096,20 +542,7 @@ quantified-finish-requires t c κs =
     let f = (binder-there (c₁₄ .read-binder .ensures) (c₁₂ .start .given .1)) .few in
     (c .before .before .formula .ensures .size, ((l, omega arith), λ x. (g, omega arith)))
 
-quantified-returns : (t : ℕ) → quantified-lts.Need-returns (
-  read-binder-reads.Asked,
-  read-binder-reads.Learnt,
-  bound-reads.Asked,
-  bound-reads.Learnt,
-  greater-reads.Asked,
-  greater-reads.Learnt,
-  look-reads.Asked,
-  look-reads.Learnt,
-  formula-below t,
-  formula.Post,
-  finish-reads.Asked,
-  finish-reads.Learnt,
-) (quantified-at t) quantified.Post
+quantified-returns : (t : ℕ) → quantified-lts.Need-returns (quantified-calls t) (quantified-at t) quantified.Post
 quantified-returns t c =
     let c₃ = c .before .before .before in
     let c₇ = c₃ .before .before .before .before in
@@ -1122,59 +555,26 @@ quantified-returns t c =
     (binder-there (c₁₅ .read-binder .ensures) (c₁₃ .start .given .1)) (c₁₁ .bound .ensures) (c₁₉ .pre .1 .1 .1 .1)
     (tracked-as (c₁₉ .pre .1 .1 .0 .size) (c₉ .greater .ensures)) (c₇ .look .ensures) (c₃ .formula .ensures) (c .finish .ensures)
 
-quantified-returns-2 : (t : ℕ) → quantified-lts.Need-returns-2 (
-  read-binder-reads.Asked,
-  read-binder-reads.Learnt,
-  bound-reads.Asked,
-  bound-reads.Learnt,
-  greater-reads.Asked,
-  greater-reads.Learnt,
-  look-reads.Asked,
-  look-reads.Learnt,
-  formula-below t,
-  formula.Post,
-  finish-reads.Asked,
-  finish-reads.Learnt,
-) (quantified-at t) quantified.Post
+quantified-returns-2 : (t : ℕ) → quantified-lts.Need-returns-2 (quantified-calls t) (quantified-at t) quantified.Post
 quantified-returns-2 t c =
     let c₃ = c .before .before .before in
     let c₇ = c₃ .before .before .before .before in
     quantified-unbound _ (c₇ .pre .1 .1 .0) (c₇ .pre .1 .1 .1 .0 .0) (c₇ .pre .1 .1 .1 .0 .1) _ _ (c₃ .read-binder .ensures) (c .before .number .given .1)
 
-tighter-operand-requires : (t : ℕ) → tighter-lts.Need-operand-requires (
-  operand-below t,
-  operand.Post,
-  formula-below t,
-  formula.Post,
-) (tighter-at t) tighter.Post
+tighter-operand-requires : (t : ℕ) → tighter-lts.Need-operand-requires (tighter-calls t) (tighter-at t) tighter.Post
 tighter-operand-requires t c κs =
     let c₄ = c .before .before .before .before in
     let m = c₄ .pre .0 in
     let e = c .before .before .if1 .taken in
     (omega arith, (c₄ .pre .1 .0, c₄ .pre .1 .1 .0))
 
-tighter-returns : (t : ℕ) → tighter-lts.Need-returns (
-  operand-below t,
-  operand.Post,
-  formula-below t,
-  formula.Post,
-) (tighter-at t) tighter.Post
+tighter-returns : (t : ℕ) → tighter-lts.Need-returns (tighter-calls t) (tighter-at t) tighter.Post
 tighter-returns t c = level-as _ _ _ (let e = c .before .before .before .if1 .taken in omega arith) (c .operand .ensures)
 
-tighter-add-formula : (t : ℕ) → tighter-lts.Need-add-formula (
-  operand-below t,
-  operand.Post,
-  formula-below t,
-  formula.Post,
-) (tighter-at t) tighter.Post
+tighter-add-formula : (t : ℕ) → tighter-lts.Need-add-formula (tighter-calls t) (tighter-at t) tighter.Post
 tighter-add-formula t c = let l = c .before .before .before .before .pre .1 .1 .1 in omega arith
 
-tighter-formula-requires : (t : ℕ) → tighter-lts.Need-formula-requires (
-  operand-below t,
-  operand.Post,
-  formula-below t,
-  formula.Post,
-) (tighter-at t) tighter.Post
+tighter-formula-requires : (t : ℕ) → tighter-lts.Need-formula-requires (tighter-calls t) (tighter-at t) tighter.Post
 tighter-formula-requires t c κs =
     let c₄ = c .before .before .before .before in
     let m = c₄ .pre .0 in
@@ -1182,28 +582,12 @@ tighter-formula-requires t c κs =
     let z = c .before .before .if1 .left in
     (omega arith, (c₄ .pre .1 .0, (c₄ .pre .1 .1 .0, omega arith)))
 
-tighter-returns-2 : (t : ℕ) → tighter-lts.Need-returns-2 (
-  operand-below t,
-  operand.Post,
-  formula-below t,
-  formula.Post,
-) (tighter-at t) tighter.Post
+tighter-returns-2 : (t : ℕ) → tighter-lts.Need-returns-2 (tighter-calls t) (tighter-at t) tighter.Post
 tighter-returns-2 t c = level-as _ _ _ (omega arith) (c .formula .ensures)
 
 pub +arrow+bracket+formula+more+operand+quantified+tighter-spec : {M : Type 1} → statement M
 +arrow+bracket+formula+more+operand+quantified+tighter-spec =
-    close μ-arrow μ-bracket μ-formula μ-more μ-operand μ-quantified μ-tighter (λ t. arrow-lts.spec (
-      put-not-reads.Asked,
-      put-not-reads.Learnt,
-      look-reads.Asked,
-      look-reads.Learnt,
-      formula-below t,
-      formula.Post,
-      finish-reads.Asked,
-      finish-reads.Learnt,
-    )
-    (arrow-at t)
-    arrow.Post
+    close μ-arrow μ-bracket μ-formula μ-more μ-operand μ-quantified μ-tighter (λ t. arrow-lts.spec (arrow-calls t) (arrow-at t) arrow.Post
     (arrow-returns t)
     (λ c. search needs)
     (arrow-returns-2 t)
@@ -1217,31 +601,13 @@ pub +arrow+bracket+formula+more+operand+quantified+tighter-spec : {M : Type 1} �
     (arrow-formula-requires t)
     (arrow-finish-requires t)
     (arrow-returns-4 t))
-    (λ t. bracket-lts.spec (
-      look-reads.Asked,
-      look-reads.Learnt,
-      formula-below t,
-      formula.Post,
-      close-reads.Asked,
-      close-reads.Learnt,
-    )
-    (bracket-at t)
-    bracket.Post
+    (λ t. bracket-lts.spec (bracket-calls t) (bracket-at t) bracket.Post
     (λ c. search needs)
     (bracket-look-requires t)
     (bracket-formula-requires t)
     (bracket-close-requires t)
     (bracket-returns t))
-    (λ t. formula-lts.spec (
-      operand-below t,
-      operand.Post,
-      more-below t,
-      more.Post,
-      arrow-below t,
-      arrow.Post,
-    )
-    (formula-at t)
-    formula.Post
+    (λ t. formula-lts.spec (formula-calls t) (formula-at t) formula.Post
     (formula-operand-requires t)
     (formula-more-requires t)
     (formula-returns t)
@@ -1251,16 +617,7 @@ pub +arrow+bracket+formula+more+operand+quantified+tighter-spec : {M : Type 1} �
     (formula-returns-3 t)
     (formula-more-requires-3 t)
     (formula-returns-4 t))
-    (λ t. more-lts.spec (
-      look-reads.Asked,
-      look-reads.Learnt,
-      tighter-below t,
-      tighter.Post,
-      finish-reads.Asked,
-      finish-reads.Learnt,
-    )
-    (more-at t)
-    more.Post
+    (λ t. more-lts.spec (more-calls t) (more-at t) more.Post
     more-Inv-loop
     more-μ-loop
     (more-loop-holds t)
@@ -1276,26 +633,7 @@ pub +arrow+bracket+formula+more+operand+quantified+tighter-spec : {M : Type 1} �
     (more-finish-requires t)
     (more-loop-less t)
     (more-loop-again t))
-    (λ t. operand-lts.spec (
-      opens-reads.Asked,
-      opens-reads.Learnt,
-      atom-reads.Asked,
-      atom-reads.Learnt,
-      bracket-below t,
-      bracket.Post,
-      look-reads.Asked,
-      look-reads.Learnt,
-      operand-below t,
-      operand.Post,
-      finish-reads.Asked,
-      finish-reads.Learnt,
-      binds-place-reads.Asked,
-      binds-place-reads.Learnt,
-      quantified-below t,
-      quantified.Post,
-    )
-    (operand-at t)
-    operand.Post
+    (λ t. operand-lts.spec (operand-calls t) (operand-at t) operand.Post
     (λ c. search needs)
     (λ c κs. search needs)
     (operand-atom-requires t)
@@ -1317,22 +655,7 @@ pub +arrow+bracket+formula+more+operand+quantified+tighter-spec : {M : Type 1} �
     (operand-sub-quantified-2 t)
     (operand-quantified-requires-2 t)
     (operand-returns-6 t))
-    (λ t. quantified-lts.spec (
-      read-binder-reads.Asked,
-      read-binder-reads.Learnt,
-      bound-reads.Asked,
-      bound-reads.Learnt,
-      greater-reads.Asked,
-      greater-reads.Learnt,
-      look-reads.Asked,
-      look-reads.Learnt,
-      formula-below t,
-      formula.Post,
-      finish-reads.Asked,
-      finish-reads.Learnt,
-    )
-    (quantified-at t)
-    quantified.Post
+    (λ t. quantified-lts.spec (quantified-calls t) (quantified-at t) quantified.Post
     (λ c. search needs)
     (quantified-element-copy-out-read-binder t)
     (λ c κs. search needs)
@@ -1351,10 +674,7 @@ pub +arrow+bracket+formula+more+operand+quantified+tighter-spec : {M : Type 1} �
     (λ c. search needs)
     (quantified-returns t)
     (quantified-returns-2 t))
-    λ t. tighter-lts.spec
-    (operand-below t, operand.Post, formula-below t, formula.Post)
-    (tighter-at t)
-    tighter.Post
+    λ t. tighter-lts.spec (tighter-calls t) (tighter-at t) tighter.Post
     (tighter-operand-requires t)
     (tighter-returns t)
     (tighter-add-formula t)
