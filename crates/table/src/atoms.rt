@@ -1,4 +1,4 @@
-// The transition rules of the five atoms, as constant tables over the two bits and the two branch states.
+// The transition rules of the five atoms, over the two bits and the two branch states: four as constant tables, Sing by its formula.
 ghost use mathlib.Core.Path.{_≡_};
 ghost use Prim.Native.Nat.{_/_, _%_, _<_};
 ghost use Rattle.table.specs.Succ.{subsetRule, singleRule, child1Rule, child2Rule, rootRule};
@@ -77,78 +77,17 @@ pub fn subset_at(k: usize) -> u64
     SUBSET[k] as u64
 }
 
-const SINGLE: [u8; 64] = [
-    0,
-    1,
-    2,
-    2,
-    1,
-    2,
-    2,
-    2,
-    2,
-    2,
-    2,
-    2,
-    2,
-    2,
-    2,
-    2,
-    0,
-    1,
-    2,
-    2,
-    1,
-    2,
-    2,
-    2,
-    2,
-    2,
-    2,
-    2,
-    2,
-    2,
-    2,
-    2,
-    1,
-    2,
-    2,
-    2,
-    2,
-    2,
-    2,
-    2,
-    2,
-    2,
-    2,
-    2,
-    2,
-    2,
-    2,
-    2,
-    1,
-    2,
-    2,
-    2,
-    2,
-    2,
-    2,
-    2,
-    2,
-    2,
-    2,
-    2,
-    2,
-    2,
-    2,
-    2,
-];
-
+// Sing has no table: its rule is the smaller of 2 and the sum of both branches' states and the bit. They stand in the number that the
+// others' tables are indexed by.
 pub fn single_at(k: usize) -> u64
     requires { ⌜ k < 64 ⌝ }
     ensures { λ r. ⌜ r ≡ singleRule (k / 32) (k / 16 % 2) (k / 4 % 4) (k % 4) ⌝ }
 {
-    SINGLE[k] as u64
+    let bit = (k / 32) as u8;
+    let first = (k / 4 % 4) as u8;
+    let second = (k % 4) as u8;
+    let sum = first + second + bit;
+    if sum < 2 { sum as u64 } else { 2 }
 }
 
 const CHILD1: [u8; 64] = [

@@ -1,17 +1,16 @@
--- `single_at` meets its contract: the table's rule is a test at each of its entries, which antt computes. Assumes nothing.
-use Rattle.words.proofs.Vocabulary.{ℕ, refl, List, [], _∷_, needs, arith}
-use Rattle.table.specs.Succ.{singleRule}
-use Rattle.table.proofs.Rules.{rule-at, byte-at}
+-- `single_at` meets its contract: a sum below 2 is the smaller of it and 2, and else 2 is. Assumes nothing.
+use Rattle.words.proofs.Vocabulary.{needs, arith}
 use Rattle.table.proofs.atoms.single_at.Statement.{statement}
 use Rattle.table.proofs.atoms.single_at.Tie as tie
 
-abbrev entries : List ℕ
-entries =
-    0 ∷ 1 ∷ 2 ∷ 2 ∷ 1 ∷ 2 ∷ 2 ∷ 2 ∷ 2 ∷ 2 ∷ 2 ∷ 2 ∷ 2 ∷ 2 ∷ 2 ∷ 2 ∷ 0 ∷ 1 ∷ 2 ∷ 2 ∷ 1 ∷ 2 ∷ 2 ∷ 2 ∷ 2 ∷ 2 ∷ 2 ∷ 2 ∷ 2 ∷ 2 ∷ 2 ∷ 2
-    ∷ 1 ∷ 2 ∷ 2 ∷ 2 ∷ 2 ∷ 2 ∷ 2 ∷ 2 ∷ 2 ∷ 2 ∷ 2 ∷ 2 ∷ 2 ∷ 2 ∷ 2 ∷ 2 ∷ 1 ∷ 2 ∷ 2 ∷ 2 ∷ 2 ∷ 2 ∷ 2 ∷ 2 ∷ 2 ∷ 2 ∷ 2 ∷ 2 ∷ 2 ∷ 2 ∷ 2 ∷ 2 ∷ []
+returns-sum : tie.Need-returns
+returns-sum c = omega arith
+
+returns-two : tie.Need-returns-2
+returns-two c = omega arith
 
 pub single-at-spec : {M : Type 1} → statement M
 single-at-spec =
     tie.close
-    (tie.spec (λ c. search needs) (λ c. let b = byte-at entries refl (c .args .k) (search needs) in omega arith)
-    (λ c. rule-at singleRule entries refl (c .args .k) (search needs)))
+    (tie.spec (λ c. search needs) (λ c. search needs) (λ c. search needs) (λ c. search needs) (λ c. search needs) (λ c. search needs) returns-sum
+    returns-two)
