@@ -3,14 +3,8 @@ use Rattle.words.proofs.Vocabulary.{needs, arith}
 use Rattle.table.proofs.atoms.single_at.Statement.{statement}
 use Rattle.table.proofs.atoms.single_at.Tie as tie
 
-returns-sum : tie.Need-returns
-returns-sum c = omega arith
-
-returns-two : tie.Need-returns-2
-returns-two c = omega arith
-
 pub single-at-spec : {M : Type 1} → statement M
 single-at-spec =
     tie.close
-    (tie.spec (λ c. search needs) (λ c. search needs) (λ c. search needs) (λ c. search needs) (λ c. search needs) (λ c. search needs) returns-sum
-    returns-two)
+    (tie.spec (λ c. search needs) (λ c. search needs) (λ c. search needs) (λ c. search needs) (λ c. search needs) (λ c. search needs)
+    (λ c. omega arith) (λ c. omega arith))
