@@ -6,9 +6,9 @@ use native.Mathlib.Nat.{mul-le-mul-right}
 use native.Mathlib.Omega.{arith}
 use borrow.Author.Tests.{ne-eqb}
 use lib.Dec.{eqb·suc-zero}
-use lib.ListN.{length, drop}
+use lib.ListN.{length, take, drop}
 use lib.Seq.{take-append-seam}
-use Rattle.logic.specs.Tree.{positions}
+use Rattle.logic.specs.Tree.{Tree, positions}
 use Rattle.logic.specs.Claims.{Outcome, refused14, shown, none, larger}
 use Rattle.logic.proofs.Answers.{decide-answers, shown-fits}
 use Rattle.solver.specs.Solve.{outcomeOf}
@@ -85,15 +85,23 @@ placed-is Sound zero n (shown places states t) e = absurd (let z : _≡_ {A = �
 placed-is Sound zero n (none states) e = absurd (let z : _≡_ {A = ℕ} 0 1 = cc in omega arith)
 placed-is Sound zero n (larger states) e = absurd (let z : _≡_ {A = ℕ} 0 1 = cc in omega arith)
 
+-- the strip of a tree that is shown stands at the front of out
+pub strip-first : (rule : List ℕ) (c P : ℕ) (ws out : List ℕ) {out′ : List ℕ} → out′ ≡ outOf rule c P (length ws) out
+    → earlyRefusal rule c P (length ws) (length out) ≡ nothing → (places states : ℕ) (t : Tree 2) → decidedOf rule c P ≡ shown places states t
+    → take (length (treeStrip (variablesOf rule) t)) out′ ≡ treeStrip (variablesOf rule) t
+unfolding outOf outAfter
+strip-first rule c P ws out eo e places states t f =
+    let s = treeStrip (variablesOf rule) t in rw eo (rw e (rw f (take-append-seam s (drop (length s) out))))
+
 -- DEMANDS 2 AND 3, of what decide answers and leaves in out, and the place that it names
 pub claim : (rule : List ℕ) (c P : ℕ) (ws out : List ℕ) {x : Verdict} → x ≡ verdictOf rule c P (length ws) (length out)
     → {out′ : List ℕ} → out′ ≡ outOf rule c P (length ws) out → Claim rule c P (length ws) (length out) x out′
-unfolding earlyRefusal verdictOf outOf outAfter
+unfolding earlyRefusal verdictOf
 claim rule c P ws out ex eo = record {
   outcome = λ e. decidedOf rule c P;
   answers = λ e. decide-answers 2 (variablesOf rule) (recordsOf rule) c P (rule-accepted rule (accepted e) .records-accepted);
   told = λ e. ex ∙ rw e;
-  shows = λ e places states t f. rw (eo) (rw e (rw f (take-append-seam (treeStrip (variablesOf rule) t) (drop (length (treeStrip (variablesOf rule) t)) out))));
+  shows = strip-first rule c P ws out eo;
   names = λ k p e. place-told rule
       (placed-is (ruleFault rule) (roomRefusal (variablesOf rule) (countOf rule) c P (length ws) (length out)) (variablesOf rule) (decidedOf rule c P)
       (sym ex ∙ e));

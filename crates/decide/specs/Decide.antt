@@ -5,11 +5,11 @@ use mathlib.Core.List.{List, _++_}
 use lib.ListN.{length, take, drop}
 use Rattle.logic.specs.Rule.{lastOf}
 use Rattle.logic.specs.Tree.{Tree, positions}
-use Rattle.logic.specs.Claims.{Outcome, refused14, shown, none, larger, statesAt, Answers}
+use Rattle.logic.specs.Claims.{Outcome, refused14, shown, none, larger, statesAt, Answers, Shallow}
 use Rattle.logic.specs.Decide.{decideOf}
 use Rattle.rule_strip.specs.RuleStrip.{variablesOf, countOf, recordsOf, ruleFault}
 use Rattle.rule_strip.specs.RulePlaces.{Offends}
-use Rattle.tree_strip.specs.TreeStrip.{treeStrip, treeBytes}
+use Rattle.tree_strip.specs.TreeStrip.{treeStrip, treeBytes, readTree, parsed}
 use Rattle.rules.specs.Refusal.{Refusal, nothing, placed, plain, checked, tested, unlessRefused}
 use Rattle.rules.specs.Room.{roomFor, cleared, roomRefusal}
 use Rattle.decide.specs.declared.Verdict.{Verdict}
@@ -71,3 +71,18 @@ pub record Claim (rule : List ℕ) (c P room outRoom : ℕ) (v : Verdict) (out :
   pub shows : (e : earlyRefusal rule c P room outRoom ≡ nothing) → (places states : ℕ) (t : Tree 2) → outcome e ≡ shown places states t
       → take (length (treeStrip (variablesOf rule) t)) out ≡ treeStrip (variablesOf rule) t
   pub names : (k p : ℕ) → v ≡ RefusedAt k p → Offends rule k p
+
+-- the strip is read as a tree of this many positions, and a stack of so many entries is enough to walk it: no downward path of the tree has
+-- as many positions; "states" at most c, and "c 1 to 64"
+pub record ShallowStrip (strip : List ℕ) (c places states : ℕ) : Type 0 where
+  pub tree : Tree 2
+  pub rest : List ℕ
+  pub read : readTree strip ≡ parsed tree places rest
+  pub shallow : Shallow states tree
+  pub few : states ≤ c
+  pub at-most : c ≤ 64
+
+-- A4, "A bound on depth for the builder", of decide's result v and the bytes that out holds at the end: where v shows a tree, its strip is
+-- the first bytes of out, as many as v tells
+abbrev pub ShowsShallow : ℕ → Verdict → List ℕ → Type 0
+ShowsShallow c v out = (places states bytes : ℕ) → v ≡ Shown places states bytes → ShallowStrip (take bytes out) c places states

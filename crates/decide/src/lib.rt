@@ -5,7 +5,7 @@ ghost use lib.ListN.{length};
 ghost use Rattle.solver.specs.Solve.{outcomeOf, Ranked};
 ghost use Rattle.rule_strip.specs.RuleStrip.{AcceptedRule};
 ghost use Rattle.rules.specs.Room.{roomFor, cleared, roomRefusal, Roomy};
-ghost use Rattle.decide.specs.Decide.{decidedOf, tell, outAfter, Spacious, verdictOf, workspaceOf, outOf, Claim};
+ghost use Rattle.decide.specs.Decide.{decidedOf, tell, outAfter, Spacious, verdictOf, workspaceOf, outOf, Claim, ShowsShallow};
 use records::Ending;
 use rule_strip::RuleCheck;
 use rules::decode::decode;
@@ -135,6 +135,7 @@ pub fn decide(rule: &[u8], c: u64, p: u64, ws: &mut [u8], out: &mut [u8]) -> Ver
     ensures { λ _. ⌜ now (ws .exit) ≡ workspaceOf (now (rule .entry)) c p (now (ws .entry)) (length (now (out .entry))) ⌝ }
     ensures { λ _. ⌜ now (out .exit) ≡ outOf (now (rule .entry)) c p (length (now (ws .entry))) (now (out .entry)) ⌝ }
     ensures { λ r. ⌜ Claim (now (rule .entry)) c p (length (now (ws .entry))) (length (now (out .entry))) r (now (out .exit)) ⌝ }
+    ensures { λ r. ⌜ ShowsShallow c r (now (out .exit)) ⌝ }
 {
     match rule_strip::check_rule(rule) {
         RuleCheck::Refused { number, place } => Verdict::RefusedAt { number, place },

@@ -1,6 +1,6 @@
 -- THE TOP THEOREMS: the answers of decide and judge are what the papers ask for, and the only such.
 -- Assumes nothing.
-use Prim.Native.Nat.{ℕ, suc, _-_, _^_, _≤_, _<_}
+use Prim.Native.Nat.{ℕ, _-_, _^_, _≤_, _<_}
 use mathlib.Core.Path.{_≡_, refl, sym, ap, ap₂, subst, _∙_}
 use mathlib.Core.Logic.{_↔_, _⊎_, inl, inr, ⊎-elim}
 use mathlib.Core.Bool.{Bool, true, false, cond}
@@ -9,7 +9,7 @@ use native.Mathlib.Omega.{arith}
 use lib.Dec.{T}
 use lib.ListN.{length}
 use Rattle.logic.specs.Meaning.{Assignment, Holds}
-use Rattle.logic.specs.Tree.{Tree, empty, node, positions, nodeAt, Proper, Represents, TreeOf, SameSets}
+use Rattle.logic.specs.Tree.{Tree, empty, node, positions, Proper, Represents, TreeOf, SameSets}
 use Rattle.logic.specs.Order.{_≺_, _⪯_}
 use Rattle.logic.specs.Rule.{Record, extend, formulaAt, lastOf, Satisfies, Accepted}
 use Rattle.logic.specs.Machine.{Machine, run, Decides}
@@ -32,6 +32,10 @@ use Rattle.logic.proofs.Rules.{record-right, extend-length, tablesOf, t
 use Rattle.logic.specs.Alike.{Full}
 use Rattle.logic.proofs.Settle.{Accepts, RightForTrees, search-right}
 use Rattle.logic.proofs.Depth.{earliest-shallow}
+
+-- a tree that is shown is shallow
+abbrev Bounded : {k : ℕ} → Outcome k → Type 0
+Bounded {k} o = (places states : ℕ) (t : Tree k) → o ≡ shown places states t → Shallow states t
 
 -- trimming gives an earlier tree
 trim-⪯ : {k : ℕ} (t : Tree k) → trim t ⪯ t
@@ -107,12 +111,11 @@ module _ (k n : ℕ) (rs : List Record) (c P : ℕ) where
           after B u b m (inl p) = inr p
           after B u b m (inr e) = inl (sets-same n (setsOf n t) B t (m .tree) (subst (TreeOf n B) (sym e) (b .tree)))
 
-      shown-shallow : Full n q M → Shallow (shown (positions t) q t)
+      shown-shallow : Full n q M → Bounded (shown (positions t) q t)
       unfolding RightForTrees
-      shown-shallow F places s u e p h =
+      shown-shallow F places s u e =
           let y : q ≡ s = cc in let z : t ≡ u = cc in
-          subst (λ (s : ℕ). suc (length p) < s) y
-          (earliest-shallow n q M F t (r .0 .0) (λ v o d. r .2 v (o, ap (M .accepting) d ∙ r .0 .1)) p (subst (λ (v : Tree k). T (nodeAt v p)) (sym z) h))
+          rw (← y, ← z) (earliest-shallow n q M F t (r .0 .0) (λ v o d. r .2 v (o, ap (M .accepting) d ∙ r .0 .1)))
 
       tree-right : Answers n rs c P q (shown (positions t) q t)
       unfolding RightForTrees
@@ -177,7 +180,7 @@ module _ (k n : ℕ) (rs : List Record) (c P : ℕ) where
     sought-right large r = large-right r
     sought-right absent r = absent-right r
 
-    sought-shallow : Full n q M → (x : Sought k) → RightForTrees n M P x → Shallow (report q x)
+    sought-shallow : Full n q M → (x : Sought k) → RightForTrees n M P x → Bounded (report q x)
     unfolding report
     sought-shallow F (tree t) r = shown-shallow t r F
     sought-shallow F large r = λ m s u e. absurd (let z : _≡_ {A = ℕ} 0 1 = cc in omega arith)
@@ -233,16 +236,16 @@ module _ (k n : ℕ) (rs : List Record) (c P : ℕ) where
         (sought-right (says-roomy ts w) (Last .machine) (last-right .1) states (search (2 ^ n) Last P)
         (search-right n Last (last-right .0, last-right .2) P))
 
-    conclude-shallow : (b : Built k) → Says k n c (extend [] rs) b → Shallow (conclude n rs P b)
+    conclude-shallow : (b : Built k) → Says k n c (extend [] rs) b → Bounded (conclude n rs P b)
     unfolding conclude
     conclude-shallow (over r) w = λ m q u e. absurd (let z : _≡_ {A = ℕ} 0 1 = cc in omega arith)
     conclude-shallow (built ts) w =
-        subst (λ (a : Table k). Shallow (report (a .count) (search (2 ^ n) a P))) (sym (says-last ts w))
+        subst (λ (a : Table k). Bounded (report (a .count) (search (2 ^ n) a P))) (sym (says-last ts w))
         (sought-shallow (says-roomy ts w) (Last .machine) (last-right .1) states (last-right .0, last-right .2) (search (2 ^ n) Last P)
         (search-right n Last (last-right .0, last-right .2) P))
 
-    -- the bound on depth
-    pub decide-shallow : Shallow (decideOf k n rs c P)
+    -- A4, a bound on depth, of the tree that is shown
+    pub decide-shallow : Bounded (decideOf k n rs c P)
     unfolding decideOf
     decide-shallow = conclude-shallow (buildAll n c rs []) (built-says k n c rs)
 
@@ -259,18 +262,26 @@ module _ (k n : ℕ) (rs : List Record) (c P : ℕ) where
         go (over r) w = inl (r, (decide-answers .refused-is r) .1 (says-first r w))
         go (built ts) w = inr (says-roomy ts w)
 
-    -- a shown tree has as many positions as are reported, and no more than the place ceiling
-    pub shown-fits : (places states : ℕ) (t : Tree k) → decideOf k n rs c P ≡ shown places states t → (places ≡ positions t) × (positions t ≤ P)
-    shown-fits places q t e = ⊎-elim
-        (λ w. absurd (let f = sym e ∙ w .1 in let z : _≡_ {A = ℕ} 0 1 = cc in omega arith))
-        (λ R.
-        let d = decide-answers .demand3 R in
-        let v = d .shown-right places q t e in
-        let x : places ≡ positions t = v .1 .counted in
-        let m = (d .shown-is) .0 (t, e ∙ ap₂ (λ (i j : ℕ). shown i j t) x (v .0)) in
-        let a = v .1 .fewest (m .0) (m .1) (m .2) in
-        (x, let b = m .3 in omega arith))
-        over-or-roomy
+    -- of a tree that is shown
+    module _ (places q : ℕ) (t : Tree k) (e : decideOf k n rs c P ≡ shown places q t) where
+      shown-roomy : Roomy k n rs c
+      shown-roomy = ⊎-elim (λ w. absurd (let f = sym e ∙ w .1 in let z : _≡_ {A = ℕ} 0 1 = cc in omega arith)) (λ R. R) over-or-roomy
+
+      pub shown-earliest : (q ≡ states) × Earliest n rs places t
+      shown-earliest = decide-answers .demand3 shown-roomy .shown-right places q t e
+
+      -- it has as many positions as are reported, and no more than the place ceiling
+      pub shown-fits : (places ≡ positions t) × (positions t ≤ P)
+      shown-fits =
+          let v = shown-earliest in
+          let x : places ≡ positions t = v .1 .counted in
+          let m = (decide-answers .demand3 shown-roomy .shown-is) .0 (t, e ∙ ap₂ (λ (i j : ℕ). shown i j t) x (v .0)) in
+          let a = v .1 .fewest (m .0) (m .1) (m .2) in
+          (x, let b = m .3 in omega arith)
+
+      -- no more states are reported than the state ceiling
+      pub shown-states : q ≤ c
+      shown-states = let a = shown-roomy (lastOf rs) (let h = ok .0 in omega arith) in let b = shown-earliest .0 in omega arith
 
     conclude-only : (o : Outcome k) → Answers n rs c P states o → (b : Built k) → Says k n c (extend [] rs) b → o ≡ conclude n rs P b
     unfolding conclude

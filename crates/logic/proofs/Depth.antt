@@ -7,11 +7,12 @@ use mathlib.Core.Bool.{Bool, true, false, cond}
 use mathlib.Core.List.{List, [], _∷_}
 use native.Mathlib.Omega.{arith}
 use lib.Dec.{T}
-use lib.ListN.{length, getD}
+use lib.ListN.{length, getD, length-append}
 use Rattle.logic.specs.Meaning.{Branch, Place, sameBranch}
 use Rattle.logic.specs.Tree.{Tree, empty, node, positions, nodeAt, Proper}
 use Rattle.logic.specs.Order.{_≺_, _⪯_}
 use Rattle.logic.specs.Machine.{Machine, run}
+use Rattle.logic.specs.Claims.{Downward, Shallow}
 use Rattle.logic.proofs.Places.{true→T, branch-eq}
 use Rattle.logic.proofs.Branches.{same-branch}
 use Rattle.logic.proofs.Orders.{less, same, more, ≺-tri, ≺-irrefl, ⪯-antisym, ⪯-positions, branch-fewer, node-⪯}
@@ -70,6 +71,16 @@ apart-cons c x xs h f v = record { below = low; apart = off }
 apart-length : (c : ℕ) (xs : List ℕ) → Apart c xs → length xs ≤ c
 apart-length c xs v = pigeon c (length xs) (λ i. getD xs i 0) (v .below) (v .apart)
 
+-- a downward path ends as far below its first position as there are positions after that
+path-end : {k : ℕ} (t : Tree k) (p : Place k) (path : List (Place k)) → Downward t (p ∷ path)
+    → (q : Place k) × T (nodeAt t q) × (length q ≡ length p + length path)
+unfolding Downward
+path-end t p [] d = (p, d, omega arith)
+path-end t p (q ∷ path) d =
+    let w = path-end t q path (d .2) in
+    let e = ap length (d .1 .1) ∙ length-append p (d .1 .0 ∷ []) in
+    (w .0, w .1, omega (arith, w .2))
+
 module _ {k : ℕ} (n count : ℕ) (M : Machine k ℕ) (m : Full n count M) where
   -- the states above are states of trees with more than d positions only
   abbrev Heavier : List ℕ → ℕ → Type 0
@@ -101,7 +112,14 @@ module _ {k : ℕ} (n count : ℕ) (M : Machine k ℕ) (m : Full n count M) wher
       (heavier above (node l f) (positions (f b)) e (branch-fewer l f b) w) in
       omega arith
 
-  pub earliest-shallow : (t : Tree k) → Proper n t → Earliest n M t → (p : Place k) → T (nodeAt t p) → suc (length p) < count
-  earliest-shallow t o e p h =
-      let a = low p t [] h o e (record { below = λ i q. absurd (omega arith); apart = λ i j q r. absurd (omega arith) }) (λ i q. absurd (omega arith)) in
-      omega arith
+  pub earliest-shallow : (t : Tree k) → Proper n t → Earliest n M t → Shallow count t
+  earliest-shallow t o e = go
+    where
+      none-above : Apart count []
+      none-above = record { below = λ i q. absurd (omega arith); apart = λ i j q r. absurd (omega arith) }
+
+      go : Shallow count t
+      go [] d = let a = room [] none-above (λ i q. absurd (omega arith)) in omega arith
+      go (p ∷ path) d =
+          let w = path-end t p path d in
+          let a = low (w .0) t [] (w .1) o e none-above (λ i q. absurd (omega arith)) in omega (arith, w .2)

@@ -1,12 +1,12 @@
 -- What the demands ask of decide's and judge's answers to an accepted rule, once the ceilings and buffers are in order.
 -- The claims are in terms of assignments, their trees and the order of trees; `statesAt` alone speaks of machines. Assumes nothing.
-use Prim.Native.Nat.{ℕ, suc, _≤_, _<_}
+use Prim.Native.Nat.{ℕ, _≤_, _<_}
 use mathlib.Core.Path.{_≡_}
 use mathlib.Core.Logic.{_↔_, _⊎_}
-use mathlib.Core.List.{List}
+use mathlib.Core.List.{List, [], _∷_, _++_}
 use lib.Dec.{T}
 use lib.ListN.{length}
-use Rattle.logic.specs.Meaning.{Place, Assignment}
+use Rattle.logic.specs.Meaning.{Branch, Place, Assignment}
 use Rattle.logic.specs.Tree.{Tree, positions, nodeAt, TreeOf, SameSets}
 use Rattle.logic.specs.Order.{_≺_}
 use Rattle.logic.specs.Rule.{Record, formulaAt, Satisfies}
@@ -81,6 +81,12 @@ pub record Judges {k : ℕ} (n : ℕ) (rs : List Record) (c : ℕ) (t : Tree k) 
   pub yes-is : Roomy k n rs c → (A : Assignment k) → TreeOf n A t → (j ≡ yes) ↔ Satisfies rs A
   pub no-is : Roomy k n rs c → (A : Assignment k) → TreeOf n A t → (j ≡ no) ↔ (¬ Satisfies rs A)
 
--- a bound on depth: no downward path of a shown tree has as many positions as there are states
-abbrev pub Shallow : {k : ℕ} → Outcome k → Type 0
-Shallow {k} o = (places states : ℕ) (t : Tree k) → o ≡ shown places states t → (p : Place k) → T (nodeAt t p) → suc (length p) < states
+-- a downward path of t: positions, each a branch of the one before it
+unfoldable pub Downward : {k : ℕ} → Tree k → List (Place k) → Type 0
+Downward t [] = Unit {0}
+Downward t (p ∷ []) = T (nodeAt t p)
+Downward {k} t (p ∷ (q ∷ path)) = T (nodeAt t p) × ((b : Branch k) × (q ≡ p ++ (b ∷ []))) × Downward t (q ∷ path)
+
+-- A4, "A bound on depth for the builder": "no downward path [..] has as many positions as the reported number of states"
+abbrev pub Shallow : {k : ℕ} → ℕ → Tree k → Type 0
+Shallow {k} states t = (path : List (Place k)) → Downward t path → length path < states

@@ -15,7 +15,7 @@ use Rattle.decide.specs.declared.Verdict.the-variants as verdict
 use Rattle.rule_strip.specs.RulePlaces.{Offends}
 use Rattle.tree_strip.specs.TreePlaces.{OffendsAt}
 use Rattle.judge.specs.Judge.{JudgeClaim}
-use Rattle.decide.specs.Decide.{Claim}
+use Rattle.decide.specs.Decide.{Claim, ShallowStrip}
 use Rattle.text.specs.Claims.{Imported}
 use Rattle.import.specs.declared.Import.{Import}
 use Rattle.import.specs.declared.Import.the-variants as written
@@ -77,6 +77,10 @@ pub record DecidedInNumbers (rule : List ℕ) (c P room outRoom : ℕ) (r : Verd
   pub answer : Verdict
   pub claim : Claim rule c P room outRoom answer out
   pub numbers : r ≡ verdictNumbers answer
+
+-- A4, "A bound on depth for the builder": the tree that is shown is the one whose strip is the first bytes of out, as many as are told
+abbrev pub ShallowInNumbers : ℕ → VerdictNumbers → List ℕ → Type 0
+ShallowInNumbers c r out = r .kind ≡ 0 → ShallowStrip (take (r .length) out) c (r .positions) (r .states)
 
 -- A2, "Rules typed as text": unless it is refused, what stands at the front of out is the rule that the text says
 abbrev pub ImportedInNumbers : List ℕ → WrittenNumbers → List ℕ → Type 0

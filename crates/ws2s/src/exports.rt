@@ -10,7 +10,7 @@ ghost use Rattle.text.specs.Grammar.{textOf};
 ghost use Rattle.text.specs.Import.{import, outAfter};
 ghost use Rattle.import.specs.Answers.{importedOf, faultOf};
 ghost use Rattle.ws2s.specs.Numbers.{ruleNumbers, treeNumbers, judgementNumbers, verdictNumbers, writtenNumbers, faultNumbers};
-ghost use Rattle.ws2s.specs.Numbers.{RuleRefusedAt, TreeRefusedAt, JudgedInNumbers, DecidedInNumbers, ImportedInNumbers};
+ghost use Rattle.ws2s.specs.Numbers.{RuleRefusedAt, TreeRefusedAt, JudgedInNumbers, DecidedInNumbers, ShallowInNumbers, ImportedInNumbers};
 use decide::Verdict;
 use import::Import;
 use import::TextFault;
@@ -262,6 +262,7 @@ pub extern "C" fn ws2s_decide(
     ensures { λ _. ⌜ now (workspace .exit) ≡ workspaceOf (now (rule .entry)) c p (now (workspace .entry)) (length (now (out .entry))) ⌝ }
     ensures { λ _. ⌜ now (out .exit) ≡ outOf (now (rule .entry)) c p (length (now (workspace .entry))) (now (out .entry)) ⌝ }
     ensures { λ r. ⌜ DecidedInNumbers (now (rule .entry)) c p (length (now (workspace .entry))) (length (now (out .entry))) r (now (out .exit)) ⌝ }
+    ensures { λ r. ⌜ ShallowInNumbers c r (now (out .exit)) ⌝ }
 {
     verdict_numbers(decide::decide(rule, c, p, workspace, out))
 }

@@ -2,6 +2,7 @@
 use mathlib.Core.Path.{sym, _∙_}
 use Rattle.rule_strip.proofs.RuleLaws.{checked-accepted, checked-refused}
 use Rattle.decide.proofs.Verdicts.{ends-refused, claim}
+use Rattle.decide.proofs.Shown.{shows-shallow}
 use borrow.Author.Needs.{needs}
 use Rattle.decide.proofs.decide.Statement.{statement}
 use Rattle.decide.proofs.decide.Tie as tie
@@ -15,15 +16,19 @@ decide-accepted-requires c κs =
 returns : tie.Need-returns
 returns c =
     let a = c .before .before .before .before .before .before .before .args in
-    let w = checked-refused (a .rule .now) _ _ (sym (c .before .before .before .check-rule .ensures) ∙ c .before .number .given .1) in
-    let e = ends-refused (a .rule .now) (a .c) (a .p) (a .ws .now) (a .out .now) _ _ w in
-    (e .0, (e .1 .0, (e .1 .1, claim (a .rule .now) (a .c) (a .p) (a .ws .now) (a .out .now) (e .0) (e .1 .1))))
+    let f = checked-refused (a .rule .now) _ _ (sym (c .before .before .before .check-rule .ensures) ∙ c .before .number .given .1) in
+    let e = ends-refused (a .rule .now) (a .c) (a .p) (a .ws .now) (a .out .now) _ _ f in
+    let w = claim (a .rule .now) (a .c) (a .p) (a .ws .now) (a .out .now) (e .0) (e .1 .1) in
+    let d = shows-shallow (a .rule .now) (a .c) (a .p) (a .ws .now) (a .out .now) (e .0) (e .1 .1) in
+    (e .0, (e .1 .0, (e .1 .1, (w, d))))
 
 returns-2 : tie.Need-returns-2
 returns-2 c =
     let a = c .before .before .before .before .before .before .before .before .before .before .before .before .before .before .args in
     let e = c .before .before .before .before .decide-accepted .ensures in
-    (e .0, (e .1 .0, (e .1 .1, claim (a .rule .now) (a .c) (a .p) (a .ws .now) (a .out .now) (e .0) (e .1 .1))))
+    let w = claim (a .rule .now) (a .c) (a .p) (a .ws .now) (a .out .now) (e .0) (e .1 .1) in
+    let d = shows-shallow (a .rule .now) (a .c) (a .p) (a .ws .now) (a .out .now) (e .0) (e .1 .1) in
+    (e .0, (e .1 .0, (e .1 .1, (w, d))))
 
 pub decide-spec : {M : Type 1} → statement M
 decide-spec =

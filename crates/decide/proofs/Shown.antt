@@ -1,0 +1,72 @@
+-- A4: the strip of a shown tree, as it stands in out, and the bound on the tree's depth. Assumes nothing.
+use Prim.Native.Nat.{ℕ}
+use mathlib.Core.Path.{_≡_, refl, sym, ap, subst, _∙_}
+use mathlib.Core.List.{List}
+use native.Mathlib.Omega.{arith}
+use lib.ListN.{length, take, replicate}
+use Rattle.logic.specs.Tree.{Tree}
+use Rattle.logic.specs.Claims.{Outcome, refused14, shown, none, larger}
+use Rattle.logic.proofs.Answers.{decide-shallow, shown-earliest, shown-fits, shown-states}
+use Rattle.logic.proofs.Assignments.{tree-of-trimmed}
+use Rattle.rule_strip.specs.RuleStrip.{variablesOf, countOf, recordsOf, ruleFault}
+use Rattle.rule_strip.proofs.RuleLaws.{rule-accepted}
+use Rattle.tree_strip.specs.TreeStrip.{treeStrip, readTree, parsed}
+use Rattle.tree_strip.proofs.TreeLaws.{tree-read-back}
+use Rattle.rules.specs.Refusal.{Refusal, nothing, placed, plain, tested}
+use Rattle.rules.specs.Room.{roomRefusal}
+use Rattle.rules.proofs.Refusals.{checked-free, tested-free}
+use Rattle.rules.proofs.Rooms.{room-free}
+use Rattle.decide.proofs.Verdicts.{strip-first}
+use Rattle.decide.specs.Decide.{earlyRefusal, decidedOf, tell, refusedOr, verdictOf, outOf, ShallowStrip, ShowsShallow}
+use Rattle.decide.specs.declared.Verdict.{Verdict}
+use Rattle.decide.specs.declared.Verdict.the-variants.{Shown}
+
+-- the outcome that shown tells
+told-tree : (n : ℕ) (o : Outcome 2) {places states bytes : ℕ} → tell n o ≡ Shown places states bytes
+    → (t : Tree 2) × (o ≡ shown places states t) × (bytes ≡ length (treeStrip n t))
+unfolding tell
+told-tree n (refused14 r) e = absurd (let z : _≡_ {A = ℕ} 0 1 = cc in omega arith)
+told-tree n (shown places states t) e = (t, cc, cc)
+told-tree n (none states) e = absurd (let z : _≡_ {A = ℕ} 0 1 = cc in omega arith)
+told-tree n (larger states) e = absurd (let z : _≡_ {A = ℕ} 0 1 = cc in omega arith)
+
+module _ (rule : List ℕ) (c P : ℕ) (ws out : List ℕ) where
+  abbrev early : Refusal
+  early = earlyRefusal rule c P (length ws) (length out)
+
+  -- the strip of the tree that is shown
+  strip-shallow : early ≡ nothing → (places states : ℕ) (t : Tree 2) → decidedOf rule c P ≡ shown places states t
+      → ShallowStrip (treeStrip (variablesOf rule) t) c places states
+  unfolding earlyRefusal
+  strip-shallow e places states t f =
+      let n = variablesOf rule in
+      let a = checked-free (ruleFault rule) _ e in
+      let g = rule-accepted rule (a .0) in
+      let ok = g .records-accepted in
+      let r = room-free n (countOf rule) c (length ws) P (length out) (tested-free _ nothing (a .1) .0) in
+      let m = shown-earliest 2 n (recordsOf rule) c P ok places states t f .1 .model .tree in
+      let w = shown-fits 2 n (recordsOf rule) c P ok places states t f in
+      let b = tree-read-back n t (g .some-variable) (g .few-variables) (m .proper) (tree-of-trimmed n _ t m) (omega (arith, w .1, r .few-places)) in
+      record {
+        tree = t;
+        rest = replicate (b .0) 0;
+        read = b .1 ∙ ap (λ (N : ℕ). parsed t N (replicate (b .0) 0)) (sym (w .0));
+        shallow = λ path d. let h = decide-shallow 2 n (recordsOf rule) c P ok places states t f path d in omega arith;
+        few = shown-states 2 n (recordsOf rule) c P ok places states t f;
+        at-most = r .roomy .few-states;
+      }
+
+  pub shows-shallow : {x : Verdict} → x ≡ verdictOf rule c P (length ws) (length out)
+      → {out′ : List ℕ} → out′ ≡ outOf rule c P (length ws) out → ShowsShallow c x out′
+  unfolding verdictOf
+  shows-shallow ex {out′ = out′} eo places states bytes f = go early refl (sym ex ∙ f)
+    where
+      go : (r : Refusal) → early ≡ r → refusedOr r (tell (variablesOf rule) (decidedOf rule c P)) ≡ Shown places states bytes
+          → ShallowStrip (take bytes out′) c places states
+      go (placed k p) e h = absurd (let z : _≡_ {A = ℕ} 0 1 = cc in omega arith)
+      go (plain k) e h = absurd (let z : _≡_ {A = ℕ} 0 1 = cc in omega arith)
+      go nothing e h =
+          let w = told-tree (variablesOf rule) (decidedOf rule c P) h in
+          let z = strip-first rule c P ws out eo e places states (w .0) (w .1) in
+          subst (λ (s : List ℕ). ShallowStrip s c places states) (sym (ap (λ (l : ℕ). take l out′) (w .2) ∙ z))
+          (strip-shallow e places states (w .0) (w .1))
