@@ -43,7 +43,7 @@ help:
 	@echo 'make command           the same, and build the command, target/bin/ws2s'
 	@echo 'make all               all of these'
 	@echo 'make test              the gate: prove everything from nothing and run every test'
-	@echo 'make host-test         what the gate tests beside the proofs: header, vectors, attack, stack, programs, install, documents, make'
+	@echo 'make host-test         what the gate tests beside the proofs: header, vectors, attack, stack, depth, programs, install, documents, make'
 	@echo 'make attack            a longer attack on the library [SEED=n CALLS=n]'
 	@echo 'make bound             how many places a rule of at most 16 states can need'
 	@echo 'make example           the example host program on a rule strip [RULE=file NAMES="belt seat"]'
@@ -106,6 +106,9 @@ $(HOST)/verdict: tests/host/verdict.c $(ORACLE) tests/host/request.h tests/host/
 $(HOST)/stack: tests/host/stack.c $(ORACLE) tests/host/lent.h tests/host/request.h tests/host/strip.h $(ORACLE_HEADERS) $(HEADER) $(ARCHIVE)
 	$(link) -pthread
 
+$(HOST)/depth: tests/host/depth.c tests/host/request.h tests/host/strip.h $(HEADER) $(ARCHIVE)
+	$(link)
+
 $(HOST)/command: tests/host/command.c $(CLI) tests/host/strip.h $(CLI_HEADERS) $(HEADER) $(ARCHIVE)
 	@mkdir -p $(@D)
 	$(CC) $(CFLAGS) $(SANITIZE) -Iinclude -Dmain=command_main -c cli/ws2s.c -o $@.o
@@ -123,7 +126,8 @@ $(HOST)/bound: tests/bound/bound.c tests/oracle/atom.h
 
 host-test: export CC := $(CC)
 host-test: export CXX := $(CXX)
-host-test: $(foreach t,vectors vectors-shared attack header stack verdict command,$(HOST)/$(t)) $(COMMAND) $(VERDICT)
+host-test: export SANITIZE := $(SANITIZE)
+host-test: $(foreach t,vectors vectors-shared attack header stack depth verdict command,$(HOST)/$(t)) $(COMMAND) $(VERDICT)
 	tests/host/exports.sh crates/ws2s/src/exports.rt $(HEADER) $(ARCHIVE) $(SHARED)
 	tests/host/header.sh $(ARCHIVE)
 	$(HOST)/header
@@ -132,6 +136,7 @@ host-test: $(foreach t,vectors vectors-shared attack header stack verdict comman
 	$(HOST)/vectors-shared $(VECTORS)
 	$(HOST)/attack 1 300000
 	$(HOST)/stack $(VECTORS) tests/vectors/heavy.txt
+	tests/host/depth.sh $(HOST)/depth $(COMMAND) $(ARCHIVE) $(VECTORS) tests/vectors/heavy.txt $(SAMPLES)
 	$(HOST)/verdict $(VERDICT) $(VECTORS)
 	tests/host/command.sh $(COMMAND)
 	$(HOST)/command 1 1000

@@ -59,11 +59,12 @@ static void put_in_xml(FILE *to, const char *text)
         }
 }
 
-void put_outline(FILE *to, const uint8_t *tree, size_t length, const struct names *names)
+void put_outline(FILE *to, const struct tree *tree, const struct names *names)
 {
-    ws2s_walk walk;
-    ws2s_walk_begin(&walk, tree, length);
+    uint8_t stack[tree->stack];
     unsigned places = 0;
+    ws2s_walk walk;
+    ws2s_walk_begin(&walk, tree->byte, tree->length, stack);
     for (; ws2s_walk_next(&walk); places++) {
         fprintf(to, "%*s", (int)(2 * walk.inside), "");
         put_kinds(to, &walk, names, put_plain);
@@ -81,12 +82,14 @@ static unsigned above(const ws2s_walk *walk, unsigned number, unsigned *last)
     return walk->depth > 0 ? last[walk->depth - 1] : 0;
 }
 
-void put_dot(FILE *to, const uint8_t *tree, size_t length, const struct names *names)
+void put_dot(FILE *to, const struct tree *tree, const struct names *names)
 {
-    unsigned last[WS2S_MAX_POSITIONS], number = 0;
+    uint8_t stack[tree->stack];
+    unsigned last[tree->stack], number = 0;
     ws2s_walk walk;
     fputs("digraph tree {\n    node [shape=box, style=rounded, fontname=\"sans-serif\"];\n", to);
-    for (ws2s_walk_begin(&walk, tree, length); ws2s_walk_next(&walk); number++) {
+    ws2s_walk_begin(&walk, tree->byte, tree->length, stack);
+    for (; ws2s_walk_next(&walk); number++) {
         unsigned from = above(&walk, number, last);
         fprintf(to, "    n%u [label=\"", number);
         put_kinds(to, &walk, names, put_in_dot);
@@ -114,14 +117,16 @@ struct layout {
     } node[WS2S_MAX_POSITIONS];
 };
 
-static void lay_out(struct layout *l, const uint8_t *tree, size_t length, const struct names *names)
+static void lay_out(struct layout *l, const struct tree *tree, const struct names *names)
 {
     size_t characters = 0;
-    unsigned last[WS2S_MAX_POSITIONS];
+    uint8_t stack[tree->stack];
+    unsigned last[tree->stack];
     unsigned inside[WS2S_MAX_POSITIONS] = { 0 }, beside[WS2S_MAX_POSITIONS] = { 0 }; /* columns of the branches */
     ws2s_walk walk;
     l->nodes = l->rows = 0;
-    for (ws2s_walk_begin(&walk, tree, length); ws2s_walk_next(&walk); l->nodes++) {
+    ws2s_walk_begin(&walk, tree->byte, tree->length, stack);
+    for (; ws2s_walk_next(&walk); l->nodes++) {
         size_t here = put_kinds(NULL, &walk, names, put_nothing);
         l->node[l->nodes] = (struct node){ .from = above(&walk, l->nodes, last), .branch = walk.branch,
                                            .row = walk.inside };
@@ -166,11 +171,12 @@ static void put_line(FILE *to, const struct layout *l, const struct node *n)
                 left_of(l, from) + l->width, top_of(from) + HIGH / 2, left_of(l, n), top_of(n) + HIGH / 2);
 }
 
-void put_svg(FILE *to, const uint8_t *tree, size_t length, const struct names *names)
+void put_svg(FILE *to, const struct tree *tree, const struct names *names)
 {
     struct layout l;
+    uint8_t stack[tree->stack];
     ws2s_walk walk;
-    lay_out(&l, tree, length, names);
+    lay_out(&l, tree, names);
     size_t width = l.nodes > 0 ? l.columns * (l.width + GAP) - GAP : TEXT * strlen(empty_tree);
     unsigned height = l.nodes > 0 ? l.rows * (HIGH + GAP) - GAP : HIGH;
     fprintf(to, "<svg xmlns=\"http://www.w3.org/2000/svg\" width=\"%zu\" height=\"%u\" font-family=\"sans-serif\" "
@@ -183,7 +189,7 @@ void put_svg(FILE *to, const uint8_t *tree, size_t length, const struct names *n
                 top_of(&l.node[i]), l.width, (unsigned)HIGH);
     }
     fputs("</g>\n", to);
-    ws2s_walk_begin(&walk, tree, length);
+    ws2s_walk_begin(&walk, tree->byte, tree->length, stack);
     for (unsigned i = 0; ws2s_walk_next(&walk); i++) {
         fprintf(to, "<text x=\"%zu\" y=\"%u\">", left_of(&l, &l.node[i]) + l.width / 2, top_of(&l.node[i]) + 21);
         put_kinds(to, &walk, names, put_in_xml);

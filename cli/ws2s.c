@@ -339,25 +339,25 @@ static enum status read_named_rule(const struct arguments *a, struct strip *rule
     return checked->refusal == 0 ? too_many_names(names, checked->variables) : GOOD;
 }
 
-static void put_tree(const uint8_t *tree, size_t length, enum form form, const struct names *names)
+static void put_tree(const struct tree *tree, enum form form, const struct names *names)
 {
     switch (form) {
     case HEX:
-        for (size_t i = 0; i < length; i++)
-            printf("%02X", tree[i]);
+        for (size_t i = 0; i < tree->length; i++)
+            printf("%02X", tree->byte[i]);
         printf("\n");
         break;
     case STRIP:
-        fwrite(tree, 1, length, stdout);
+        fwrite(tree->byte, 1, tree->length, stdout);
         break;
     case DOT:
-        put_dot(stdout, tree, length, names);
+        put_dot(stdout, tree, names);
         break;
     case SVG:
-        put_svg(stdout, tree, length, names);
+        put_svg(stdout, tree, names);
         break;
     default:
-        put_outline(stdout, tree, length, names);
+        put_outline(stdout, tree, names);
     }
 }
 
@@ -382,7 +382,7 @@ static enum status decide(const struct arguments *a)
         if (a->form == OUTLINE)
             printf("shown: %u place%s, %u state%s\n", (unsigned)v.positions, plural(v.positions), (unsigned)v.states,
                    plural(v.states));
-        put_tree(out, v.length, a->form, &names);
+        put_tree(&(struct tree){ out, v.length, v.states }, a->form, &names);
         return GOOD;
     case WS2S_NONE:
         fprintf(words, "none: no finite sets satisfy the rule\n");
@@ -479,7 +479,7 @@ static enum status tree(const struct arguments *a)
         return refuse(a->operand[0], (struct refusal){ checked.refusal, 0, checked.place }, &strip, &names);
     if ((status = too_many_names(&names, checked.variables)))
         return status;
-    put_tree(strip.byte, strip.length, a->form, &names);
+    put_tree(&(struct tree){ strip.byte, strip.length, WS2S_MAX_POSITIONS }, a->form, &names);
     return GOOD;
 }
 

@@ -29,8 +29,11 @@ int main(int argc, char **argv)
     switch (v.kind) {
     case WS2S_SHOWN: { /* the earliest tree that satisfies the rule */
         ws2s_walk w;
+        uint8_t *stack = (uint8_t *)malloc(v.states); /* no way down the tree has as many places: that is proved */
+        if (!stack)
+            return 4;
         printf("shown, places: %d\n", (int)v.positions);
-        ws2s_walk_begin(&w, out, v.length);
+        ws2s_walk_begin(&w, out, v.length, stack);
         while (ws2s_walk_next(&w)) {
             printf("%*s-", 2 * (int)w.inside, ""); /* what is inside a part stands below it, further in */
             for (int k = 0; k < (int)checked.variables; k++)
@@ -38,6 +41,7 @@ int main(int argc, char **argv)
                     printf(" %s", k + 2 < argc ? argv[k + 2] : "part");
             printf("\n");
         }
+        free(stack);
         return 0;
     }
     case WS2S_NONE:

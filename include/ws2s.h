@@ -72,12 +72,12 @@
 extern "C" {
 #endif
 
-#define WS2S_VERSION "2.1.0"
+#define WS2S_VERSION "2.2.0"
 
 /* Limits. Buffers of these sizes serve every rule and every tree. */
 #define WS2S_MAX_VARIABLES 8
 #define WS2S_MAX_RECORDS 128
-#define WS2S_MAX_STATES 64             /* the highest c */
+#define WS2S_MAX_STATES 64             /* the highest c; also a stack for every shown tree */
 #define WS2S_MAX_POSITIONS 255         /* the highest P; nodes of a tree */
 #define WS2S_MAX_RULE_BYTES 290        /* also the out buffer that ws2s_import asks for */
 #define WS2S_MAX_TREE_BYTES 320        /* also the longest out buffer asked for */
@@ -215,7 +215,9 @@ ws2s_judgement ws2s_judge(const uint8_t *rule, size_t rule_len, uint64_t c,
  *   none    no finite sets satisfy the rule.
  *   larger  some do, but every tree that does has more than P positions.
  *
- * "states" counts the states of the last record's machine.
+ * "states" counts the states of the last record's machine, at most c. No downward
+ * path of a shown tree has as many nodes as that, so a stack of "states" entries is
+ * enough to walk it, whatever P is.
  *
  * The workspace needs m * 2^n * c * c bytes: ws2s_workspace_size; the out buffer
  * 8 + P (n + 1) + P + 1 bits rounded up to bytes: ws2s_out_size. Refusals in
@@ -334,10 +336,11 @@ static inline const char *ws2s_refusal_help(uint64_t refusal)
 }
 
 /* A walk over the nodes of a tree strip: a node, then all of its first branch,
- * then all of its second.
+ * then all of its second. The host lends it a stack.
  *
  *     ws2s_walk w;
- *     ws2s_walk_begin(&w, out, verdict.length);
+ *     uint8_t stack[WS2S_MAX_STATES];
+ *     ws2s_walk_begin(&w, out, verdict.length, stack);
  *     while (ws2s_walk_next(&w))
  *         ... w.depth, w.branch, w.inside, w.label, w.path, ws2s_walk_has(&w, 0) ...
  */
@@ -346,7 +349,7 @@ typedef struct {
     unsigned branch; /* the last step: 1 the first part inside, 2 the next beside, 0 for the root */
     unsigned inside; /* how many of the steps lead inside: how far in an outline has the node */
     unsigned label;  /* n bits, variable 0 the most significant */
-    uint8_t path[WS2S_MAX_POSITIONS]; /* the steps: path[0] up to path[depth - 1], each 1 or 2 */
+    uint8_t *path;   /* the stack, with the steps: path[0] up to path[depth - 1], each 1 or 2 */
     /* The walk's own: the strip, the next bit, and where the next tree hangs. */
     const uint8_t *strip;
     size_t bits, at;
@@ -355,11 +358,17 @@ typedef struct {
 
 /* Sets out. The strip is one that ws2s_check_tree accepts, as those shown are; of
  * any other bytes some nodes are told, and nothing outside them is read. It must
- * stay as it is until the walk is over. */
-static inline void ws2s_walk_begin(ws2s_walk *walk, const uint8_t *tree, size_t tree_len)
+ * stay as it is until the walk is over, and so must the stack.
+ *
+ * The stack has a byte for each node of a downward path. For a tree that ws2s_decide
+ * shows, as many bytes as it tells "states" are enough, and so are c and
+ * WS2S_MAX_STATES: that is proved, and the walk does not test it. For any other strip,
+ * and for bytes that nobody checked, lend WS2S_MAX_POSITIONS. */
+static inline void ws2s_walk_begin(ws2s_walk *walk, const uint8_t *tree, size_t tree_len, uint8_t *stack)
 {
     walk->depth = walk->branch = walk->inside = walk->label = 0;
     walk->nodes = walk->next_depth = walk->next_inside = 0;
+    walk->path = stack;
     walk->strip = tree;
     walk->at = 8;
     walk->variables = tree_len > 0 ? tree[0] & 15u : 0;

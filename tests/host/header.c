@@ -8,8 +8,9 @@
  * - the texts: one for every refusal, no two alike;
  * - the limits: accepted, and one more refused;
  * - the walk: over all small trees, and over large ones of many shapes, it tells
- *   the nodes that the tree was made of; over any bytes it ends, and reads nothing
- *   outside them.
+ *   the nodes that the tree was made of, with a stack of just the bytes that it takes;
+ *   over any bytes it ends, and with a stack for the deepest tree touches nothing
+ *   outside both.
  *
  * It prints what fails and a count, and ends with status 1 if anything did. */
 #define _DEFAULT_SOURCE
@@ -29,7 +30,7 @@ static void count(bool right, const char *what, unsigned long a, unsigned long b
         printf("header: %s (%lu, %lu)\n", what, a, b);
 }
 
-static struct lent lent;
+static struct lent lent, lent_stack;
 static uint64_t chance = 1;
 
 static unsigned below(unsigned bound)
@@ -333,6 +334,7 @@ static bool same_node(const ws2s_walk *w, const struct node *n, unsigned variabl
         && memcmp(w->path, n->path, n->depth) == 0;
 }
 
+/* The tree is walked with a stack that has no more bytes than there are nodes on its longest way down. */
 static void try_walk(unsigned n, unsigned left, unsigned bias, unsigned more)
 {
     static struct strip s;
@@ -345,23 +347,26 @@ static void try_walk(unsigned n, unsigned left, unsigned bias, unsigned more)
     count(ws2s_check_tree(s.byte, s.length).positions == left, "a tree to walk over", n, left);
     lend_bytes(&lent, s.byte, s.length, LENT_AT_END);
     ws2s_walk w;
-    unsigned met = 0;
+    unsigned met = 0, deep = 0;
     bool right = true;
-    ws2s_walk_begin(&w, lent.at, s.length);
+    for (unsigned i = 0; i < nodes; i++)
+        deep = made[i].depth + 1 > deep ? made[i].depth + 1 : deep;
+    lend(&lent_stack, deep, LENT_AT_END);
+    ws2s_walk_begin(&w, lent.at, s.length, lent_stack.at);
     while (ws2s_walk_next(&w) && met < left)
         right = same_node(&w, &made[met++], n) && right;
     count(right && met == left && !ws2s_walk_next(&w) && !ws2s_walk_next(&w), "walk", n, left);
     /* and a strip that was cut: a beginning of the same nodes */
     for (size_t length = 0; more && length < s.length; length++) {
         lend_bytes(&lent, s.byte, length, LENT_AT_END);
-        ws2s_walk_begin(&w, length ? lent.at : NULL, length);
+        ws2s_walk_begin(&w, length ? lent.at : NULL, length, lent_stack.at);
         for (met = 0, right = true; ws2s_walk_next(&w) && met < left; met++)
             right = same_node(&w, &made[met], n) && right;
         count(right && met <= left, "walk over a strip that was cut", n, length);
     }
 }
 
-/* Bytes of any kind, which stand before a page that may not be touched. */
+/* Bytes of any kind, which stand before a page that may not be touched, as the stack does. */
 static void try_bytes(size_t length)
 {
     ws2s_walk w;
@@ -371,7 +376,8 @@ static void try_bytes(size_t length)
         lent.at[i] = below(3) == 0 ? 0xFF : below(2) == 0 ? 0 : (uint8_t)below(256);
     if (length && below(4))
         lent.at[0] = (uint8_t)(16 + below(16));
-    ws2s_walk_begin(&w, length ? lent.at : NULL, length);
+    lend(&lent_stack, WS2S_MAX_POSITIONS, LENT_AT_END);
+    ws2s_walk_begin(&w, length ? lent.at : NULL, length, lent_stack.at);
     while (ws2s_walk_next(&w) && met <= WS2S_MAX_POSITIONS)
         met++;
     count(met <= WS2S_MAX_POSITIONS, "walk over any bytes", length, met);
@@ -386,6 +392,7 @@ int main(void)
         return 2;
     lent_watch();
     lent_open(&lent, MOST_STRIP);
+    lent_open(&lent_stack, WS2S_MAX_POSITIONS);
     snprintf(lent_doing, sizeof lent_doing, "header");
     try_sizes(workspace);
     try_names(workspace);

@@ -72,8 +72,8 @@ pub record Claim (rule : List ℕ) (c P room outRoom : ℕ) (v : Verdict) (out :
       → take (length (treeStrip (variablesOf rule) t)) out ≡ treeStrip (variablesOf rule) t
   pub names : (k p : ℕ) → v ≡ RefusedAt k p → Offends rule k p
 
--- the strip is read as a tree of this many positions, and a stack of so many entries is enough to walk it: no downward path of the tree has
--- as many positions; "states" at most c, and "c 1 to 64"
+-- the strip is read as a tree of so many positions, and no downward path of the tree has as many as there are states, so that a stack of as
+-- many entries is enough to walk it; by refusals 14 and 11 they are at most c, and c at most 64
 pub record ShallowStrip (strip : List ℕ) (c places states : ℕ) : Type 0 where
   pub tree : Tree 2
   pub rest : List ℕ

@@ -43,7 +43,7 @@ front (Refused number) out = []
 front (TooManyStates number) out = []
 
 -- with the longest workspace that can be asked for, and 320 bytes of out, none of them 0
-pub answer : Question → Answer
+unfoldable pub answer : Question → Answer
 answer q =
     let v = verdictOf (q .strip) (q .c) (q .P) 134217728 320 in
     record {
@@ -53,7 +53,7 @@ answer q =
       tree = front v (outOf (q .strip) (q .c) (q .P) 134217728 (replicate 320 255));
     }
 
-abbrev with : ℕ → ℕ → List ℕ → Question
+abbrev pub with : ℕ → ℕ → List ℕ → Question
 with c P s = record { strip = s; c = c; P = P }
 
 abbrev rec : ℕ → ℕ → ℕ → Record

@@ -1,3 +1,4 @@
 pub mod Decided
+pub mod Deep
 pub mod Printed
 pub mod Places

@@ -34,7 +34,7 @@ use Rattle.logic.proofs.Settle.{Accepts, RightForTrees, search-right}
 use Rattle.logic.proofs.Depth.{earliest-shallow}
 
 -- a tree that is shown is shallow
-abbrev Bounded : {k : ℕ} → Outcome k → Type 0
+abbrev pub Bounded : {k : ℕ} → Outcome k → Type 0
 Bounded {k} o = (places states : ℕ) (t : Tree k) → o ≡ shown places states t → Shallow states t
 
 -- trimming gives an earlier tree

@@ -4,10 +4,10 @@ use Prim.Native.Nat.{ℕ, zero, suc, _+_, _≤_, _<_}
 use mathlib.Core.Path.{_≡_, refl, sym, ap, subst, _∙_, fun-ext}
 use mathlib.Core.Logic.{inl, inr}
 use mathlib.Core.Bool.{Bool, true, false, cond}
-use mathlib.Core.List.{List, [], _∷_}
+use mathlib.Core.List.{List, [], _∷_, map}
 use native.Mathlib.Omega.{arith}
 use lib.Dec.{T}
-use lib.ListN.{length, getD, length-append}
+use lib.ListN.{length, getD, length-append, length-map}
 use Rattle.logic.specs.Meaning.{Branch, Place, sameBranch}
 use Rattle.logic.specs.Tree.{Tree, empty, node, positions, nodeAt, Proper}
 use Rattle.logic.specs.Order.{_≺_, _⪯_}
@@ -123,3 +123,27 @@ module _ {k : ℕ} (n count : ℕ) (M : Machine k ℕ) (m : Full n count M) wher
       go (p ∷ path) d =
           let w = path-end t p path d in
           let a = low (w .0) t [] (w .1) o e none-above (λ i q. absurd (omega arith)) in omega (arith, w .2)
+
+-- every position ends a downward path from the root: the bound says of each that its steps and the root are fewer than the states
+module _ {k : ℕ} where
+  downTo : Place k → List (Place k)
+  downTo [] = [] ∷ []
+  downTo (b ∷ p) = [] ∷ map (λ q. b ∷ q) (downTo p)
+
+  beneath : (l : ℕ) (f : Branch k → Tree k) (b : Branch k) (path : List (Place k)) → Downward (f b) path → Downward (node l f) (map (λ q. b ∷ q) path)
+  unfolding Downward nodeAt
+  beneath l f b [] d = tt
+  beneath l f b (p ∷ []) d = d
+  beneath l f b (p ∷ (q ∷ path)) d = (d .0, (d .1 .0, ap (λ (r : Place k). b ∷ r) (d .1 .1)), beneath l f b (q ∷ path) (d .2))
+
+  down-to : (t : Tree k) (p : Place k) → T (nodeAt t p) → Downward t (downTo p) × (length (downTo p) ≡ suc (length p))
+  unfolding downTo Downward nodeAt
+  down-to empty p h = absurd h
+  down-to (node l f) [] h = (tt, refl)
+  down-to (node l f) (b ∷ []) h = ((tt, (b, refl), h), refl)
+  down-to (node l f) (b ∷ (c ∷ p)) h =
+      let w = down-to (f b) (c ∷ p) h in
+      ((tt, (b, refl), beneath l f b (downTo (c ∷ p)) (w .0)), omega (arith, length-map (downTo (c ∷ p)) (λ (q : Place k). b ∷ q), w .1))
+
+  pub shallow-at : (states : ℕ) (t : Tree k) → Shallow states t → (p : Place k) → T (nodeAt t p) → suc (length p) < states
+  shallow-at states t s p h = let w = down-to t p h in omega (arith, s (downTo p) (w .0), w .1)
