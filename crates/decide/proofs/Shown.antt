@@ -1,4 +1,4 @@
--- A4: the strip of a shown tree, as it stands in out, and the bound on the tree's depth. Assumes nothing.
+-- A4: the strip of a shown tree, as it stands in out, and the bound on the tree's depth; with it all that decide promises. Assumes nothing.
 use Prim.Native.Nat.{ℕ}
 use mathlib.Core.Path.{_≡_, refl, sym, ap, subst, _∙_}
 use mathlib.Core.List.{List}
@@ -16,8 +16,8 @@ use Rattle.rules.specs.Refusal.{Refusal, nothing, placed, plain, tested}
 use Rattle.rules.specs.Room.{roomRefusal}
 use Rattle.rules.proofs.Refusals.{checked-free, tested-free}
 use Rattle.rules.proofs.Rooms.{room-free}
-use Rattle.decide.proofs.Verdicts.{strip-first}
-use Rattle.decide.specs.Decide.{earlyRefusal, decidedOf, tell, refusedOr, verdictOf, outOf, ShallowStrip, ShowsShallow}
+use Rattle.decide.proofs.Verdicts.{Ends, strip-first, claim}
+use Rattle.decide.specs.Decide.{earlyRefusal, decidedOf, tell, refusedOr, verdictOf, workspaceOf, outOf, Claim, ShallowStrip, ShowsShallow}
 use Rattle.decide.specs.declared.Verdict.{Verdict}
 use Rattle.decide.specs.declared.Verdict.the-variants.{Shown}
 
@@ -56,7 +56,7 @@ module _ (rule : List ℕ) (c P : ℕ) (ws out : List ℕ) where
         at-most = r .roomy .few-states;
       }
 
-  pub shows-shallow : {x : Verdict} → x ≡ verdictOf rule c P (length ws) (length out)
+  shows-shallow : {x : Verdict} → x ≡ verdictOf rule c P (length ws) (length out)
       → {out′ : List ℕ} → out′ ≡ outOf rule c P (length ws) out → ShowsShallow c x out′
   unfolding verdictOf
   shows-shallow ex {out′ = out′} eo places states bytes f = go early refl (sym ex ∙ f)
@@ -70,3 +70,11 @@ module _ (rule : List ℕ) (c P : ℕ) (ws out : List ℕ) where
           let z = strip-first rule c P ws out eo e places states (w .0) (w .1) in
           subst (λ (s : List ℕ). ShallowStrip s c places states) (sym (ap (λ (l : ℕ). take l out′) (w .2) ∙ z))
           (strip-shallow e places states (w .0) (w .1))
+
+  -- all that decide promises follows from how it ends
+  pub promised : {x : Verdict} {ws′ out′ : List ℕ} → Ends rule c P ws out x ws′ out′
+      → (x ≡ verdictOf rule c P (length ws) (length out))
+      × ((ws′ ≡ workspaceOf rule c P ws (length out))
+      × ((out′ ≡ outOf rule c P (length ws) out)
+      × (Claim rule c P (length ws) (length out) x out′ × ShowsShallow c x out′)))
+  promised e = (e .0, (e .1 .0, (e .1 .1, (claim rule c P ws out (e .0) (e .1 .1), shows-shallow (e .0) (e .1 .1)))))

@@ -1,8 +1,8 @@
 -- `decide::decide` meets its contract. Assumes nothing.
 use mathlib.Core.Path.{sym, _∙_}
 use Rattle.rule_strip.proofs.RuleLaws.{checked-accepted, checked-refused}
-use Rattle.decide.proofs.Verdicts.{ends-refused, claim}
-use Rattle.decide.proofs.Shown.{shows-shallow}
+use Rattle.decide.proofs.Verdicts.{ends-refused}
+use Rattle.decide.proofs.Shown.{promised}
 use borrow.Author.Needs.{needs}
 use Rattle.decide.proofs.decide.Statement.{statement}
 use Rattle.decide.proofs.decide.Tie as tie
@@ -17,18 +17,13 @@ returns : tie.Need-returns
 returns c =
     let a = c .before .before .before .before .before .before .before .args in
     let f = checked-refused (a .rule .now) _ _ (sym (c .before .before .before .check-rule .ensures) ∙ c .before .number .given .1) in
-    let e = ends-refused (a .rule .now) (a .c) (a .p) (a .ws .now) (a .out .now) _ _ f in
-    let w = claim (a .rule .now) (a .c) (a .p) (a .ws .now) (a .out .now) (e .0) (e .1 .1) in
-    let d = shows-shallow (a .rule .now) (a .c) (a .p) (a .ws .now) (a .out .now) (e .0) (e .1 .1) in
-    (e .0, (e .1 .0, (e .1 .1, (w, d))))
+    promised (a .rule .now) (a .c) (a .p) (a .ws .now) (a .out .now)
+    (ends-refused (a .rule .now) (a .c) (a .p) (a .ws .now) (a .out .now) _ _ f)
 
 returns-2 : tie.Need-returns-2
 returns-2 c =
     let a = c .before .before .before .before .before .before .before .before .before .before .before .before .before .before .args in
-    let e = c .before .before .before .before .decide-accepted .ensures in
-    let w = claim (a .rule .now) (a .c) (a .p) (a .ws .now) (a .out .now) (e .0) (e .1 .1) in
-    let d = shows-shallow (a .rule .now) (a .c) (a .p) (a .ws .now) (a .out .now) (e .0) (e .1 .1) in
-    (e .0, (e .1 .0, (e .1 .1, (w, d))))
+    promised (a .rule .now) (a .c) (a .p) (a .ws .now) (a .out .now) (c .before .before .before .before .decide-accepted .ensures)
 
 pub decide-spec : {M : Type 1} → statement M
 decide-spec =
