@@ -6,13 +6,13 @@
  * and extended; ceilings are in and out of range; buffers fit, are a byte short,
  * have room to spare or are not there. Both get the same buffers, with the same
  * bytes in and around them; their results and all these bytes must agree after
- * the call, and whatever is shown must check and be judged as satisfying the
- * rule. One call in three is of a text (typed.h); strips that were imported must
- * check, and are decided and judged at times. The same seed makes the same
- * requests. Differences are printed as vector lines; the status is then 1. How
- * often each answer came is printed too, and at how many places a strip or text was
- * refused; of many calls none of them may be missing, nor may texts be accepted
- * seldom, or none that reaches a limit. */
+ * the call, and whatever is shown must check, be walked with a stack of as many
+ * bytes as states are told, and be judged as satisfying the rule. One call in three
+ * is of a text (typed.h); strips that were imported must check, and are decided and
+ * judged at times. The same seed makes the same requests. Differences are printed as
+ * vector lines; the status is then 1. How often each answer came is printed too, and
+ * at how many places a strip or text was refused; of many calls none of them may be
+ * missing, nor may texts be accepted seldom, or none that reaches a limit. */
 #define _DEFAULT_SOURCE
 #include "chance.h"
 #include "lent.h"
@@ -332,6 +332,7 @@ static void make_request(struct request *r)
 static struct lents {
     struct lent rule, tree, text, workspace, out;
 } ours, theirs;
+static struct lent stack; /* for a walk */
 
 union result {
     ws2s_rule rule;
@@ -427,7 +428,20 @@ static const char *differs(const struct request *r, const union result *one, con
     return NULL;
 }
 
-/* What is shown checks, and is judged as satisfying the rule; it is kept. */
+/* What is kept of it has as many nodes as are told, met with a stack that ends before
+ * a page that may not be touched. */
+static bool walked(const ws2s_verdict *v)
+{
+    ws2s_walk w;
+    uint64_t met = 0;
+    lend(&stack, v->states, LENT_AT_END);
+    ws2s_walk_begin(&w, kept.tree.byte, kept.tree.length, stack.at);
+    while (ws2s_walk_next(&w))
+        met++;
+    return met == v->positions;
+}
+
+/* What is shown checks, can be walked, and is judged as satisfying the rule; it is kept. */
 static const char *shown_wrong(const struct request *r, const ws2s_verdict *v)
 {
     kept.there = true;
@@ -440,6 +454,8 @@ static const char *shown_wrong(const struct request *r, const ws2s_verdict *v)
     if (t.refusal || t.variables != variables(&r->rule) || t.positions != v->positions
         || t.positions > r->p)
         return "shown tree does not check";
+    if (!walked(v))
+        return "shown tree is not walked";
     ws2s_judgement j = ws2s_judge(r->rule.byte, r->rule.length, r->c, ours.workspace.at,
                                   r->workspace, kept.tree.byte, kept.tree.length);
     return j.kind == 1 ? NULL : "shown tree is not judged to satisfy the rule";
@@ -618,6 +634,7 @@ int main(int argc, char **argv)
     lent_watch();
     open_all(&ours);
     open_all(&theirs);
+    lent_open(&stack, WS2S_MAX_STATES);
     while (done < calls && failed < MOST_DIFFERENCES) {
         snprintf(lent_doing, sizeof lent_doing, "seed %" PRIu64 " call %lu", seed, done++);
         alarm(MOST_SECONDS);
