@@ -10,13 +10,12 @@ use Rattle.logic.proofs.Answers.{decide-shallow, shown-earliest, shown-fits, sh
 use Rattle.logic.proofs.Assignments.{tree-of-trimmed}
 use Rattle.rule_strip.specs.RuleStrip.{variablesOf, countOf, recordsOf, ruleFault}
 use Rattle.rule_strip.proofs.RuleLaws.{rule-accepted}
-use Rattle.tree_strip.specs.TreeStrip.{treeStrip, readTree, parsed}
+use Rattle.tree_strip.specs.TreeStrip.{treeStrip, parsed}
 use Rattle.tree_strip.proofs.TreeLaws.{tree-read-back}
-use Rattle.rules.specs.Refusal.{Refusal, nothing, placed, plain, tested}
-use Rattle.rules.specs.Room.{roomRefusal}
+use Rattle.rules.specs.Refusal.{Refusal, nothing, placed, plain}
 use Rattle.rules.proofs.Refusals.{checked-free, tested-free}
 use Rattle.rules.proofs.Rooms.{room-free}
-use Rattle.decide.proofs.Verdicts.{Ends, strip-first, claim}
+use Rattle.decide.proofs.Verdicts.{Ends, early, strip-first, claim}
 use Rattle.decide.specs.Decide.{earlyRefusal, decidedOf, tell, refusedOr, verdictOf, workspaceOf, outOf, Claim, ShallowStrip, ShowsShallow}
 use Rattle.decide.specs.declared.Verdict.{Verdict}
 use Rattle.decide.specs.declared.Verdict.the-variants.{Shown}
@@ -31,11 +30,8 @@ told-tree n (none states) e = absurd (let z : _≡_ {A = ℕ} 0 1 = cc in omega 
 told-tree n (larger states) e = absurd (let z : _≡_ {A = ℕ} 0 1 = cc in omega arith)
 
 module _ (rule : List ℕ) (c P : ℕ) (ws out : List ℕ) where
-  abbrev early : Refusal
-  early = earlyRefusal rule c P (length ws) (length out)
-
   -- the strip of the tree that is shown
-  strip-shallow : early ≡ nothing → (places states : ℕ) (t : Tree 2) → decidedOf rule c P ≡ shown places states t
+  strip-shallow : early rule c P ws out ≡ nothing → (places states : ℕ) (t : Tree 2) → decidedOf rule c P ≡ shown places states t
       → ShallowStrip (treeStrip (variablesOf rule) t) c places states
   unfolding earlyRefusal
   strip-shallow e places states t f =
@@ -59,9 +55,9 @@ module _ (rule : List ℕ) (c P : ℕ) (ws out : List ℕ) where
   shows-shallow : {x : Verdict} → x ≡ verdictOf rule c P (length ws) (length out)
       → {out′ : List ℕ} → out′ ≡ outOf rule c P (length ws) out → ShowsShallow c x out′
   unfolding verdictOf
-  shows-shallow ex {out′ = out′} eo places states bytes f = go early refl (sym ex ∙ f)
+  shows-shallow ex {out′ = out′} eo places states bytes f = go (early rule c P ws out) refl (sym ex ∙ f)
     where
-      go : (r : Refusal) → early ≡ r → refusedOr r (tell (variablesOf rule) (decidedOf rule c P)) ≡ Shown places states bytes
+      go : (r : Refusal) → early rule c P ws out ≡ r → refusedOr r (tell (variablesOf rule) (decidedOf rule c P)) ≡ Shown places states bytes
           → ShallowStrip (take bytes out′) c places states
       go (placed k p) e h = absurd (let z : _≡_ {A = ℕ} 0 1 = cc in omega arith)
       go (plain k) e h = absurd (let z : _≡_ {A = ℕ} 0 1 = cc in omega arith)

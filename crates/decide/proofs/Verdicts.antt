@@ -33,7 +33,7 @@ module _ (rule : List ℕ) (c P : ℕ) (ws out : List ℕ) where
   Ends v ws′ out′ =
       (v ≡ verdictOf rule c P (length ws) (length out)) × ((ws′ ≡ workspaceOf rule c P ws (length out)) × (out′ ≡ outOf rule c P (length ws) out))
 
-  abbrev early : Refusal
+  abbrev pub early : Refusal
   early = earlyRefusal rule c P (length ws) (length out)
 
   -- a strip that is turned down
@@ -87,7 +87,7 @@ placed-is Sound zero n (larger states) e = absurd (let z : _≡_ {A = ℕ} 0 1 =
 
 -- the strip of a tree that is shown stands at the front of out
 pub strip-first : (rule : List ℕ) (c P : ℕ) (ws out : List ℕ) {out′ : List ℕ} → out′ ≡ outOf rule c P (length ws) out
-    → earlyRefusal rule c P (length ws) (length out) ≡ nothing → (places states : ℕ) (t : Tree 2) → decidedOf rule c P ≡ shown places states t
+    → early rule c P ws out ≡ nothing → (places states : ℕ) (t : Tree 2) → decidedOf rule c P ≡ shown places states t
     → take (length (treeStrip (variablesOf rule) t)) out′ ≡ treeStrip (variablesOf rule) t
 unfolding outOf outAfter
 strip-first rule c P ws out eo e places states t f =

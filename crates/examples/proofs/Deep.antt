@@ -21,7 +21,7 @@ use Rattle.rules.specs.Room.{roomRefusal}
 use Rattle.decide.specs.Decide.{earlyRefusal, tell, outAfter, verdictOf, outOf}
 use Rattle.decide.specs.declared.Verdict.{Verdict}
 use Rattle.decide.specs.declared.Verdict.the-variants.{Shown}
-use Rattle.examples.proofs.Decided.{Answer, answer, with}
+use Rattle.examples.proofs.Decided.{answer, with}
 
 -- the strip has a tree with a downward path of one position fewer than there are states
 pub record Reached (strip : List ℕ) (states : ℕ) : Type 0 where
