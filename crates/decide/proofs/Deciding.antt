@@ -7,7 +7,7 @@ use lib.ListN.{length, take, drop}
 use lib.Seq.{length-take-le}
 use Rattle.logic.specs.Tree.{positions}
 use Rattle.records.specs.declared.Decoded.{Decoded}
-use Rattle.records.specs.declared.Ending.the-variants.{Over, Ready}
+use Rattle.building.specs.declared.Ending.the-variants.{Over, Ready}
 use Rattle.search.specs.declared.Finding.the-variants.{None as Nothing, Larger as Beyond, Shown as Found}
 use Rattle.refinement.specs.Decode.{shapeOf}
 use Rattle.solver.specs.Solve.{outcomeOf, Ranked, Solved}

@@ -6,7 +6,7 @@ ghost use Rattle.solver.specs.Solve.{outcomeOf, Ranked};
 ghost use Rattle.rule_strip.specs.RuleStrip.{AcceptedRule};
 ghost use Rattle.rules.specs.Room.{roomFor, cleared, roomRefusal, Roomy};
 ghost use Rattle.decide.specs.Decide.{decidedOf, tell, outAfter, Spacious, verdictOf, workspaceOf, outOf, Claim, ShowsShallow};
-use records::Ending;
+use building::Ending;
 use rule_strip::RuleCheck;
 use rules::decode::decode;
 use search::Finding;

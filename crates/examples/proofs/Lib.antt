@@ -1,4 +1,5 @@
 pub mod Decided
 pub mod Deep
+pub mod Leftovers
 pub mod Printed
 pub mod Places

@@ -12,7 +12,7 @@ use Rattle.logic.specs.Claims.{Judgement as Ruled, unbuilt, yes, no}
 use Rattle.logic.specs.Decide.{say, judgeOf}
 use Rattle.logic.proofs.Answers.{judge-judges, trimmed-iff}
 use Rattle.records.specs.declared.Decoded.{Decoded}
-use Rattle.records.specs.declared.Ending.the-variants.{Over, Ready}
+use Rattle.building.specs.declared.Ending.the-variants.{Over, Ready}
 use Rattle.reading.specs.Reading.{HasTree}
 use Rattle.refinement.specs.Decode.{shapeOf}
 use Rattle.solver.specs.Solve.{judgementAfter, judgementOf, Judged}

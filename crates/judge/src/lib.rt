@@ -5,7 +5,7 @@ ghost use Rattle.solver.specs.Solve.{judgementOf};
 ghost use Rattle.rule_strip.specs.RuleStrip.{AcceptedRule};
 ghost use Rattle.rules.specs.Room.{roomFor, cleared, Roomy};
 ghost use Rattle.judge.specs.Judge.{AcceptedTree, judgedOf, tell, judgementFor, workspaceFor, JudgeClaim};
-use records::Ending;
+use building::Ending;
 use rule_strip::RuleCheck;
 use rules::decode::decode;
 use solver::Ruling;

@@ -12,14 +12,15 @@ use Rattle.logic.specs.Meaning.{Assignment, Holds}
 use Rattle.logic.specs.Tree.{Tree, empty, node, positions, Proper, Represents, TreeOf, SameSets}
 use Rattle.logic.specs.Order.{_≺_, _⪯_}
 use Rattle.logic.specs.Rule.{Record, extend, formulaAt, lastOf, Satisfies, Accepted}
+use Rattle.logic.specs.Reached.{itself, namesIn, isReached}
 use Rattle.logic.specs.Machine.{Machine, run, Decides}
 use Rattle.logic.specs.Reach.{below, Reached}
-use Rattle.logic.specs.Table.{Table, table, Built, over, built, buildAll}
+use Rattle.logic.specs.Table.{Table, table, Built, over, built}
 use Rattle.logic.specs.Trim.{trim, treeOf, bare, Trimmed}
 use Rattle.logic.specs.Search.{Sought, tree, large, absent, search}
 use Rattle.logic.specs.Claims.{Outcome, refused14, shown, none, larger, Judgement, unbuilt, yes, no, statesAt, FirstOver, Roomy, Model, Earliest, Answers}
 use Rattle.logic.specs.Claims.{Judges, Shallow}
-use Rattle.logic.specs.Decide.{report, conclude, decideOf, say, ruling, judgeOf, lastTable}
+use Rattle.logic.specs.Decide.{report, conclude, buildRule, decideOf, say, ruling, judgeOf, lastTable}
 use Rattle.logic.proofs.Places.{T→true, true→T}
 use Rattle.logic.proofs.Numbered.{reached-bound}
 use Rattle.logic.proofs.Reach.{elem-below}
@@ -28,7 +29,7 @@ use Rattle.logic.proofs.Satisfiable.{setsOf, sets-represented}
 use Rattle.logic.proofs.Orders.{less, same, more, ℕ-tri, ⪯-antisym, ⪯-positions, empty-⪯, node-⪯}
 use Rattle.logic.proofs.Assignments.{tree-of, tree-of-only, tree-of-trimmed, tree-same, sets-same, own-tree}
 use Rattle.logic.proofs.Tables.{Right}
-use Rattle.logic.proofs.Rules.{record-right, extend-length, tablesOf, tables-at, Says, built-says}
+use Rattle.logic.proofs.Rules.{record-right, rule-reached, reached-within, extend-length, tablesOf, tables-at, Says, built-says}
 use Rattle.logic.specs.Alike.{Full}
 use Rattle.logic.proofs.Settle.{Accepts, RightForTrees, search-right}
 use Rattle.logic.proofs.Depth.{earliest-shallow}
@@ -75,9 +76,9 @@ module _ (k n : ℕ) (rs : List Record) (c P : ℕ) where
 
   one-first : (r s : ℕ) → FirstOver k n rs c r → FirstOver k n rs c s → r ≡ s
   one-first r s p q = elim (ℕ-tri r s) [
-    | less h ↦ absurd (let a = q .2 r h in let b = p .1 in omega arith)
+    | less h ↦ absurd (let a = q .2 r (omega arith) (p .0) in let b = p .1 in omega arith)
     | same h ↦ h
-    | more h ↦ absurd (let a = p .2 s h in let b = q .1 in omega arith)
+    | more h ↦ absurd (let a = p .2 s (omega arith) (q .0) in let b = q .1 in omega arith)
   ]
 
   refused-right : (q r : ℕ) → FirstOver k n rs c r → Answers {k = k} n rs c P q (refused14 r)
@@ -209,26 +210,34 @@ module _ (k n : ℕ) (rs : List Record) (c P : ℕ) where
     last-right : Right n (formulaAt rs (lastOf rs)) Last
     last-right = record-right n rs (ok .1) (lastOf rs) (let h = ok .0 in omega arith)
 
+    -- which records are reached, by their marks
+    abbrev used : ℕ → Bool
+    used = isReached (namesIn rs) (length rs)
+
     long : length (extend {k = k} [] rs) ≡ length rs
     long = extend-length rs [] ∙ omega arith
 
-    last-table : lastTable n rs (tablesOf k n c (extend [] rs)) ≡ Last
+    last-table : lastTable n rs (tablesOf k n c used (extend [] rs)) ≡ Last
     unfolding formulaAt
-    last-table = tables-at k n c (extend [] rs) (lastOf rs)
+    last-table = tables-at k n c used (extend [] rs) (lastOf rs)
 
-    says-first : (r : ℕ) → Says k n c (extend [] rs) (over r) → FirstOver k n rs c r
+    -- what building says of all records
+    abbrev Told : Built k → Type 0
+    Told = Says k n c used (extend [] rs)
+
+    says-first : (r : ℕ) → Told (over r) → FirstOver k n rs c r
     unfolding Says formulaAt
-    says-first r w = (let e = long in let h = w .0 in omega arith, w .1, w .2)
+    says-first r w = ((rule-reached k n rs ok r) .0 (w .0), w .1, λ i l u. w .2 i l ((rule-reached k n rs ok i) .1 u))
 
-    says-roomy : (ts : List (Table k)) → Says k n c (extend [] rs) (built ts) → Roomy k n rs c
+    says-roomy : (ts : List (Table k)) → Told (built ts) → Roomy k n rs c
     unfolding Says formulaAt
-    says-roomy ts w r h = w .1 r (let e = long in omega arith)
+    says-roomy ts w r u = w .1 r (let e = long in let h = reached-within k n rs ok r u in omega arith) ((rule-reached k n rs ok r) .1 u)
 
-    says-last : (ts : List (Table k)) → Says k n c (extend [] rs) (built ts) → lastTable n rs ts ≡ Last
+    says-last : (ts : List (Table k)) → Told (built ts) → lastTable n rs ts ≡ Last
     unfolding Says
     says-last ts w = ap (λ (us : List (Table k)). lastTable n rs us) (w .0) ∙ last-table
 
-    conclude-right : (b : Built k) → Says k n c (extend [] rs) b → Answers n rs c P states (conclude n rs P b)
+    conclude-right : (b : Built k) → Told b → Answers n rs c P states (conclude n rs P b)
     unfolding conclude
     conclude-right (over r) w = refused-right states r (says-first r w)
     conclude-right (built ts) w =
@@ -236,7 +245,7 @@ module _ (k n : ℕ) (rs : List Record) (c P : ℕ) where
         (sought-right (says-roomy ts w) (Last .machine) (last-right .1) states (search (2 ^ n) Last P)
         (search-right n Last (last-right .0, last-right .2) P))
 
-    conclude-shallow : (b : Built k) → Says k n c (extend [] rs) b → Bounded (conclude n rs P b)
+    conclude-shallow : (b : Built k) → Told b → Bounded (conclude n rs P b)
     unfolding conclude
     conclude-shallow (over r) w = λ m q u e. absurd (let z : _≡_ {A = ℕ} 0 1 = cc in omega arith)
     conclude-shallow (built ts) w =
@@ -247,18 +256,18 @@ module _ (k n : ℕ) (rs : List Record) (c P : ℕ) where
     -- A4, a bound on depth, of the tree that is shown
     pub decide-shallow : Bounded (decideOf k n rs c P)
     unfolding decideOf
-    decide-shallow = conclude-shallow (buildAll n c rs []) (built-says k n c rs)
+    decide-shallow = conclude-shallow (buildRule n c rs) (built-says k n c used rs)
 
     -- DECIDE: refusal 14, and demands 2 and 3
     pub decide-answers : Answers n rs c P states (decideOf k n rs c P)
     unfolding decideOf
-    decide-answers = conclude-right (buildAll n c rs []) (built-says k n c rs)
+    decide-answers = conclude-right (buildRule n c rs) (built-says k n c used rs)
 
     -- either refusal 14 applies, or every record has room
     pub over-or-roomy : ((r : ℕ) × (decideOf k n rs c P ≡ refused14 r)) ⊎ Roomy k n rs c
-    over-or-roomy = go (buildAll n c rs []) (built-says k n c rs)
+    over-or-roomy = go (buildRule n c rs) (built-says k n c used rs)
       where
-        go : (b : Built k) → Says k n c (extend [] rs) b → ((r : ℕ) × (decideOf k n rs c P ≡ refused14 r)) ⊎ Roomy k n rs c
+        go : (b : Built k) → Told b → ((r : ℕ) × (decideOf k n rs c P ≡ refused14 r)) ⊎ Roomy k n rs c
         go (over r) w = inl (r, (decide-answers .refused-is r) .1 (says-first r w))
         go (built ts) w = inr (says-roomy ts w)
 
@@ -281,9 +290,9 @@ module _ (k n : ℕ) (rs : List Record) (c P : ℕ) where
 
       -- no more states are reported than the state ceiling
       pub shown-states : q ≤ c
-      shown-states = let a = shown-roomy (lastOf rs) (let h = ok .0 in omega arith) in let b = shown-earliest .0 in omega arith
+      shown-states = let a = shown-roomy (lastOf rs) itself in let b = shown-earliest .0 in omega arith
 
-    conclude-only : (o : Outcome k) → Answers n rs c P states o → (b : Built k) → Says k n c (extend [] rs) b → o ≡ conclude n rs P b
+    conclude-only : (o : Outcome k) → Answers n rs c P states o → (b : Built k) → Told b → o ≡ conclude n rs P b
     unfolding conclude
     conclude-only o a (over r) w = (a .refused-is r) .1 (says-first r w)
     conclude-only o a (built ts) w =
@@ -294,7 +303,7 @@ module _ (k n : ℕ) (rs : List Record) (c P : ℕ) where
     -- and no other answer meets the demands
     pub decide-only : (o : Outcome k) → Answers n rs c P states o → o ≡ decideOf k n rs c P
     unfolding decideOf
-    decide-only o a = conclude-only o a (buildAll n c rs []) (built-says k n c rs)
+    decide-only o a = conclude-only o a (buildRule n c rs) (built-says k n c used rs)
 
     say-yes : (v : Bool) → (say v ≡ yes) ↔ T v
     unfolding say
@@ -312,7 +321,7 @@ module _ (k n : ℕ) (rs : List Record) (c P : ℕ) where
     say-built false r e = let z : _≡_ {A = ℕ} 0 1 = cc in omega arith
 
     module _ (t : Tree k) where
-      ruling-right : (b : Built k) → Says k n c (extend [] rs) b → Judges n rs c t (ruling n rs t b)
+      ruling-right : (b : Built k) → Told b → Judges n rs c t (ruling n rs t b)
       unfolding ruling
       ruling-right (over r) w = record {
         unbuilt-is = λ s. ((λ e. let z : r ≡ s = cc in subst (FirstOver k n rs c) z (says-first r w)), λ g. ap unbuilt (one-first r s (says-first r w) g));
@@ -335,18 +344,18 @@ module _ (k n : ℕ) (rs : List Record) (c P : ℕ) where
       -- JUDGE says yes to a tree exactly if its assignment satisfies the rule
       pub judge-judges : Judges n rs c t (judgeOf n rs c t)
       unfolding judgeOf
-      judge-judges = ruling-right (buildAll n c rs []) (built-says k n c rs)
+      judge-judges = ruling-right (buildRule n c rs) (built-says k n c used rs)
 
       -- and no other judgement of the tree of an assignment does
       pub judge-only : (A : Assignment k) → TreeOf n A t → (j : Judgement) → Judges n rs c t j → j ≡ judgeOf n rs c t
       unfolding judgeOf ruling say
-      judge-only A o j g = go (buildAll n c rs []) (built-says k n c rs)
+      judge-only A o j g = go (buildRule n c rs) (built-says k n c used rs)
         where
           told : (v : Bool) → Roomy k n rs c → Judges n rs c t (say v) → j ≡ say v
           told true h i = (g .yes-is h A o) .1 ((i .yes-is h A o) .0 refl)
           told false h i = (g .no-is h A o) .1 ((i .no-is h A o) .0 refl)
 
-          go : (b : Built k) → Says k n c (extend [] rs) b → j ≡ ruling n rs t b
+          go : (b : Built k) → Told b → j ≡ ruling n rs t b
           go (over r) w = (g .unbuilt-is r) .1 (says-first r w)
           go (built ts) w = told ((lastTable n rs ts) .machine .accepting (run ((lastTable n rs ts) .machine) t)) (says-roomy ts w) (ruling-right (built ts) w)
 

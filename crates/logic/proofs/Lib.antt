@@ -5,6 +5,7 @@ pub mod Exists
 pub mod Branches
 pub mod Atoms
 pub mod Reach
+pub mod Reached
 pub mod Rounds
 pub mod Numbered
 pub mod Projection
@@ -21,6 +22,7 @@ pub mod Depth
 pub mod Rules
 pub mod Assignments
 pub mod Answers
+pub mod Leftovers
 pub mod Alike
 pub mod Agreement
 pub mod Builders

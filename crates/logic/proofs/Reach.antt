@@ -20,6 +20,22 @@ pub elem-cons : (q r : ℕ) (L : List ℕ) → T (elem q (r ∷ L)) ↔ ((q ≡ 
 unfolding elem
 elem-cons q r L = or-iff (eqb q r) (elem q L) (eqb-iff q r) (λ t. t, λ t. t)
 
+pub elem-none : (q : ℕ) → T (elem q []) → ⊥
+unfolding elem
+elem-none q t = t
+
+pub elem-one : (q a : ℕ) → T (elem q (a ∷ [])) → q ≡ a
+elem-one q a t = ⊎-elim (λ e. e) (λ u. absurd (elem-none q u)) ((elem-cons q a []) .0 t)
+
+pub elem-two : (q a b : ℕ) → T (elem q (a ∷ b ∷ [])) → (q ≡ a) ⊎ (q ≡ b)
+elem-two q a b t = ⊎-elim inl (λ u. inr (elem-one q b u)) ((elem-cons q a (b ∷ [])) .0 t)
+
+pub elem-first : (q : ℕ) (L : List ℕ) → T (elem q (q ∷ L))
+elem-first q L = (elem-cons q q L) .1 (inl refl)
+
+pub elem-second : (q r : ℕ) → T (elem r (q ∷ r ∷ []))
+elem-second q r = (elem-cons r q (r ∷ [])) .1 (inr (elem-first r []))
+
 pub elem-append : (q : ℕ) (L N : List ℕ) → T (elem q (L ++ N)) ↔ (T (elem q L) ⊎ T (elem q N))
 unfolding elem
 elem-append q [] N = (inr, ⊎-elim (λ t. absurd t) (λ t. t))

@@ -2,20 +2,25 @@
 -- Assumes nothing.
 use Prim.Native.Nat.{ℕ, zero, suc, _+_, _-_, _≤_, _<_}
 use mathlib.Core.Path.{_≡_, refl, ap, ap₂, sym, subst, _∙_}
+use mathlib.Core.Logic.{_↔_, ⊎-elim}
 use mathlib.Core.Bool.{Bool, true, false, _&&_}
 use mathlib.Core.List.{List, [], _∷_, _++_}
 use native.Mathlib.Decide.{decLt}
-use native.Mathlib.Nat.{not-suc-le-zero}
+use native.Mathlib.Nat.{add-zero, add-suc, suc-add, zero-add, not-suc-le-zero}
 use native.Mathlib.Omega.{arith}
 use borrow.Author.Tests.{ltb-true, ltb-false}
 use lib.Dec.{T, eqb, ltb, ltb→lt}
 use lib.ListN.{length, getD, length-append, List·getD-append}
 use lib.Seq.{getD-append-seam}
-use Rattle.logic.specs.Rule.{Record, noRecord, successorAt, formulaOf, extend, formulaAt, good, goodFrom}
+use Rattle.logic.specs.Rule.{Record, noRecord, successorAt, formulaOf, extend, formulaAt, good, goodFrom, Accepted}
 use Rattle.logic.specs.Meaning.{Formula, successor, root, negation, disjunction, conjunction, exists}
+use Rattle.logic.specs.Reach.{elem}
+use Rattle.logic.specs.Reached.{namesOf, namesIn, ReachedRecord, isReached}
 use Rattle.logic.specs.Table.{Table, table, tableOf, Built, over, built, admit, buildAll, kindOf}
 use Rattle.logic.proofs.Connectives.{and-iff}
 use Rattle.logic.proofs.Orders.{less, same, more, ℕ-tri}
+use Rattle.logic.proofs.Reach.{elem-none, elem-one, elem-two}
+use Rattle.logic.proofs.Reached.{Earlier, reached-iff, reached-below}
 use Rattle.logic.proofs.Tables.{Valid, Right, table-right}
 
 and-both : (a b : Bool) → T (a && b) → T a × T b
@@ -46,7 +51,7 @@ extend-keeps (r ∷ rs) fs j h =
     let e = snoc-length fs (formulaOf r fs) in
     extend-keeps rs (fs ++ (formulaOf r fs ∷ [])) j (omega arith) ∙ List·getD-append fs (formulaOf r fs ∷ []) (root 0) j h
 
-module _ (k n c : ℕ) where
+module _ (k n c : ℕ) (used : ℕ → Bool) where
   pub tablesOf : List (Formula k) → List (Table k)
   tablesOf [] = []
   tablesOf (f ∷ fs) = table n f ∷ tablesOf fs
@@ -87,46 +92,59 @@ module _ (k n c : ℕ) where
 
   -- what building says of the formulas fs
   unfoldable pub Says : List (Formula k) → Built k → Type 0
-  Says fs (over r) = (r < length fs) × (c < CountAt fs r) × ((i : ℕ) → i < r → CountAt fs i ≤ c)
-  Says fs (built ts) = (ts ≡ tablesOf fs) × ((i : ℕ) → i < length fs → CountAt fs i ≤ c)
+  Says fs (over r) = T (used r) × (c < CountAt fs r) × ((i : ℕ) → i < r → T (used i) → CountAt fs i ≤ c)
+  Says fs (built ts) = (ts ≡ tablesOf fs) × ((i : ℕ) → i < length fs → T (used i) → CountAt fs i ≤ c)
 
-  build-says : (rs : List Record) (fs : List (Formula k)) → ((i : ℕ) → i < length fs → CountAt fs i ≤ c) → Says (extend fs rs) (buildAll n c rs (tablesOf fs))
-  unfolding buildAll extend Says admit
-  build-says [] fs h = (refl, h)
-  build-says (r ∷ rs) fs h = go (build-says rs gs) (ltb c (t .count)) refl
-    where
-      f : Formula k
-      f = formulaOf r fs
+  all-built : (fs : List (Formula k)) → ((i : ℕ) → i < length fs → T (used i) → CountAt fs i ≤ c) → Says fs (built (tablesOf fs))
+  unfolding Says
+  all-built fs h = (refl, h)
 
-      t : Table k
-      t = tableOf n (kindOf r) (tablesOf fs)
+  abbrev Roomed : List (Formula k) → Type 0
+  Roomed fs = (i : ℕ) → i < length fs → T (used i) → CountAt fs i ≤ c
 
-      gs : List (Formula k)
-      gs = fs ++ (f ∷ [])
+  -- one record more, of formula f and with the machine t
+  module _ (rs : List Record) (fs : List (Formula k)) (h : Roomed fs) (f : Formula k) (t : Table k) (e : t ≡ table n f) where
+    abbrev gs : List (Formula k)
+    gs = fs ++ (f ∷ [])
 
-      e : t ≡ table n f
-      e = table-of fs (r .op) (r .first) (r .second)
+    longer : length gs ≡ suc (length fs)
+    longer = snoc-length fs f
 
-      longer : length gs ≡ suc (length fs)
-      longer = snoc-length fs f
+    old : (i : ℕ) → i < length fs → getD (extend gs rs) i (root 0) ≡ getD fs i (root 0)
+    old i l = extend-keeps rs gs i (let a = longer in omega arith) ∙ List·getD-append fs (f ∷ []) (root 0) i l
 
-      old : (i : ℕ) → i < length fs → getD (extend gs rs) i (root 0) ≡ getD fs i (root 0)
-      old i l = extend-keeps rs gs i (let a = longer in omega arith) ∙ List·getD-append fs (f ∷ []) (root 0) i l
+    new : getD (extend gs rs) (length fs) (root 0) ≡ f
+    new = extend-keeps rs gs (length fs) (let a = longer in omega arith) ∙ getD-append-seam fs f [] (root 0)
 
-      new : getD (extend gs rs) (length fs) (root 0) ≡ f
-      new = extend-keeps rs gs (length fs) (let a = longer in omega arith) ∙ getD-append-seam fs f [] (root 0)
+    admit-says : (i y : ℕ) → i ≡ length fs → (c < y → c < t .count) → (y ≤ c → t .count ≤ c)
+        → (Roomed gs → Says (extend gs rs) (buildAll n c used rs (tablesOf gs)))
+        → Says (extend gs rs) (admit (used i && ltb c y) t (buildAll n c used rs) (tablesOf fs))
+    unfolding Says admit
+    admit-says i y here many few ih = rw here (go (used (length fs)) (ltb c y) refl refl)
+      where
+        on : (T (used (length fs)) → t .count ≤ c) → Says (extend gs rs) (buildAll n c used rs (tablesOf fs ++ (t ∷ [])))
+        on room = rw (e, ← tables-snoc fs f)
+            (ih (getD-snoc (λ i g. T (used i) → (table n g) .count ≤ c) (root 0) fs f h (λ w. subst (λ (a : Table k). a .count ≤ c) e (room w))))
 
-      go : (((i : ℕ) → i < length gs → CountAt gs i ≤ c) → Says (extend gs rs) (buildAll n c rs (tablesOf gs)))
-          → (v : Bool) → ltb c (t .count) ≡ v → Says (extend gs rs) (admit v t (buildAll n c rs) (tablesOf fs))
-      go ih true q = rw (tables-length fs) (
-        let a = extend-length rs gs in let b = longer in omega arith,
-        subst (λ (g : Formula k). c < (table n g) .count) (sym new) (subst (λ (a : Table k). c < a .count) e (ltb-true c (t .count) q)),
-        λ i l. subst (λ (g : Formula k). (table n g) .count ≤ c) (sym (old i l)) (h i l),
-      )
-      go ih false q = rw (e, ← tables-snoc fs f)
-          (ih (getD-snoc (λ i g. (table n g) .count ≤ c) (root 0) fs f h (subst (λ (a : Table k). a .count ≤ c) e (ltb-false c (t .count) q))))
+        go : (u v : Bool) → used (length fs) ≡ u → ltb c y ≡ v → Says (extend gs rs) (admit (u && v) t (buildAll n c used rs) (tablesOf fs))
+        go true true p q = rw (tables-length fs) (
+          rw p tt,
+          subst (λ (g : Formula k). c < (table n g) .count) (sym new) (subst (λ (a : Table k). c < a .count) e (many (ltb-true c y q))),
+          λ i l w. subst (λ (g : Formula k). (table n g) .count ≤ c) (sym (old i l)) (h i l w),
+        )
+        go true false p q = on (λ w. few (ltb-false c y q))
+        go false v p q = on (λ w. absurd (rw p at w))
 
-  pub built-says : (rs : List Record) → Says (extend [] rs) (buildAll n c rs [])
+  build-says : (rs : List Record) (fs : List (Formula k)) → Roomed fs → Says (extend fs rs) (buildAll n c used rs (tablesOf fs))
+  unfolding buildAll extend
+  build-says [] fs h = all-built fs h
+  build-says (r ∷ rs) fs h =
+      let f : Formula k = formulaOf r fs in
+      let t : Table k = tableOf n (kindOf r) (tablesOf fs) in
+      admit-says rs fs h f t (table-of fs (r .op) (r .first) (r .second)) _ _
+      (let e = tables-length fs in omega arith) (λ l. omega arith) (λ l. omega arith) (build-says rs (fs ++ (f ∷ [])))
+
+  pub built-says : (rs : List Record) → Says (extend [] rs) (buildAll n c used rs [])
   unfolding tablesOf
   built-says rs = build-says rs [] (λ i h. absurd (not-suc-le-zero h))
 
@@ -176,6 +194,49 @@ module _ (k n : ℕ) where
 pub record-valid : (k n : ℕ) (rs : List Record) → T (goodFrom k n 0 rs) → (i : ℕ) → i < length rs → Valid {k = k} n (formulaAt rs i)
 unfolding formulaAt
 record-valid k n rs g i h = extend-valid k n rs [] g (λ j l. absurd (not-suc-le-zero l)) i (let e = extend-length {k = k} rs [] in omega arith)
+
+module _ (k n : ℕ) where
+  good-at : (es : List Record) (i : ℕ) → T (goodFrom k n i es) → (j : ℕ) → j < length es → T (good k n (i + j) (getD es j noRecord))
+  unfolding goodFrom
+  good-at [] i t j h = absurd (not-suc-le-zero h)
+  good-at (e ∷ es) i t zero h = rw add-zero ((and-both (good k n i e) (goodFrom k n (suc i) es) t) .0)
+  good-at (e ∷ es) i t (suc j) h = rw (add-suc, ← suc-add) (good-at es (suc i) ((and-both (good k n i e) (goodFrom k n (suc i) es) t) .1) j (omega arith))
+
+  pub good-here : (rs : List Record) (r : ℕ) → T (goodFrom k n 0 rs) → r < length rs → T (good k n r (getD rs r noRecord))
+  good-here rs r t h = rw zero-add at (good-at rs 0 t r h)
+
+  -- a good record names earlier ones only
+  names-earlier : (r op a b i : ℕ) → T (good k n r (record { op = op; first = a; second = b }))
+      → T (elem i (namesOf (record { op = op; first = a; second = b }))) → i < r
+  unfolding good namesOf
+  names-earlier r zero a b i t u = absurd (elem-none i u)
+  names-earlier r (suc zero) a b i t u = absurd (elem-none i u)
+  names-earlier r (suc (suc zero)) a b i t u = absurd (elem-none i u)
+  names-earlier r (suc (suc (suc zero))) a b i t u = absurd (elem-none i u)
+  names-earlier r (suc (suc (suc (suc zero)))) a b i t u = absurd (elem-none i u)
+  names-earlier r (suc (suc (suc (suc (suc zero))))) a b i t u =
+      let h = ltb→lt a r ((and-both (ltb a r) (eqb b 0) t) .0) in let e = elem-one i _ u in omega arith
+  names-earlier r (suc (suc (suc (suc (suc (suc zero)))))) a b i t u =
+      let w = and-both (ltb a r) (ltb b r) t in
+      let h = ltb→lt a r (w .0) in let g = ltb→lt b r (w .1) in ⊎-elim (λ e. omega arith) (λ e. omega arith) (elem-two i _ _ u)
+  names-earlier r (suc (suc (suc (suc (suc (suc (suc zero))))))) a b i t u =
+      let w = and-both (ltb a r) (ltb b r) t in
+      let h = ltb→lt a r (w .0) in let g = ltb→lt b r (w .1) in ⊎-elim (λ e. omega arith) (λ e. omega arith) (elem-two i _ _ u)
+  names-earlier r (suc (suc (suc (suc (suc (suc (suc (suc zero)))))))) a b i t u =
+      let h = ltb→lt b r ((and-both (ltb a n) (ltb b r) t) .1) in let e = elem-one i _ u in omega arith
+  names-earlier r (suc (suc (suc (suc (suc (suc (suc (suc (suc zero))))))))) a b i t u = absurd (elem-none i u)
+  names-earlier r (suc (suc (suc (suc (suc (suc (suc (suc (suc (suc op)))))))))) a b i t u = absurd (elem-none i u)
+
+  pub rule-earlier : (rs : List Record) → T (goodFrom k n 0 rs) → Earlier (namesIn rs) (length rs)
+  rule-earlier rs g r h i u = let e : Record = getD rs r noRecord in names-earlier r (e .op) (e .first) (e .second) i (good-here rs r g h) u
+
+  -- so the marks are those of the records that are reached, which are records of the rule
+  module _ (rs : List Record) (ok : Accepted k n rs) where
+    pub rule-reached : (r : ℕ) → T (isReached (namesIn rs) (length rs) r) ↔ ReachedRecord rs r
+    rule-reached = reached-iff (namesIn rs) (length rs) (rule-earlier rs (ok .1)) (ok .0)
+
+    pub reached-within : (r : ℕ) → ReachedRecord rs r → r < length rs
+    reached-within r u = reached-below (namesIn rs) (length rs) r ((rule-reached r) .1 u)
 
 module _ (k n : ℕ) where
   -- a good record's formula reads only the earlier ones

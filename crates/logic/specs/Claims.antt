@@ -10,6 +10,7 @@ use Rattle.logic.specs.Meaning.{Branch, Place, Assignment}
 use Rattle.logic.specs.Tree.{Tree, positions, nodeAt, TreeOf, SameSets}
 use Rattle.logic.specs.Order.{_≺_}
 use Rattle.logic.specs.Rule.{Record, formulaAt, Satisfies}
+use Rattle.logic.specs.Reached.{ReachedRecord}
 use Rattle.logic.specs.Table.{table}
 
 -- decide's answers: refusal 14 with the record's number; shown (positions, states) and the tree; none (states); larger (states)
@@ -27,13 +28,13 @@ pub data Judgement : Type 0 where
 abbrev pub statesAt : (k n : ℕ) → List Record → ℕ → ℕ
 statesAt k n rs r = (table {k = k} n (formulaAt rs r)) .count
 
--- "the first record in strip order with more than c states"
+-- "the first record in strip order with more than c states", which since A5 "speaks only of records reached from the last one"
 abbrev pub FirstOver : (k n : ℕ) → List Record → ℕ → ℕ → Type 0
-FirstOver k n rs c r = (r < length rs) × (c < statesAt k n rs r) × ((i : ℕ) → i < r → statesAt k n rs i ≤ c)
+FirstOver k n rs c r = ReachedRecord rs r × (c < statesAt k n rs r) × ((i : ℕ) → i < r → ReachedRecord rs i → statesAt k n rs i ≤ c)
 
--- no record has more than c states: refusal 14 does not apply
+-- no record that is reached has more than c states: refusal 14 does not apply
 abbrev pub Roomy : (k n : ℕ) → List Record → ℕ → Type 0
-Roomy k n rs c = (r : ℕ) → r < length rs → statesAt k n rs r ≤ c
+Roomy k n rs c = (r : ℕ) → ReachedRecord rs r → statesAt k n rs r ≤ c
 
 -- A satisfies the rule, and t is its tree
 pub record Model {k : ℕ} (n : ℕ) (rs : List Record) (A : Assignment k) (t : Tree k) : Type 0 where

@@ -3,9 +3,10 @@
 use Prim.Native.Nat.{ℕ, _^_}
 use mathlib.Core.Bool.{Bool, true, false}
 use mathlib.Core.List.{List, []}
-use lib.ListN.{getD}
+use lib.ListN.{length, getD}
 use Rattle.logic.specs.Tree.{Tree, positions}
 use Rattle.logic.specs.Rule.{Record, lastOf}
+use Rattle.logic.specs.Reached.{namesIn, isReached}
 use Rattle.logic.specs.Meaning.{root}
 use Rattle.logic.specs.Machine.{run}
 use Rattle.logic.specs.Table.{Table, table, Built, over, built, buildAll}
@@ -24,8 +25,12 @@ unfoldable pub conclude : {k : ℕ} → ℕ → List Record → ℕ → Built k 
 conclude n rs P (over r) = refused14 r
 conclude n rs P (built ts) = let a = lastTable n rs ts in report (a .count) (search (2 ^ n) a P)
 
+-- all records of a rule, of which refusal 14 looks at those reached from the last one
+abbrev pub buildRule : {k : ℕ} → ℕ → ℕ → List Record → Built k
+buildRule n c rs = buildAll n c (isReached (namesIn rs) (length rs)) rs []
+
 unfoldable pub decideOf : (k n : ℕ) → List Record → ℕ → ℕ → Outcome k
-decideOf k n rs c P = conclude n rs P (buildAll n c rs [])
+decideOf k n rs c P = conclude n rs P (buildRule n c rs)
 
 unfoldable pub say : Bool → Judgement
 say true = yes
@@ -36,4 +41,4 @@ ruling n rs t (over r) = unbuilt r
 ruling n rs t (built ts) = let a = lastTable n rs ts in say (a .machine .accepting (run (a .machine) t))
 
 unfoldable pub judgeOf : {k : ℕ} → ℕ → List Record → ℕ → Tree k → Judgement
-judgeOf n rs c t = ruling n rs t (buildAll n c rs [])
+judgeOf n rs c t = ruling n rs t (buildRule n c rs)

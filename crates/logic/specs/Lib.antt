@@ -6,6 +6,7 @@ pub mod Claims
 pub mod Machine
 pub mod Atom
 pub mod Reach
+pub mod Reached
 pub mod Table
 pub mod Trim
 pub mod Search

@@ -67,7 +67,7 @@ tableOf n (orOf a b) ts = productTable n _||_ (getD ts a (table n (root 0))) (ge
 tableOf n (andOf a b) ts = productTable n _&&_ (getD ts a (table n (root 0))) (getD ts b (table n (root 0)))
 tableOf n (someOf x a) ts = projectionTable n x (getD ts a (table n (root 0)))
 
--- the machines of all records; or the number of the first with more than c states
+-- the machines of all records; or the number of the first reached one with more than c states
 pub data Built (k : ℕ) : Type 0 where
   over : ℕ → Built k
   built : List (Table k) → Built k
@@ -76,6 +76,7 @@ unfoldable pub admit : {k : ℕ} → Bool → Table k → (List (Table k) → Bu
 admit true t go ts = over (length ts)
 admit false t go ts = go (ts ++ (t ∷ []))
 
-unfoldable pub buildAll : {k : ℕ} → ℕ → ℕ → List Record → List (Table k) → Built k
-buildAll n c [] ts = built ts
-buildAll n c (r ∷ rs) ts = let t = tableOf n (kindOf r) ts in admit (ltb c (t .count)) t (buildAll n c rs) ts
+-- the records that follow those of ts, where `used` says which records are reached
+unfoldable pub buildAll : {k : ℕ} → ℕ → ℕ → (ℕ → Bool) → List Record → List (Table k) → Built k
+buildAll n c used [] ts = built ts
+buildAll n c used (r ∷ rs) ts = let t = tableOf n (kindOf r) ts in admit (used (length ts) && ltb c (t .count)) t (buildAll n c used rs) ts

@@ -1,4 +1,4 @@
 pub mod Held
 pub mod Shares
 pub mod Copies
-pub mod Nexts
+pub mod Looks

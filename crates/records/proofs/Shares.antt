@@ -49,7 +49,7 @@ room-of x r s n f₁ f₂ f = record {
 }
 
 -- ---- what is asked of the parts
-pub parts-map : (k : Kind) {A A′ B B′ : Type 0} → (A → A′) → (B → B′) → OfParts k A B → OfParts k A′ B′
+parts-map : (k : Kind) {A A′ B B′ : Type 0} → (A → A′) → (B → B′) → OfParts k A B → OfParts k A′ B′
 parts-map Subset f g h = tt
 parts-map Single f g h = tt
 parts-map Child1 f g h = tt

@@ -1,10 +1,8 @@
--- The machines of a rule's records, one after the other. Document 01, "Machines": "Counts and accepting sets are kept with one entry for
--- each of the 128 possible records"; "What each operation turns down": "14, with the record's number, for the first record in strip order
--- with more than c states. All records are built". Assumes nothing.
-use Prim.Native.Nat.{ℕ, zero, suc, _+_, _≤_, _<_}
+-- The machine of one record, from those of its parts, and what is stored of it. Document 01, "Machines". Assumes nothing.
+use Prim.Native.Nat.{ℕ, _+_, _≤_, _<_}
 use mathlib.Core.Path.{_≡_}
 use mathlib.Core.Bool.{Bool, true, false, cond}
-use mathlib.Core.List.{List, [], _∷_, _++_}
+use mathlib.Core.List.{List, []}
 use mathlib.Core.Option.{Option, none, some}
 use lib.ListN.{length, getD, drop}
 use Rattle.layout.specs.Shape.{Shaped, labelsIn, shareOf, shareAt}
@@ -19,8 +17,6 @@ use Rattle.table.specs.declared.plan.Kind.{Kind}
 use Rattle.table.specs.declared.plan.Kind.the-variants.{Subset, Single, Child1, Child2, Root, Not, Or, And, Exists}
 use Rattle.table.specs.declared.plan.Plan.{Plan}
 use Rattle.records.specs.declared.Decoded.{Decoded}
-use Rattle.records.specs.declared.Ending.the-variants.{Over, Ready}
-use Rattle.records.specs.declared.Machines.{Machines}
 use Rattle.records.specs.declared.Summary.{Summary}
 
 -- a machine: the codes of its states, its step and the set of its accepting states
@@ -35,11 +31,6 @@ noMach = record { codes = []; step = λ l is. 0; accept = 0 }
 -- the same in the terms of the logic: state 0 is the state of the empty tree
 abbrev pub machOf : Mach → Machine 2 ℕ
 machOf m = branching 0 (m .step) (λ q. mem q (m .accept))
-
--- the machines so far, or the number of the first record with too many states
-pub data Outcome : Type 0 where
-  built : List Mach → Outcome
-  over : ℕ → Outcome
 
 -- the machine of a record with these codes
 abbrev pub machFrom : Decoded → Mach → Mach → List ℕ → Mach
@@ -74,16 +65,6 @@ numberedBy make (some cs) = some (make cs)
 unfoldable pub machineOf : Shape → Decoded → Mach → Mach → Option Mach
 machineOf s x f g =
     cond (isNot (x .kind)) (some (complementOf f)) (numberedBy (machFrom x f g) (codesOf (x .kind) s (f .step) (g .step) (x .wx) (x .wy)))
-
--- the machines with one more, or the record's number
-abbrev pub more : ℕ → List Mach → Option Mach → Outcome
-more r ms none = over r
-more r ms (some m) = built (ms ++ (m ∷ []))
-
--- after record r
-unfoldable pub after : Shape → ℕ → Decoded → Outcome → Outcome
-after s r x (over k) = over k
-after s r x (built ms) = more r ms (machineOf s x (getD ms (x .first) noMach) (getD ms (x .second) noMach))
 
 -- the plan of record r, whose parts look at the bits f and g
 abbrev pub planOf : Decoded → ℕ → Shape → ℕ → ℕ → Plan
@@ -125,12 +106,6 @@ pub record Fits (x : Decoded) (r : ℕ) (s : Shape) (n : ℕ) : Type 0 where
   pub bit : Bit (x .wx) (labelsIn s)
   pub before : OfParts (x .kind) (x .first < r) (x .second < r)
   pub share : shareAt s r + shareOf s ≤ n
-
--- what building all records asks of record r: its numbers have entries in the arrays of 128, too
-pub record Buildable (x : Decoded) (r : ℕ) (s : Shape) (n : ℕ) : Type 0 where
-  pub fits : Fits x r s n
-  pub first-kept : x .first < 128
-  pub second-kept : x .second < 128
 
 -- machine m is stored: k keeps its number of states, its accepting states and the bits that it looks at, and the table at `base` its
 -- steps, at the labels that it tells apart
@@ -176,26 +151,5 @@ pub record Spared (s : Shape) (r : ℕ) (ws ws′ : List ℕ) : Type 0 where
   pub low : (q : ℕ) → q < shareAt s r → getD ws′ q 0 ≡ getD ws q 0
   pub high : drop (shareAt s r + shareOf s) ws′ ≡ drop (shareAt s r + shareOf s) ws
 
--- what is kept of record a's machine
-abbrev pub entryOf : Machines → ℕ → Summary
-entryOf t a = record { count = getD (t .counts) a 0; accept = getD (t .accepts) a 0; looks = getD (t .looks) a 0 }
-
--- the machines of the first r records are stored, or the first record with too many states is named
-abbrev pub Made : Outcome → Shape → ℕ → Machines → List ℕ → Type 0
-Made (over k) s r t ws = t .ending ≡ Over k
-Made (built ms) s r t ws =
-    (t .ending ≡ Ready) × (length ms ≡ r) × ((a : ℕ) → a < r → Stored s (shareAt s a) (getD ms a noMach) (entryOf t a) ws)
-
--- t has an entry for each possible record
-pub record Wide (t : Machines) : Type 0 where
-  pub counts : length (t .counts) ≡ 128
-  pub accepts : length (t .accepts) ≡ 128
-  pub looks : length (t .looks) ≡ 128
-
 abbrev pub noDecoded : Decoded
 noDecoded = record { kind = Subset; first = 0; second = 0; wx = 0; wy = 0 }
-
--- the machines of the first r records
-unfoldable pub upto : List Decoded → Shape → ℕ → Outcome
-upto xs s zero = built []
-upto xs s (suc r) = after s r (getD xs r noDecoded) (upto xs s r)

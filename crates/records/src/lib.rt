@@ -1,12 +1,12 @@
-// The machines of a rule's records, one after the other, each in its share of the workspace.
+// The machine of one record, from what is kept of its parts' machines, in the record's share of the workspace.
 mod complement; // the machine of "not" from its part's
 
 ghost use mathlib.Core.Path.{_≡_};
-ghost use Prim.Native.Nat.{ℕ, _≤_, _<_};
-ghost use lib.ListN.{length, getD, take, drop};
+ghost use Prim.Native.Nat.{_≤_, _<_};
+ghost use lib.ListN.{length, take};
 ghost use Rattle.records.specs.Machine.{acceptBy, acceptOf};
-ghost use Rattle.records.specs.Rule.{planOf, isNot, Fits, Buildable, SomeParts, Adds, Spared, Made, upto, noDecoded, entryOf};
-ghost use Rattle.layout.specs.Shape.{Shaped, shareAt};
+ghost use Rattle.records.specs.Rule.{planOf, isNot, Fits, SomeParts, Adds, Spared};
+ghost use Rattle.layout.specs.Shape.{Shaped};
 ghost use mathlib.Core.Bool.{false};
 ghost use Rattle.table.specs.Succ.{looksOf};
 use crate::complement::copy_table;
@@ -60,21 +60,6 @@ pub struct Decoded {
     pub second: u8,
     pub wx: u8,
     pub wy: u8,
-}
-
-// How building ended: at the first record with too many states, by its number, or with every machine ready.
-pub enum Ending {
-    Over(usize),
-    Ready,
-}
-
-// What is kept of the machines: for each record its number of states, the set of its accepting states and the bits of the labels that it
-// looks at; and how building ended. Bytes are less to set and to copy than words.
-pub struct Machines {
-    pub counts: [u8; 128],
-    pub accepts: [u64; 128],
-    pub looks: [u8; 128],
-    pub ending: Ending,
 }
 
 // What is kept of one record's machine.
@@ -188,55 +173,5 @@ pub fn build_next(ws: &mut [u8], x: Decoded, f: Summary, g: Summary, r: usize, s
     match kind {
         Kind::Not => complement_next(ws, x, f, g, r, s),
         _ => explore_next(ws, x, f, g, r, s),
-    }
-}
-
-// What is kept of record a's machine.
-fn kept(counts: &[u8; 128], accepts: &[u64; 128], looks: &[u8; 128], a: usize) -> Summary
-    requires { ⌜ a < 128 ⌝ }
-    ensures { λ k. ⌜ k ≡ record { count = getD (now (counts .entry)) a 0; accept = getD (now (accepts .entry)) a 0; looks = getD (now (looks .entry)) a 0 } ⌝ }
-{
-    Summary {
-        count: counts[a],
-        accept: accepts[a],
-        looks: looks[a],
-    }
-}
-
-// The machines of the first m records. The arrays are written in place: a copy for each record takes longer than a small machine.
-pub fn build_all(ws: &mut [u8], records: [Decoded; 128], m: usize, s: Shape) -> Machines
-    requires { ⌜ m ≤ 128 ⌝ }
-    requires { ⌜ ((r : ℕ) → r < m → Buildable (getD records r noDecoded) r s (length (now ws))) ⌝ }
-    ensures { λ t. ⌜ Made (upto records s m) s m t (now (ws .exit)) ⌝ }
-    ensures { λ t. ⌜ drop (shareAt s m) (now (ws .exit)) ≡ drop (shareAt s m) (now (ws .entry)) ⌝ }
-{
-    let c = s.ceiling;
-    let mut counts = [0u8; 128];
-    let mut accepts = [0u64; 128];
-    let mut looks = [0u8; 128];
-    let mut r = 0;
-    while r < m {
-        let x = records[r];
-        let f = kept(&counts, &accepts, &looks, x.first as usize);
-        let g = kept(&counts, &accepts, &looks, x.second as usize);
-        let k = build_next(ws, x, f, g, r, s);
-        if c < k.count as usize {
-            return Machines {
-                counts,
-                accepts,
-                looks,
-                ending: Ending::Over(r),
-            };
-        }
-        counts[r] = k.count;
-        accepts[r] = k.accept;
-        looks[r] = k.looks;
-        r += 1;
-    }
-    Machines {
-        counts,
-        accepts,
-        looks,
-        ending: Ending::Ready,
     }
 }

@@ -3,11 +3,13 @@ use Rattle.words.proofs.Vocabulary.{ℕ, _≤_, _<_, _-_, suc, zero, Bool, true
 use Rattle.layout.specs.Shape.{Shaped, shareAt}
 use Rattle.layout.proofs.Places.{share-next}
 use Rattle.logic.specs.Rule.{Record, noRecord, good, Accepted}
-use Rattle.records.specs.Rule.{OfParts, Buildable}
+use Rattle.logic.proofs.Rules.{good-here}
+use Rattle.records.specs.Rule.{OfParts}
+use Rattle.building.specs.Build.{Buildable}
 use Rattle.records.specs.declared.Decoded.{Decoded}
 use Rattle.table.proofs.Labels.{bit-of}
 use Rattle.refinement.specs.Decode.{weight, shapeOf, decodedOf}
-use Rattle.refinement.proofs.Upto.{lt-first, lt-both, good-here}
+use Rattle.refinement.proofs.Upto.{lt-first, lt-both}
 
 abbrev Before : ℕ → Decoded → Type 0
 Before r x = OfParts (x .kind) (x .first < r) (x .second < r)
@@ -53,7 +55,7 @@ ready n c sh rs acc r m len h hm km room a b =
         wx-power = (n - suc (e .first), refl);
         wy-power = (n - suc (e .second), refl);
         bit = bit-of n (n - suc (e .first)) (let some = sh .some-variable in omega arith);
-        before = before n r (e .op) (e .first) (e .second) (good-here n rs r (acc .1) h);
+        before = before n r (e .op) (e .first) (e .second) (good-here 2 n rs r (acc .1) h);
         share = omega (arith, share-next (shapeOf n c) r m hm);
       };
       first-kept = first;

@@ -1,12 +1,14 @@
 -- The builder's outcome for all records of a rule, and decide's and judge's answers from it.
 -- Assumes nothing.
-use Rattle.words.proofs.Vocabulary.{ℕ, _≤_, _<_, _+_, suc, zero, _^_, Bool, _&&_, _≡_, _∙_, refl, ap, subst, List, [], _∷_, some, Option, none, eqb}
-use Rattle.words.proofs.Vocabulary.{ltb, T, ltb→lt, length, getD, length-append, decLt, not-suc-le-zero, add-zero, add-suc, suc-add, zero-add, arith}
+use Rattle.words.proofs.Vocabulary.{ℕ, _≤_, _<_, _+_, suc, zero, _^_, Bool, true, false, cond, _&&_, _≡_, _∙_, refl, sym, ap, subst, _↔_, List, [], _∷_, _++_, some}
+use Rattle.words.proofs.Vocabulary.{Option, none, eqb, ltb, T, ltb→lt, length, getD, length-append, decLt, not-suc-le-zero, arith}
 use Rattle.refinement.specs.Decode.{weight, shapeOf, decodedOf}
 use Rattle.layout.specs.Shape.{Shaped}
 use Rattle.logic.specs.Meaning.{Branch, Assignment, Formula, successor, root}
 use Rattle.logic.specs.Tree.{Tree, TreeOf}
-use Rattle.logic.specs.Rule.{noRecord, Record, formulaOf, formulaAt, extend, lastOf, good, goodFrom, successorAt, Accepted}
+use Rattle.logic.specs.Rule.{noRecord, Record, formulaOf, formulaAt, extend, lastOf, good, successorAt, Accepted}
+use Rattle.logic.specs.Reach.{elem}
+use Rattle.logic.specs.Reached.{itself, named, namesOf, namesIn, ReachedRecord, isReached}
 use Rattle.logic.specs.Machine.{run}
 use Rattle.logic.specs.Search.{search}
 use Rattle.logic.specs.Alike.{Bounded}
@@ -16,13 +18,17 @@ use Rattle.logic.specs.Decide.{report, decideOf, say, judgeOf}
 use Rattle.logic.proofs.Branches.{branch-same}
 use Rattle.logic.proofs.Connectives.{and-iff}
 use Rattle.logic.proofs.Tables.{Valid}
-use Rattle.logic.proofs.Rules.{record-valid, record-formula, getD-snoc}
+use Rattle.logic.proofs.Reach.{elem-first, elem-second}
+use Rattle.logic.proofs.Reached.{reached-cong}
+use Rattle.logic.proofs.Rules.{record-valid, record-formula, good-here, rule-earlier, rule-reached, reached-within, getD-snoc}
 use Rattle.logic.proofs.Answers.{decide-answers, judge-judges}
 use Rattle.logic.proofs.Builders.{states-any, over-index, decide-any, judge-any}
 use Rattle.words.specs.Word.{mem}
 use Rattle.table.specs.Succ.{startCode, kindCode}
-use Rattle.records.specs.Rule.{Mach, noMach, machOf, Outcome, built, over, machineOf, more, after, noDecoded, upto}
+use Rattle.records.specs.Rule.{Mach, noMach, machOf, machineOf, noDecoded}
 use Rattle.records.specs.declared.Decoded.{Decoded}
+use Rattle.building.specs.Named.{namesOf as decodedNames, namesIn as decodedNamesIn, usedIn}
+use Rattle.building.specs.Build.{Outcome, built, over, more, after, passed, upto}
 use Rattle.refinement.proofs.Atoms.{atom-subset, atom-single, atom-root, atom-first, atom-second}
 use Rattle.refinement.proofs.Records.{Good, Makes, explored, complemented, either-pair, both-pair, some-set}
 
@@ -43,14 +49,20 @@ child-at b x y =
     as (λ d. elim d as (λ _. Formula 2) [ yes h ↦ successor (record { number = b .number; below = h }) x y | no h ↦ root 0 ] ≡ successor b x y)
     [ yes h ↦ ap (λ (b : Branch 2). successor b x y) (branch-same (record { number = b .number; below = h }) b refl) | no h ↦ absurd (h (b .below)) ]
 
-good-at : (n : ℕ) (es : List Record) (i : ℕ) → T (goodFrom 2 n i es) → (j : ℕ) → j < length es → T (good 2 n (i + j) (getD es j noRecord))
-unfolding goodFrom
-good-at n [] i t j h = absurd (not-suc-le-zero h)
-good-at n (e ∷ es) i t zero h = rw add-zero ((both-of (good 2 n i e) (goodFrom 2 n (suc i) es) t) .0)
-good-at n (e ∷ es) i t (suc j) h = rw (add-suc, ← suc-add) (good-at n es (suc i) ((both-of (good 2 n i e) (goodFrom 2 n (suc i) es) t) .1) j (omega arith))
-
-pub good-here : (n : ℕ) (rs : List Record) (r : ℕ) → T (goodFrom 2 n 0 rs) → r < length rs → T (good 2 n r (getD rs r noRecord))
-good-here n rs r t h = rw zero-add at (good-at n rs 0 t r h)
+-- a record names what its decoded form names
+names-decoded : (n op a b : ℕ)
+    → let e : Record = record { op = op; first = a; second = b } in decodedNames (decodedOf n e) ≡ namesOf e
+unfolding decodedOf namesOf
+names-decoded n zero a b = refl
+names-decoded n (suc zero) a b = refl
+names-decoded n (suc (suc zero)) a b = refl
+names-decoded n (suc (suc (suc zero))) a b = refl
+names-decoded n (suc (suc (suc (suc zero)))) a b = refl
+names-decoded n (suc (suc (suc (suc (suc zero))))) a b = refl
+names-decoded n (suc (suc (suc (suc (suc (suc zero)))))) a b = refl
+names-decoded n (suc (suc (suc (suc (suc (suc (suc zero))))))) a b = refl
+names-decoded n (suc (suc (suc (suc (suc (suc (suc (suc zero)))))))) a b = refl
+names-decoded n (suc (suc (suc (suc (suc (suc (suc (suc (suc op))))))))) a b = refl
 
 -- a rule, and the builder's records of it
 module _ (n c : ℕ) (sh : Shaped (shapeOf n c)) (rs : List Record) (acc : Accepted 2 n rs) (xs : List Decoded)
@@ -58,8 +70,20 @@ module _ (n c : ℕ) (sh : Shaped (shapeOf n c)) (rs : List Record) (acc : Accep
   abbrev GoodAt : ℕ → Mach → Type 0
   GoodAt j m = Good n c (formulaAt rs j) m
 
+  -- which records are reached, as the builder has it, and as the rule has it
+  abbrev used : ℕ → Bool
+  used = usedIn xs (length rs)
+
+  used-same : (i : ℕ) → used i ≡ isReached (namesIn rs) (length rs) i
+  used-same =
+      reached-cong (decodedNamesIn xs) (namesIn rs) (length rs)
+      (λ r h. let e : Record = getD rs r noRecord in ap decodedNames (decoded r h) ∙ names-decoded n (e .op) (e .first) (e .second))
+
+  used-iff : (i : ℕ) → T (used i) ↔ ReachedRecord rs i
+  used-iff i = subst (λ (v : Bool). T v ↔ ReachedRecord rs i) (sym (used-same i)) (rule-reached 2 n rs acc i)
+
   -- record r, whose parts' machines are good
-  module _ (r : ℕ) (hr : r < length rs) (ns : List Mach) (parts : (j : ℕ) → j < r → GoodAt j (getD ns j noMach)) where
+  module _ (r : ℕ) (hr : r < length rs) (ns : List Mach) where
     abbrev at : ℕ → Mach
     at j = getD ns j noMach
 
@@ -73,105 +97,125 @@ module _ (n c : ℕ) (sh : Shaped (shapeOf n c)) (rs : List Record) (acc : Accep
     valid j h = record-valid 2 n rs (acc .1) j (omega arith)
 
     by-op : (op a b : ℕ) → T (good 2 n r (record { op = op; first = a; second = b }))
+        → ((j : ℕ) → T (elem j (namesOf (record { op = op; first = a; second = b }))) → GoodAt j (at j))
         → MakesAs (formulaOf (record { op = op; first = a; second = b }) (extend [] rs)) (dec op a b)
-    unfolding good formulaOf decodedOf formulaAt machineOf startCode kindCode
-    by-op zero a b t = let w = lt-both a b n n t in explored n c sh (dec 0 a b) (at a) (at b) (atom-subset n a b (w .0) (w .1))
-    by-op (suc zero) a b t = explored n c sh (dec 1 a b) (at a) (at b) (atom-single n a b (lt-first a n (eqb b 0) t))
-    by-op (suc (suc zero)) a b t =
+    unfolding good formulaOf decodedOf formulaAt machineOf startCode kindCode namesOf
+    by-op zero a b t parts = let w = lt-both a b n n t in explored n c sh (dec 0 a b) (at a) (at b) (atom-subset n a b (w .0) (w .1))
+    by-op (suc zero) a b t parts = explored n c sh (dec 1 a b) (at a) (at b) (atom-single n a b (lt-first a n (eqb b 0) t))
+    by-op (suc (suc zero)) a b t parts =
         let w = lt-both a b n n t in explored n c sh (dec 2 a b) (at a) (at b) (rw (child-at one a b) (atom-first n a b (w .0) (w .1)))
-    by-op (suc (suc (suc zero))) a b t =
+    by-op (suc (suc (suc zero))) a b t parts =
         let w = lt-both a b n n t in explored n c sh (dec 3 a b) (at a) (at b) (rw (child-at two a b) (atom-second n a b (w .0) (w .1)))
-    by-op (suc (suc (suc (suc zero)))) a b t = explored n c sh (dec 4 a b) (at a) (at b) (atom-root n a b (lt-first a n (eqb b 0) t))
-    by-op (suc (suc (suc (suc (suc zero))))) a b t = complemented n c sh (parts a (lt-first a r (eqb b 0) t))
-    by-op (suc (suc (suc (suc (suc (suc zero)))))) a b t =
+    by-op (suc (suc (suc (suc zero)))) a b t parts = explored n c sh (dec 4 a b) (at a) (at b) (atom-root n a b (lt-first a n (eqb b 0) t))
+    by-op (suc (suc (suc (suc (suc zero))))) a b t parts = complemented n c sh (parts a (elem-first a []))
+    by-op (suc (suc (suc (suc (suc (suc zero)))))) a b t parts =
         let w = lt-both a b r r t in
         explored n c sh (dec 6 a b) (at a) (at b)
-        (either-pair n c sh (parts a (w .0)) (parts b (w .1)) (valid a (w .0)) (valid b (w .1)) (weight n a) (weight n b))
-    by-op (suc (suc (suc (suc (suc (suc (suc zero))))))) a b t =
+        (either-pair n c sh (parts a (elem-first a (b ∷ []))) (parts b (elem-second a b)) (valid a (w .0)) (valid b (w .1)) (weight n a) (weight n b))
+    by-op (suc (suc (suc (suc (suc (suc (suc zero))))))) a b t parts =
         let w = lt-both a b r r t in
         explored n c sh (dec 7 a b) (at a) (at b)
-        (both-pair n c sh (parts a (w .0)) (parts b (w .1)) (valid a (w .0)) (valid b (w .1)) (weight n a) (weight n b))
-    by-op (suc (suc (suc (suc (suc (suc (suc (suc zero)))))))) a b t =
+        (both-pair n c sh (parts a (elem-first a (b ∷ []))) (parts b (elem-second a b)) (valid a (w .0)) (valid b (w .1)) (weight n a) (weight n b))
+    by-op (suc (suc (suc (suc (suc (suc (suc (suc zero)))))))) a b t parts =
         let w = lt-both a b n r t in
-        explored n c sh (dec 8 a b) (at b) (at b) (some-set n c sh (parts b (w .1)) (valid b (w .1)) (at b) a (weight n b) (w .0))
-    by-op (suc (suc (suc (suc (suc (suc (suc (suc (suc zero))))))))) a b t = absurd t
-    by-op (suc (suc (suc (suc (suc (suc (suc (suc (suc (suc op)))))))))) a b t = absurd t
+        explored n c sh (dec 8 a b) (at b) (at b) (some-set n c sh (parts b (elem-first b [])) (valid b (w .1)) (at b) a (weight n b) (w .0))
+    by-op (suc (suc (suc (suc (suc (suc (suc (suc (suc zero))))))))) a b t parts = absurd t
+    by-op (suc (suc (suc (suc (suc (suc (suc (suc (suc (suc op)))))))))) a b t parts = absurd t
 
     -- what the builder makes of record r
-    makes : MakesAs (formulaAt rs r) (getD xs r noDecoded)
-    makes =
+    makes : ((j : ℕ) → T (elem j (namesIn rs r)) → GoodAt j (at j)) → MakesAs (formulaAt rs r) (getD xs r noDecoded)
+    makes parts =
         let e : Record = getD rs r noRecord in
-        rw (decoded r hr, record-formula 2 n rs (acc .1) r hr) (by-op (e .op) (e .first) (e .second) (good-here n rs r (acc .1) hr))
+        rw (decoded r hr, record-formula 2 n rs (acc .1) r hr) (by-op (e .op) (e .first) (e .second) (good-here 2 n rs r (acc .1) hr) parts)
 
   -- what the outcome for the first m records says
   unfoldable pub Linked : ℕ → Outcome → Type 0
-  Linked m (built ms) = (length ms ≡ m) × ((r : ℕ) → r < m → GoodAt r (getD ms r noMach))
+  Linked m (built ms) = (length ms ≡ m) × ((r : ℕ) → r < m → T (used r) → GoodAt r (getD ms r noMach))
   Linked m (over k) = FirstOver 2 n rs c k
 
-  pub few-states : (m : ℕ) (ns : List Mach) → m ≤ length rs → ((r : ℕ) → r < m → GoodAt r (getD ns r noMach)) → (i : ℕ) → i < m → statesAt 2 n rs i ≤ c
-  few-states m ns hm h i l =
-      let g = h i l in
+  few-states : (m : ℕ) (ns : List Mach) → m ≤ length rs → ((r : ℕ) → r < m → T (used r) → GoodAt r (getD ns r noMach))
+      → (i : ℕ) → i < m → ReachedRecord rs i → statesAt 2 n rs i ≤ c
+  few-states m ns hm h i l u =
+      let g = h i l ((used-iff i) .1 u) in
       omega (arith, states-any 2 n rs acc i (omega arith) (machOf (getD ns i noMach)) (g .machine) (length (getD ns i noMach .codes)) (g .full))
 
-  -- one record more
-  next-linked : (m : ℕ) → suc m ≤ length rs → (ns : List Mach) → Linked m (built ns) → Linked (suc m) (after (shapeOf n c) m (getD xs m noDecoded) (built ns))
-  unfolding Linked after
-  next-linked m hm ns h = go (machineOf (shapeOf n c) x (getD ns (x .first) noMach) (getD ns (x .second) noMach)) (makes m hm ns (h .1))
-    where
-      x : Decoded
-      x = getD xs m noDecoded
+  module _ (m : ℕ) (hm : suc m ≤ length rs) (ns : List Mach) (h : Linked m (built ns)) where
+    -- one record more, with this machine
+    longer : (mach : Mach) → (T (used m) → GoodAt m mach) → Linked (suc m) (built (ns ++ (mach ∷ [])))
+    unfolding Linked
+    longer mach w =
+        let e = h .0 in
+        let d = length-append ns (mach ∷ []) in (
+          d ∙ omega arith,
+          λ r l. getD-snoc (λ (j : ℕ) (x : Mach). T (used j) → GoodAt j x) noMach ns mach (λ j q. h .1 j (omega arith)) (rw e w) r (omega arith),
+        )
 
-      go : (o : Option Mach) → Makes n c (formulaAt rs m) o → Linked (suc m) (more m ns o)
-      go none w =
-          let z = w .reached in
-          let long = z .2 in (
-            hm,
-            over-index 2 n rs acc m hm (w .large) (w .machine) c (suc c) (λ i. getD (z .0) i 0) (λ i l. z .1 .all i (omega arith))
-                (λ i j p l q. omega (arith, z .1 .distinct i j (omega arith) (omega arith) q)) (omega arith),
-            few-states m ns (omega arith) (h .1),
-          )
-      go (some mach) w =
-          let e = h .0 in
-          let d = length-append ns (mach ∷ []) in (
-            d ∙ omega arith,
-            λ r l. getD-snoc GoodAt noMach ns mach (λ j q. h .1 j (omega arith)) (rw e w) r (omega arith),
-          )
+    -- a record that is reached
+    next-linked : T (used m) → Linked (suc m) (after (shapeOf n c) m (getD xs m noDecoded) (built ns))
+    unfolding Linked after
+    next-linked here = go (machineOf (shapeOf n c) x (getD ns (x .first) noMach) (getD ns (x .second) noMach)) (makes m hm ns parts)
+      where
+        x : Decoded
+        x = getD xs m noDecoded
 
-  -- THE BUILDER: its outcome is the machines of the records, or the first record with more than c states
-  pub linked : (m : ℕ) → m ≤ length rs → Linked m (upto xs (shapeOf n c) m)
-  unfolding Linked upto after
-  linked zero h = (refl, λ r l. absurd (not-suc-le-zero l))
-  linked (suc m) h = go (upto xs (shapeOf n c) m) (linked m (omega arith))
+        -- what it names is reached, and comes before it
+        parts : (j : ℕ) → T (elem j (namesIn rs m)) → GoodAt j (getD ns j noMach)
+        parts j e = h .1 j (rule-earlier 2 n rs (acc .1) m hm j e) ((used-iff j) .1 (named m j ((used-iff m) .0 here) e))
+
+        go : (o : Option Mach) → Makes n c (formulaAt rs m) o → Linked (suc m) (more m ns o)
+        go none w =
+            let z = w .reached in
+            let long = z .2 in (
+              (used-iff m) .0 here,
+              over-index 2 n rs acc m hm (w .large) (w .machine) c (suc c) (λ i. getD (z .0) i 0) (λ i l. z .1 .all i (omega arith))
+                  (λ i j p l q. omega (arith, z .1 .distinct i j (omega arith) (omega arith) q)) (omega arith),
+              few-states m ns (omega arith) (h .1),
+            )
+        go (some mach) w = longer mach (λ u. w)
+
+    -- a leftover
+    passed-linked : (T (used m) → ⊥) → Linked (suc m) (passed (built ns))
+    unfolding passed
+    passed-linked bare = longer noMach (λ u. absurd (bare u))
+
+  -- THE BUILDER: its outcome is the machines of the records that are reached, or the first of them with more than c states
+  pub linked : (m : ℕ) → m ≤ length rs → Linked m (upto xs used (shapeOf n c) m)
+  unfolding Linked upto after passed
+  linked zero h = (refl, λ r l u. absurd (not-suc-le-zero l))
+  linked (suc m) h = go (upto xs used (shapeOf n c) m) (linked m (omega arith)) (used m) refl
     where
-      go : (o : Outcome) → Linked m o → Linked (suc m) (after (shapeOf n c) m (getD xs m noDecoded) o)
-      go (over k) w = w
-      go (built ns) w = next-linked m h ns w
+      go : (o : Outcome) → Linked m o → (v : Bool) → used m ≡ v
+          → Linked (suc m) (cond v (after (shapeOf n c) m (getD xs m noDecoded) o) (passed o))
+      go (over k) w true e = w
+      go (over k) w false e = w
+      go (built ns) w true e = next-linked m h ns w (subst T (sym e) tt)
+      go (built ns) w false e = passed-linked m h ns w (λ u. subst T e u)
 
   -- and so decide's and judge's answers come from it: from a record with too many states
-  first-over : (r : ℕ) → upto xs (shapeOf n c) (length rs) ≡ over r → FirstOver 2 n rs c r
+  first-over : (r : ℕ) → upto xs used (shapeOf n c) (length rs) ≡ over r → FirstOver 2 n rs c r
   unfolding Linked
   first-over r e = subst (Linked (length rs)) e (linked (length rs) (omega arith))
 
-  pub decide-over : (P r : ℕ) → upto xs (shapeOf n c) (length rs) ≡ over r → decideOf 2 n rs c P ≡ refused14 r
+  pub decide-over : (P r : ℕ) → upto xs used (shapeOf n c) (length rs) ≡ over r → decideOf 2 n rs c P ≡ refused14 r
   decide-over P r e = ((decide-answers 2 n rs c P acc) .refused-is r) .1 (first-over r e)
 
-  pub judge-over : (t : Tree 2) (r : ℕ) → upto xs (shapeOf n c) (length rs) ≡ over r → judgeOf n rs c t ≡ unbuilt r
+  pub judge-over : (t : Tree 2) (r : ℕ) → upto xs used (shapeOf n c) (length rs) ≡ over r → judgeOf n rs c t ≡ unbuilt r
   judge-over t r e = ((judge-judges 2 n rs c 0 acc t) .unbuilt-is r) .1 (first-over r e)
 
   -- or from the last record's machine
-  module _ (ms : List Mach) (e : upto xs (shapeOf n c) (length rs) ≡ built ms) where
+  module _ (ms : List Mach) (e : upto xs used (shapeOf n c) (length rs) ≡ built ms) where
     abbrev m : Mach
     m = getD ms (lastOf rs) noMach
 
-    all-good : (r : ℕ) → r < length rs → GoodAt r (getD ms r noMach)
+    all-good : (r : ℕ) → r < length rs → T (used r) → GoodAt r (getD ms r noMach)
     unfolding Linked
     all-good = subst (Linked (length rs)) e (linked (length rs) (omega arith)) .1
 
     last-good : GoodAt (lastOf rs) m
-    last-good = all-good (lastOf rs) (omega (arith, acc .0))
+    last-good = all-good (lastOf rs) (omega (arith, acc .0)) ((used-iff (lastOf rs)) .1 itself)
 
     roomy : Roomy 2 n rs c
-    roomy = few-states (length rs) ms (omega arith) all-good
+    roomy r u = few-states (length rs) ms (omega arith) all-good r (reached-within 2 n rs acc r u) u
 
     pub bounded-built : Bounded n (length (m .codes)) (machOf m)
     bounded-built = last-good .full .0

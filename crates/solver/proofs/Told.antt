@@ -4,7 +4,7 @@ use mathlib.Core.Path.{_≡_}
 use Rattle.logic.specs.Tree.{Tree, positions}
 use Rattle.logic.specs.Claims.{refused14, shown, none, larger}
 use Rattle.logic.specs.Decide.{report}
-use Rattle.records.specs.declared.Ending.the-variants.{Over, Ready}
+use Rattle.building.specs.declared.Ending.the-variants.{Over, Ready}
 use Rattle.search.specs.Rounds.{answerBy}
 use Rattle.tree_strip.specs.Ranks.{treeOfRank}
 use Rattle.search.specs.declared.Finding.the-variants.{None, Larger, Shown}

@@ -11,10 +11,11 @@ use Rattle.logic.specs.Claims.{Outcome, refused14, shown, Judgement, unbuilt}
 use Rattle.logic.specs.Decide.{report, decideOf, say, judgeOf}
 use Rattle.layout.specs.Shape.{Shaped, shareAt}
 use Rattle.layout.specs.declared.Shape.{Shape}
-use Rattle.records.specs.Rule.{Buildable, noDecoded}
+use Rattle.records.specs.Rule.{noDecoded}
 use Rattle.records.specs.declared.Decoded.{Decoded}
-use Rattle.records.specs.declared.Ending.{Ending}
-use Rattle.records.specs.declared.Ending.the-variants.{Over, Ready}
+use Rattle.building.specs.Build.{Buildable}
+use Rattle.building.specs.declared.Ending.{Ending}
+use Rattle.building.specs.declared.Ending.the-variants.{Over, Ready}
 use Rattle.search.specs.Rounds.{answerOf}
 use Rattle.search.specs.declared.Found.{Found}
 use Rattle.tree_strip.specs.Ranks.{Backs}

@@ -5,9 +5,9 @@ ghost use lib.ListN.{length, drop};
 ghost use Rattle.layout.specs.Shape.{shareAt};
 ghost use Rattle.reading.specs.Reading.{HasTree};
 ghost use Rattle.solver.specs.Solve.{Solvable, Solved, Judged};
+use building::Ending;
 use layout::Shape;
 use records::Decoded;
-use records::Ending;
 use records::Summary;
 use search::Finding;
 use search::Found;
@@ -26,7 +26,7 @@ pub fn solve(ws: &mut [u8], records: [Decoded; 128], m: usize, s: Shape, p: u64)
     ensures { λ r. ⌜ Solved records m s p r ⌝ }
     ensures { λ r. ⌜ drop (shareAt s m) (now (ws .exit)) ≡ drop (shareAt s m) (now (ws .entry)) ⌝ }
 {
-    let t = records::build_all(ws, records, m, s);
+    let t = building::build_all(ws, records, m, s);
     let last = m - 1;
     let ending = t.ending;
     match ending {
@@ -75,7 +75,7 @@ pub fn judge(ws: &mut [u8], records: [Decoded; 128], m: usize, s: Shape, tree: &
     ensures { λ r. ⌜ Judged records m s (now (tree .entry)) r ⌝ }
     ensures { λ r. ⌜ drop (shareAt s m) (now (ws .exit)) ≡ drop (shareAt s m) (now (ws .entry)) ⌝ }
 {
-    let t = records::build_all(ws, records, m, s);
+    let t = building::build_all(ws, records, m, s);
     let last = m - 1;
     let ending = t.ending;
     match ending {

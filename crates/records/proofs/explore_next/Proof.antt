@@ -4,7 +4,7 @@ use Rattle.records.specs.Rule.{planOf}
 use Rattle.table.specs.Succ.{succIn, startOf}
 use Rattle.exploring.specs.Filling.{Explored}
 use Rattle.table.specs.declared.plan.Plan.{Plan}
-use Rattle.records.proofs.Nexts.{looks-byte}
+use Rattle.records.proofs.Looks.{looks-byte}
 use Rattle.records.proofs.Shares.{power-pos, room-of, led-of, added-many, added-few, explored-spared}
 use Rattle.layout.proofs.Places.{id-length}
 use Rattle.records.proofs.explore_next.Statement.{statement}

@@ -39,7 +39,7 @@ returns-2 c =
 pub solve-spec : {M : Type 1} → statement M
 solve-spec =
     tie.close
-    (tie.spec (λ c κs. let w = c .before .before .pre .0 in (w .few, w .buildable)) (λ c. search needs) (λ c. search needs)
+    (tie.spec (λ c κs. let w = c .before .before .pre .0 in ((w .some, w .few), w .buildable)) (λ c. search needs) (λ c. search needs)
     (λ c. search needs) (λ c. search needs)
     (λ c. search needs) (λ c. search needs) (λ c. search needs) earliest-requires (λ c. search needs) (λ c. search needs) returns (λ c. search needs)
     returns-2)

@@ -1,0 +1,35 @@
+-- `build_all` meets its contract: the marks are those of the records that are reached. Assumes nothing.
+use Rattle.words.proofs.Vocabulary.{ℕ, _<_, needs, getD, arith}
+use Rattle.records.specs.Rule.{noDecoded}
+use Rattle.building.specs.Named.{usedIn, InOrder, marked}
+use Rattle.building.proofs.Marks.{used-closed}
+use Rattle.building.proofs.Nexts.{made-cong}
+use Rattle.building.proofs.build_all.Statement.{statement}
+use Rattle.building.proofs.build_all.Tie as tie
+
+-- the records name earlier ones
+in-order : (c : tie.Start) (r : ℕ) → r < c .args .m → InOrder (getD (c .args .records) r noDecoded) r
+in-order c r h =
+    let b = c .pre .1 r h in record { first-kept = b .first-kept; second-kept = b .second-kept; before = b .fits .before }
+
+build-marked-requires : tie.Need-build-marked-requires
+build-marked-requires c κs =
+    let s = c .before .before .before .before in
+    let a = s .args in
+    let v = c .before .before .reached in
+    (s .pre .0 .1, (s .pre .1, (v .ensures .end, used-closed (a .records) (a .m) (s .pre .0 .1) (in-order s) (v .result) (v .ensures))))
+
+returns : tie.Need-returns
+returns c =
+    let s = c .before .before .before .before .before .before .before in
+    let a = s .args in
+    let m = c .before .before .before .before .before .reached .result in
+    let v = c .before .before .build-marked in (
+      made-cong (a .records) (marked m) (usedIn (a .records) (a .m)) (a .s) (a .m) (v .result) (v .last .0)
+          (c .before .before .before .before .before .reached .ensures .below) (v .ensures .0),
+      v .ensures .1,
+    )
+
+pub build-all-spec : {M : Type 1} → statement M
+build-all-spec =
+    tie.close (tie.spec (λ c κs. let a = c .before .pre .0 in ((omega arith, omega arith), λ r h. in-order (c .before) r (omega arith))) build-marked-requires (λ c. search needs) returns)

@@ -1,0 +1,157 @@
+// The machines of a rule's records, those that are reached from the last one, in strip order.
+ghost use mathlib.Core.Path.{_≡_};
+ghost use mathlib.Core.Bool.{true};
+ghost use Prim.Native.Nat.{ℕ, _-_, _≤_, _<_};
+ghost use lib.ListN.{length, getD, drop};
+ghost use Rattle.layout.specs.Shape.{shareAt};
+ghost use Rattle.records.specs.Rule.{noDecoded};
+ghost use Rattle.building.specs.Named.{namesOf, usedIn, InOrder, marked, Marks, Closed, marking, nextOf};
+ghost use Rattle.building.specs.Build.{Buildable, MadeBy};
+use layout::Shape;
+use records::Decoded;
+use records::Summary;
+use records::build_next;
+use table::plan::Kind;
+
+// A mark for each record that x names.
+fn mark_named(marks: &mut [bool; 129], x: Decoded)
+    requires { ⌜ (x .first < 128) × (x .second < 128) ⌝ }
+    ensures { λ u. ⌜ now (marks .exit) ≡ marking (namesOf x) (now (marks .entry)) ⌝ }
+{
+    let a = x.first as usize;
+    let b = x.second as usize;
+    let kind = x.kind;
+    match kind {
+        Kind::Not => {
+            marks[a] = true;
+        }
+        Kind::Or => {
+            marks[a] = true;
+            marks[b] = true;
+        }
+        Kind::And => {
+            marks[a] = true;
+            marks[b] = true;
+        }
+        Kind::Exists => {
+            marks[a] = true;
+        }
+        _ => {}
+    }
+}
+
+// Which of the first m records are reached from the last of them. Whoever names a record comes after it, so one pass from the last down is
+// enough.
+pub fn reached(records: [Decoded; 128], m: usize) -> [bool; 129]
+    requires { ⌜ (0 < m) × (m ≤ 128) ⌝ }
+    requires { ⌜ ((r : ℕ) → r < m → InOrder (getD records r noDecoded) r) ⌝ }
+    ensures { λ marks. ⌜ Marks (usedIn records m) m marks ⌝ }
+{
+    let mut marks = [false; 129];
+    marks[m - 1] = true;
+    let mut r = m;
+    while 0 < r {
+        r -= 1;
+        if marks[r] {
+            mark_named(&mut marks, records[r]);
+        }
+    }
+    marks[m] = true;
+    marks
+}
+
+// The first record from number r on, of m, that has a mark; m if there is none. The mark behind the last record spares a test of the end.
+pub fn next_marked(marks: &[bool; 129], r: usize, m: usize) -> usize
+    requires { ⌜ (r ≤ m) × (m ≤ 128) × (marked (now marks) m ≡ true) ⌝ }
+    ensures { λ n. ⌜ n ≡ nextOf (marked (now (marks .entry))) r (m - r) ⌝ }
+{
+    let mut i = r;
+    while !marks[i] {
+        i += 1;
+    }
+    i
+}
+
+// How building ended: at the first record with too many states, by its number, or with every machine ready.
+pub enum Ending {
+    Over(usize),
+    Ready,
+}
+
+// What is kept of the machines: for each record its number of states, the set of its accepting states and the bits of the labels that it
+// looks at; and how building ended. Bytes are less to set and to copy than words.
+pub struct Machines {
+    pub counts: [u8; 128],
+    pub accepts: [u64; 128],
+    pub looks: [u8; 128],
+    pub ending: Ending,
+}
+
+// What is kept of record a's machine.
+fn kept(counts: &[u8; 128], accepts: &[u64; 128], looks: &[u8; 128], a: usize) -> Summary
+    requires { ⌜ a < 128 ⌝ }
+    ensures { λ k. ⌜ k ≡ record { count = getD (now (counts .entry)) a 0; accept = getD (now (accepts .entry)) a 0; looks = getD (now (looks .entry)) a 0 } ⌝ }
+{
+    Summary {
+        count: counts[a],
+        accept: accepts[a],
+        looks: looks[a],
+    }
+}
+
+// The machines of the marked records, of the first m; whatever a marked one names has a mark. The arrays are written in place: a copy for
+// each record takes longer than a small machine.
+pub fn build_marked(
+    ws: &mut [u8],
+    records: [Decoded; 128],
+    marks: &[bool; 129],
+    m: usize,
+    s: Shape,
+) -> Machines
+    requires { ⌜ m ≤ 128 ⌝ }
+    requires { ⌜ ((r : ℕ) → r < m → Buildable (getD records r noDecoded) r s (length (now ws))) ⌝ }
+    requires { ⌜ (marked (now marks) m ≡ true) × Closed records (now marks) m ⌝ }
+    ensures { λ t. ⌜ MadeBy (marked (now (marks .entry))) records s m t (now (ws .exit)) ⌝ }
+    ensures { λ t. ⌜ drop (shareAt s m) (now (ws .exit)) ≡ drop (shareAt s m) (now (ws .entry)) ⌝ }
+{
+    let c = s.ceiling;
+    let mut counts = [0u8; 128];
+    let mut accepts = [0u64; 128];
+    let mut looks = [0u8; 128];
+    let mut r = next_marked(marks, 0, m);
+    while r < m {
+        let x = records[r];
+        let f = kept(&counts, &accepts, &looks, x.first as usize);
+        let g = kept(&counts, &accepts, &looks, x.second as usize);
+        let k = build_next(ws, x, f, g, r, s);
+        if c < k.count as usize {
+            return Machines {
+                counts,
+                accepts,
+                looks,
+                ending: Ending::Over(r),
+            };
+        }
+        counts[r] = k.count;
+        accepts[r] = k.accept;
+        looks[r] = k.looks;
+        r = next_marked(marks, r + 1, m);
+    }
+    Machines {
+        counts,
+        accepts,
+        looks,
+        ending: Ending::Ready,
+    }
+}
+
+// The machines of the records that are reached from the last of the first m.
+pub fn build_all(ws: &mut [u8], records: [Decoded; 128], m: usize, s: Shape) -> Machines
+    requires { ⌜ (0 < m) × (m ≤ 128) ⌝ }
+    requires { ⌜ ((r : ℕ) → r < m → Buildable (getD records r noDecoded) r s (length (now ws))) ⌝ }
+    ensures { λ t. ⌜ MadeBy (usedIn records m) records s m t (now (ws .exit)) ⌝ }
+    ensures { λ t. ⌜ drop (shareAt s m) (now (ws .exit)) ≡ drop (shareAt s m) (now (ws .entry)) ⌝ }
+{
+    let marks = reached(records, m);
+    build_marked(ws, records, &marks, m, s)
+}
