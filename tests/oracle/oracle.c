@@ -44,6 +44,16 @@ static bool names_variable_second(unsigned op)
     return op == SUBSET || op == FIRST || op == SECOND;
 }
 
+static bool names_record_first(unsigned op)
+{
+    return op == NOT || op == OR || op == AND;
+}
+
+static bool names_record_second(unsigned op)
+{
+    return op == OR || op == AND || op == EXISTS;
+}
+
 /* A refusal, 0 for none, and the bit that it is told of. */
 struct fault {
     unsigned refusal;
@@ -74,7 +84,7 @@ static size_t first_set(const uint8_t *strip, size_t from, size_t to)
 /* The record starts at bit "at". */
 static struct fault refuse_record(const struct record *r, unsigned number, unsigned variables, size_t at)
 {
-    bool unary = r->op == SING || r->op == ROOT || r->op == NOT;
+    bool unary = !names_variable_second(r->op) && !names_record_second(r->op);
     size_t first = at + 4, second = at + 11;
     if (r->op >= OPS)
         return fault_at(7, at);
@@ -82,9 +92,9 @@ static struct fault refuse_record(const struct record *r, unsigned number, unsig
         return fault_at(8, first);
     if (names_variable_second(r->op) && r->second >= variables)
         return fault_at(8, second);
-    if (!names_variable_first(r->op) && r->first >= number)
+    if (names_record_first(r->op) && r->first >= number)
         return fault_at(9, first);
-    if (!names_variable_second(r->op) && !unary && r->second >= number)
+    if (names_record_second(r->op) && r->second >= number)
         return fault_at(9, second);
     if (unary && r->second != 0)
         return fault_at(10, second);
@@ -132,7 +142,8 @@ struct machine {
     uint64_t accepting;
 };
 
-/* What one call builds: the records' machines side by side in the workspace. */
+/* What one call builds: the machines of reached records in the workspace, each in
+ * its record's share of it. */
 struct build {
     struct rule rule;
     unsigned c, labels;
@@ -325,13 +336,31 @@ static bool explore(const struct build *b, const struct record *r, struct machin
     return true;
 }
 
-/* Builds all records in strip order; the number of the first with more than c
- * states, or the number of records if none has. */
-static unsigned build_all(struct build *b, uint8_t *workspace)
+/* Marks a record and all that it stands on. Each is gone into once, and names
+ * earlier ones alone, so this goes no deeper than there are records. */
+static void reach(const struct rule *rule, unsigned number, bool *reached)
 {
+    const struct record *r = &rule->record[number];
+    if (reached[number])
+        return;
+    reached[number] = true;
+    if (names_record_first(r->op))
+        reach(rule, r->first, reached);
+    if (names_record_second(r->op))
+        reach(rule, r->second, reached);
+}
+
+/* Builds the records reached from the last one, in strip order; the number of the
+ * first with more than c states, or the number of records if none has. */
+static unsigned build_reached(struct build *b, uint8_t *workspace)
+{
+    bool reached[MOST_RECORDS] = { false };
+    reach(&b->rule, b->rule.records - 1, reached);
     for (unsigned i = 0; i < b->rule.records; i++) {
         const struct record *r = &b->rule.record[i];
         struct machine *m = &b->machine[i];
+        if (!reached[i])
+            continue;
         m->table = workspace + i * b->share;
         if (r->op == NOT) {
             const struct machine *part = &b->machine[r->first];
@@ -549,7 +578,7 @@ ws2s_judgement oracle_judge(const uint8_t *rule, size_t rule_len, uint64_t c,
         return refuse_to_judge((unsigned)checked.refusal, checked.place);
     if (checked.variables != b.rule.variables)
         return refuse_to_judge(22, 0);
-    unsigned over = build_all(&b, workspace);
+    unsigned over = build_reached(&b, workspace);
     ws2s_judgement answer = { .kind = REFUSED, .refusal = 14, .record = over };
     if (over == b.rule.records) {
         const struct machine *last = &b.machine[b.rule.records - 1];
@@ -581,7 +610,7 @@ ws2s_verdict oracle_decide(const uint8_t *rule, size_t rule_len, uint64_t c, uin
         return refuse_to_decide(12, 0);
     if (out_len < (8 + p * (b.rule.variables + 1) + p + 1 + 7) / 8)
         return refuse_to_decide(13, 0);
-    unsigned over = build_all(&b, workspace);
+    unsigned over = build_reached(&b, workspace);
     ws2s_verdict answer = { .kind = REFUSED, .refusal = 14, .record = over };
     if (over == b.rule.records) {
         const struct machine *last = &b.machine[b.rule.records - 1];
