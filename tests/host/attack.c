@@ -3,16 +3,18 @@
  *     attack [SEED [CALLS]]
  *
  * Strips are made from valid records and trees or from bytes, and damaged, cut
- * and extended; ceilings are in and out of range; buffers fit, are a byte short,
- * have room to spare or are not there. Both get the same buffers, with the same
- * bytes in and around them; their results and all these bytes must agree after
- * the call, and whatever is shown must check, be walked with a stack of as many
- * bytes as states are told, and be judged as satisfying the rule. One call in three
- * is of a text (typed.h); strips that were imported must check, and are decided and
- * judged at times. The same seed makes the same requests. Differences are printed as
- * vector lines; the status is then 1. How often each answer came is printed too, and
- * at how many places a strip or text was refused; of many calls none of them may be
- * missing, nor may texts be accepted seldom, or none that reaches a limit. */
+ * and extended; rules at times get records that the last one does not reach;
+ * ceilings are in and out of range; buffers fit, are a byte short, have room to
+ * spare or are not there. Both get the same buffers, with the same bytes in and
+ * around them; their results and all these bytes must agree after the call, and
+ * whatever is shown must check, be walked with a stack of as many bytes as states
+ * are told, and be judged as satisfying the rule. One call in three is of a text
+ * (typed.h); strips that were imported must check, and are decided and judged at
+ * times. The same seed makes the same requests. Differences are printed as vector
+ * lines; the status is then 1. How often each answer came is printed too, and at how
+ * many places a strip or text was refused; of many calls none of them may be missing,
+ * nor may texts be accepted seldom, or none that reaches a limit, nor may records of
+ * more than c states be missing that the last one does not reach. */
 #define _DEFAULT_SOURCE
 #include "chance.h"
 #include "lent.h"
@@ -49,6 +51,21 @@ static bool names_second_variable(unsigned op)
     return op == 0 || op == 2 || op == 3;
 }
 
+struct record {
+    unsigned op, first, second;
+};
+
+/* A valid record after so many others. */
+static struct record make_record(unsigned n, unsigned number)
+{
+    struct record r = { .op = number == 0 || below(100) < 35 ? below(5) : 5 + below(4) };
+    if (r.op == 5 && once_in(2))
+        r.op = 6 + below(3);
+    r.first = r.op <= 4 || r.op == 8 ? below(n) : some_record(number);
+    r.second = names_second_variable(r.op) ? below(n) : r.op >= 6 ? some_record(number) : 0;
+    return r;
+}
+
 /* A rule strip of valid records; at times one record has fields of any kind. */
 static void make_rule(struct strip *s)
 {
@@ -57,20 +74,16 @@ static void make_rule(struct strip *s)
     unsigned odd = once_in(8) ? below(m) : m;
     put_heading(s, &at, n, m);
     for (unsigned i = 0; i < m; i++) {
-        unsigned op = i == 0 || below(100) < 35 ? below(5) : 5 + below(4);
-        if (op == 5 && once_in(2))
-            op = 6 + below(3);
-        unsigned first = op <= 4 || op == 8 ? below(n) : some_record(i);
-        unsigned second = names_second_variable(op) ? below(n) : op >= 6 ? some_record(i) : 0;
+        struct record r = make_record(n, i);
         if (i == odd) {
             if (once_in(3))
-                op = below(16);
+                r.op = below(16);
             if (once_in(2))
-                first = once_in(2) ? below(128) : below(2 * n + 1);
+                r.first = once_in(2) ? below(128) : below(2 * n + 1);
             if (once_in(2))
-                second = once_in(2) ? below(128) : i + below(2);
+                r.second = once_in(2) ? below(128) : i + below(2);
         }
-        put_record(s, &at, op, first, second);
+        put_record(s, &at, r.op, r.first, r.second);
     }
 }
 
@@ -94,6 +107,59 @@ static void make_broad_rule(struct strip *s)
             put_record(s, &at, 5, i - 1, 0);
         else
             put_record(s, &at, 8, below(n), i - 1);
+}
+
+/* Rule strips that were accepted have their n and m at the front. */
+static unsigned variables(const struct strip *s)
+{
+    return s->byte[0] & 15;
+}
+
+static unsigned records(const struct strip *s)
+{
+    return s->byte[1];
+}
+
+static size_t record_at(unsigned number)
+{
+    return 16 + 18 * (size_t)number;
+}
+
+static unsigned bits_at(const struct strip *s, size_t at, unsigned bits)
+{
+    unsigned value = 0;
+    for (; bits; bits--, at++)
+        value = value << 1 | (s->byte[at / 8] >> (7 - at % 8) & 1u);
+    return value;
+}
+
+/* Puts records that the last one does not reach among those of an accepted rule
+ * strip: valid ones, that name any before them. */
+static void add_leftovers(struct strip *s)
+{
+    struct strip old = *s;
+    size_t at;
+    unsigned n = variables(&old), m = records(&old), room = 128 - m, number_of[128];
+    unsigned more = once_in(20) ? room : 1 + below(6);
+    if (more > room)
+        more = room;
+    put_heading(s, &at, n, m + more);
+    for (unsigned i = 0, number = 0; i < m; number++) {
+        struct record r;
+        if (more && below(more + m - 1 - i) < more) {
+            r = make_record(n, number);
+            more--;
+        } else {
+            r = (struct record){ bits_at(&old, record_at(i), 4), bits_at(&old, record_at(i) + 4, 7),
+                                 bits_at(&old, record_at(i) + 11, 7) };
+            if (r.op >= 5 && r.op <= 7)
+                r.first = number_of[r.first];
+            if (r.op >= 6)
+                r.second = number_of[r.second];
+            number_of[i++] = number;
+        }
+        put_record(s, &at, r.op, r.first, r.second);
+    }
 }
 
 /* How many node bits a tree has so far, and where the one too many stands. */
@@ -205,15 +271,9 @@ static struct {
 /* The last rule that was imported. */
 static struct strip imported;
 
-/* Rule strips that were accepted have their n and m at the front. */
-static unsigned variables(const struct strip *s)
-{
-    return s->byte[0] & 15;
-}
-
 static size_t space_asked(const struct strip *rule, uint64_t c)
 {
-    return ((size_t)rule->byte[1] << variables(rule)) * c * c;
+    return ((size_t)records(rule) << variables(rule)) * c * c;
 }
 
 static uint64_t huge(uint64_t small)
@@ -302,6 +362,8 @@ static void make_request(struct request *r)
         make_broad_rule(&r->rule);
     else
         make_rule(&r->rule);
+    if (once_in(3) && oracle_check_rule(r->rule.byte, r->rule.length).refusal == 0)
+        add_leftovers(&r->rule);
     if (once_in(12))
         damage(&r->rule);
     bool accepted = oracle_check_rule(r->rule.byte, r->rule.length).refusal == 0;
@@ -526,12 +588,61 @@ static void count_text(const struct request *r, const ws2s_written *w)
     most_levels += r->text.levels == LEVELS;
     most_variables += w->variables == TRACKS;
     most_records += w->records == RECORDS;
-    for (uint64_t i = 0; i < w->records; i++) {
-        size_t at = 16 + 18 * i; /* the op, in one byte or two */
-        unsigned op = (unsigned)(imported.byte[at / 8] << 8 | imported.byte[at / 8 + 1]) >> (12 - at % 8) & 15;
+    for (unsigned i = 0; i < w->records; i++) {
+        unsigned op = bits_at(&imported, record_at(i), 4);
         if (op < 9)
             ops[op]++;
     }
+}
+
+/* Rules with records of more than c states: how often a record left over had more
+ * and the rule was answered; how often one did before the record that 14 named; how
+ * often a later record that is reached did, and the first was named. */
+static struct {
+    unsigned long answered, passed_over, first_named;
+} over[KINDS];
+
+/* Whether a rule is refused for more than the request's c states, and for which record. */
+static bool is_over(const struct request *r, const struct strip *rule, uint64_t *record)
+{
+    const uint8_t tree[] = { rule->byte[0], 0 }; /* the empty one */
+    ws2s_judgement j = oracle_judge(rule->byte, rule->length, r->c, theirs.workspace.at, r->workspace, tree, sizeof tree);
+    *record = j.record;
+    return j.refusal == 14;
+}
+
+/* The same for the rule that ends with this record. */
+static bool is_over_at(const struct request *r, unsigned last, uint64_t *record)
+{
+    struct strip front = r->rule;
+    size_t end = record_at(last + 1);
+    front.byte[1] = (uint8_t)(last + 1);
+    front.length = (end + 7) / 8;
+    if (end % 8)
+        front.byte[end / 8] &= (uint8_t)(0xFF00 >> end % 8);
+    return is_over(r, &front, record);
+}
+
+static void count_over(const struct request *r, const union result *o)
+{
+    uint64_t other, again;
+    bool left_over = false;
+    if ((r->kind != DECIDE && r->kind != JUDGE) || (o->field[1] && o->field[1] != 14))
+        return;
+    /* none that is reached has more if there is an answer, nor before the one named */
+    bool answered = o->field[1] == 0;
+    unsigned named = (unsigned)o->field[2], end = answered ? records(&r->rule) : named;
+    for (unsigned i = 0; i < end && !left_over; i++)
+        left_over = is_over_at(r, i, &other);
+    over[r->kind].answered += answered && left_over;
+    over[r->kind].passed_over += !answered && left_over;
+    if (answered)
+        return;
+    struct strip without = r->rule; /* for the one named, X0 subset X0, whose bits are all 0 */
+    for (size_t at = record_at(named); at < record_at(named + 1); at++)
+        without.byte[at / 8] &= (uint8_t)~(0x80u >> at % 8);
+    if (is_over(r, &without, &other) && is_over_at(r, (unsigned)other, &again))
+        over[r->kind].first_named += again == other;
 }
 
 static void count_answer(const struct request *r, const union result *o)
@@ -576,6 +687,9 @@ static void say_answers(void)
     for (int op = 0; op < 9; op++)
         printf(" %lu", ops[op]);
     printf("\n");
+    for (int kind = DECIDE; kind <= JUDGE; kind++)
+        printf("%s with records of more than c states: %lu answered, as they are left over, %lu refused after such, %lu refused for the first of several reached\n",
+               operations[kind], over[kind].answered, over[kind].passed_over, over[kind].first_named);
 }
 
 /* Whether an operation can give a refusal. */
@@ -613,6 +727,11 @@ static bool all_met(void)
     if (!most_levels || !most_variables || !most_records || !level_too_many || !all)
         printf("a limit, a refusal or an op was not met\n");
     all = all && most_levels && most_variables && most_records && level_too_many;
+    for (int kind = DECIDE; kind <= JUDGE; kind++)
+        if (!over[kind].answered || !over[kind].passed_over || !over[kind].first_named) {
+            printf("%s met no records of more than c states left over, or no several reached\n", operations[kind]);
+            all = false;
+        }
     for (int kind = IMPORT; kind <= TEXT_FAULT; kind++) {
         unsigned long asked = 0;
         for (int i = 0; i < 3 + REFUSALS; i++)
@@ -652,6 +771,7 @@ int main(int argc, char **argv)
             say(&r, what, &one, &two);
         }
         count_answer(&r, &two);
+        count_over(&r, &two);
     }
     say_answers();
     if (done >= MANY_CALLS && !all_met())

@@ -368,7 +368,8 @@ static const struct {
     const char *answer; /* for trees whose labels have all their bits */
 } rules[] = {
     { 1, 0, 1, "yes" }, { 1, 0, 64, "yes" }, { 128, 0, 1, "yes" }, { 128, 0, 64, "yes" },
-    { 128, 8, 1, "yes" }, { 128, 8, 64, "yes" }, { 128, 1, 64, "no" }, { 128, 1, 1, "refused 14 1" } };
+    { 128, 7, 64, "yes" }, { 128, 8, 1, "yes" }, { 128, 8, 64, "yes" }, { 128, 1, 64, "no" },
+    { 128, 1, 1, "refused 14 127" } };
 enum { RULES = sizeof rules / sizeof rules[0] };
 
 static void try_trees(unsigned n)
