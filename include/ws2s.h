@@ -6,7 +6,9 @@
  *
  *   rule strip  version (4 bits, 1), n (4 bits, 1 to 8), m (8 bits, 1 to 128),
  *               then m records of op (4), first field (7), second field (7).
- *               The last record is the rule.
+ *               The last record is the rule. Records that it does not reach, by
+ *               itself or through others, are left over: they count for lengths,
+ *               numbers and the workspace, and nothing is built of them.
  *   tree strip  version (4 bits, 1), n (4 bits, 1 to 8), then the tree: bit 0
  *               for an empty tree; for a node bit 1, its n-bit label (variable
  *               0 first), its first branch, its second branch.
@@ -72,7 +74,7 @@
 extern "C" {
 #endif
 
-#define WS2S_VERSION "2.2.0"
+#define WS2S_VERSION "2.3.0"
 
 /* Limits. Buffers of these sizes serve every rule and every tree. */
 #define WS2S_MAX_VARIABLES 8
@@ -122,8 +124,9 @@ enum {
     WS2S_REFUSED_CEILING = 11,         /* c not 1 to 64, or P above 255 */
     WS2S_REFUSED_WORKSPACE = 12,       /* workspace shorter than ws2s_workspace_size */
     WS2S_REFUSED_OUT = 13,             /* out buffer shorter than ws2s_out_size */
-    WS2S_REFUSED_STATES = 14,          /* a record's machine has more than c states; "record" is
-                                          its number, the lowest if there are several */
+    WS2S_REFUSED_STATES = 14,          /* a record that the last one reaches, or that one itself, has
+                                          more than c states; "record" is its number, the lowest if
+                                          there are several */
     WS2S_REFUSED_TREE_SHORT = 15,      /* tree strip of no bytes [the bit length] */
     WS2S_REFUSED_TREE_VERSION = 16,    /* tree strip of a version other than 1 [0] */
     WS2S_REFUSED_TREE_VARIABLES = 17,  /* tree strip with n not 1 to 8 [4] */
