@@ -1,8 +1,8 @@
 -- The machines of the records that are used, one after the other: with one more, past those that are not used, and after one with too many
 -- states. Assumes nothing.
 use Rattle.words.proofs.Vocabulary.{ℕ, _≤_, _<_, _+_, _-_, suc, zero, _≡_, _∙_, refl, sym, ap, ap₂, subst, ⊎-elim, List, [], _∷_, _++_, some}
-use Rattle.words.proofs.Vocabulary.{Option, none, length, getD, set, List·getD-append, length-append, length-set}
-use Rattle.words.proofs.Vocabulary.{getD-set-other, getD-set-same, getD-append-seam, add-zero, eq-or-lt-of-le, add-suc, add-one, Bool, true, false, cond, T, arith}
+use Rattle.words.proofs.Vocabulary.{Option, none, Bool, true, false, cond, T, length, getD, set, List·getD-append, length-append, length-set}
+use Rattle.words.proofs.Vocabulary.{getD-set-other, getD-set-same, getD-append-seam, add-zero, eq-or-lt-of-le, add-suc, add-one, arith}
 use Rattle.records.specs.Rule.{Mach, noMach, machineOf, noDecoded, Fits, Stored, PartsStored, Placed, Added, Spared}
 use Rattle.layout.specs.Shape.{shareAt, placeIn}
 use Rattle.layout.specs.declared.Shape.{Shape}

@@ -43,8 +43,13 @@ front (RefusedAt number place) out = []
 front (Refused number) out = []
 front (TooManyStates number) out = []
 
--- with the longest workspace that can be asked for, and 320 bytes of out, none of them 0
+-- with the longest workspace that can be asked for, and 320 bytes of out, none of them 0; whoever unfolds it has all that decide is defined by
 unfoldable pub answer : Question → Answer
+unfolding bits anySet firstSet bitLength recordAt recordsFrom recordsOf firstUse secondUse recordFault recordsFault
+    headFault ruleFault roomRefusal earlyRefusal tell outAfter verdictOf outOf low bit downFrom allOf anyOf sumOf positions successorAt kindOf setLow
+    withBit run elem below flat select outcomes successors add closure reach position numbered wordOf members projection table codedProduct build
+    productTable projectionTable complementTable tableOf admit namesOf namedAfter mark marks isReached buildAll settled view lighter choose consider
+    loop tuples pick verdict next rounds anyBelow begin search report conclude decideOf digits pack treeBits treeStrip decLt
 answer q =
     let v = verdictOf (q .strip) (q .c) (q .P) 134217728 320 in
     record {
@@ -105,10 +110,5 @@ expected =
     ∷ []
 
 pub examples-right : map answer examples ≡ expected
-unfolding answer examples expected bits anySet firstSet bitLength recordAt recordsFrom recordsOf firstUse secondUse recordFault recordsFault
-    headFault ruleFault roomRefusal earlyRefusal tell outAfter verdictOf outOf low bit downFrom allOf anyOf sumOf positions successorAt kindOf setLow
-    withBit run elem below flat select
-    outcomes successors add closure reach position numbered wordOf members projection table codedProduct build productTable projectionTable
-    complementTable tableOf admit namesOf namedAfter mark marks isReached buildAll settled view lighter choose consider loop tuples pick verdict next rounds anyBelow begin search report
-    conclude decideOf digits pack treeBits treeStrip decLt
+unfolding answer examples expected
 examples-right = refl

@@ -3,23 +3,12 @@
 use Prim.Native.Nat.{ℕ, suc}
 use mathlib.Core.Path.{_≡_, refl}
 use mathlib.Core.List.{List, [], _∷_, map}
-use native.Mathlib.Decide.{decLt}
 use lib.ListN.{length}
 use Rattle.logic.specs.Meaning.{Place}
-use Rattle.logic.specs.Tree.{Tree, nodeAt, downFrom, sumOf, positions, low, bit}
+use Rattle.logic.specs.Tree.{Tree, nodeAt}
 use Rattle.logic.specs.Claims.{Downward}
-use Rattle.logic.specs.Rule.{successorAt}
-use Rattle.logic.specs.Machine.{setLow, withBit, run, allOf, anyOf}
-use Rattle.logic.specs.Reach.{elem, below, flat, select, outcomes, successors, add, closure, reach, position, numbered, wordOf, members, projection}
-use Rattle.logic.specs.Reached.{namesOf, namedAfter, mark, marks, isReached}
-use Rattle.logic.specs.Table.{table, codedProduct, build, productTable, projectionTable, complementTable, tableOf, admit, buildAll, kindOf}
-use Rattle.logic.specs.Search.{settled, view, lighter, choose, consider, loop, tuples, pick, verdict, next, rounds, anyBelow, begin, search}
-use Rattle.logic.specs.Decide.{report, conclude, decideOf}
-use Rattle.bits.specs.Bits.{digits, bits, anySet, firstSet, bitLength, pack}
-use Rattle.rule_strip.specs.RuleStrip.{recordAt, recordsFrom, recordsOf, firstUse, secondUse, recordFault, recordsFault, headFault, ruleFault}
-use Rattle.tree_strip.specs.TreeStrip.{treeBits, treeStrip, parsed, join, andThen, parse, endFault, ended, readTree}
-use Rattle.rules.specs.Room.{roomRefusal}
-use Rattle.decide.specs.Decide.{earlyRefusal, tell, outAfter, verdictOf, outOf}
+use Rattle.bits.specs.Bits.{digits, bits, anySet, firstSet, bitLength}
+use Rattle.tree_strip.specs.TreeStrip.{parsed, join, andThen, parse, endFault, ended, readTree}
 use Rattle.decide.specs.declared.Verdict.{Verdict}
 use Rattle.decide.specs.declared.Verdict.the-variants.{Shown}
 use Rattle.examples.proofs.Decided.{answer, with}
@@ -45,12 +34,7 @@ pub trees : List (List ℕ)
 trees = (0x11 ∷ 0x00 ∷ []) ∷ (0x12 ∷ 0xC0 ∷ []) ∷ []
 
 pub deep-told : (map (λ s. answer (with 64 255 s) .verdict) rules ≡ verdicts) × (map (λ s. answer (with 64 255 s) .tree) rules ≡ trees)
-unfolding answer rules trees verdicts bits anySet firstSet bitLength recordAt recordsFrom recordsOf firstUse secondUse recordFault recordsFault
-    headFault ruleFault roomRefusal earlyRefusal tell outAfter verdictOf outOf low bit downFrom allOf anyOf sumOf positions successorAt kindOf setLow
-    withBit run elem below flat select
-    outcomes successors add closure reach position numbered wordOf members projection table codedProduct build productTable projectionTable
-    complementTable tableOf admit namesOf namedAfter mark marks isReached buildAll settled view lighter choose consider loop tuples pick verdict next rounds anyBelow begin search report
-    conclude decideOf digits pack treeBits treeStrip decLt
+unfolding answer rules trees verdicts
 deep-told = (refl, refl)
 
 pub deep-reached : Reached (0x11 ∷ 0x00 ∷ []) 1 × Reached (0x12 ∷ 0xC0 ∷ []) 2

@@ -3,20 +3,6 @@
 use Prim.Native.Nat.{ℕ}
 use mathlib.Core.Path.{_≡_, refl}
 use mathlib.Core.List.{List, [], _∷_, map}
-use native.Mathlib.Decide.{decLt}
-use Rattle.logic.specs.Tree.{downFrom, sumOf, positions, low, bit}
-use Rattle.logic.specs.Rule.{successorAt}
-use Rattle.logic.specs.Machine.{setLow, withBit, run, allOf, anyOf}
-use Rattle.logic.specs.Reach.{elem, below, flat, select, outcomes, successors, add, closure, reach, position, numbered, wordOf, members, projection}
-use Rattle.logic.specs.Reached.{namesOf, namedAfter, mark, marks, isReached}
-use Rattle.logic.specs.Table.{table, codedProduct, build, productTable, projectionTable, complementTable, tableOf, admit, buildAll, kindOf}
-use Rattle.logic.specs.Search.{settled, view, lighter, choose, consider, loop, tuples, pick, verdict, next, rounds, anyBelow, begin, search}
-use Rattle.logic.specs.Decide.{report, conclude, decideOf}
-use Rattle.bits.specs.Bits.{digits, bits, anySet, firstSet, bitLength, pack}
-use Rattle.rule_strip.specs.RuleStrip.{recordAt, recordsFrom, recordsOf, firstUse, secondUse, recordFault, recordsFault, headFault, ruleFault}
-use Rattle.tree_strip.specs.TreeStrip.{treeBits, treeStrip}
-use Rattle.rules.specs.Room.{roomRefusal}
-use Rattle.decide.specs.Decide.{earlyRefusal, tell, outAfter, verdictOf, outOf}
 use Rattle.decide.specs.declared.Verdict.{Verdict}
 use Rattle.decide.specs.declared.Verdict.the-variants.{Shown, TooManyStates}
 use Rattle.examples.proofs.Decided.{answer, with}
@@ -36,10 +22,5 @@ pub verdicts : List Verdict
 verdicts = Shown 0 1 2 ∷ Shown 0 1 2 ∷ TooManyStates 0 ∷ TooManyStates 1 ∷ TooManyStates 1 ∷ []
 
 pub leftovers-told : map (λ s. answer (with 2 255 s) .verdict) rules ≡ verdicts
-unfolding answer rules verdicts bits anySet firstSet bitLength recordAt recordsFrom recordsOf firstUse secondUse recordFault recordsFault
-    headFault ruleFault roomRefusal earlyRefusal tell outAfter verdictOf outOf low bit downFrom allOf anyOf sumOf positions successorAt kindOf setLow
-    withBit run elem below flat select
-    outcomes successors add closure reach position numbered wordOf members projection table codedProduct build productTable projectionTable
-    complementTable tableOf admit namesOf namedAfter mark marks isReached buildAll settled view lighter choose consider loop tuples pick verdict next rounds anyBelow begin search report
-    conclude decideOf digits pack treeBits treeStrip decLt
+unfolding answer rules verdicts
 leftovers-told = refl

@@ -2,25 +2,12 @@
 use Prim.Native.Nat.{ℕ}
 use mathlib.Core.Path.{_≡_, refl}
 use mathlib.Core.List.{List, [], _∷_, map}
-use native.Mathlib.Decide.{decLt}
-use Rattle.logic.specs.Tree.{downFrom, sumOf, positions, low, bit}
-use Rattle.logic.specs.Rule.{successorAt}
-use Rattle.logic.specs.Machine.{setLow, withBit, run, allOf, anyOf}
-use Rattle.logic.specs.Reach.{elem, below, flat, select, outcomes, successors, add, closure, reach, position, numbered, wordOf, members, projection}
-use Rattle.logic.specs.Reached.{namesOf, namedAfter, mark, marks, isReached}
-use Rattle.logic.specs.Table.{table, codedProduct, build, productTable, projectionTable, complementTable, tableOf, admit, buildAll, kindOf}
-use Rattle.logic.specs.Search.{settled, view, lighter, choose, consider, loop, tuples, pick, verdict, next, rounds, anyBelow, begin, search}
-use Rattle.logic.specs.Decide.{report, conclude, decideOf}
-use Rattle.bits.specs.Bits.{digits, bits, anySet, firstSet, bitLength, pack}
-use Rattle.rule_strip.specs.RuleStrip.{recordAt, recordsFrom, recordsOf, firstUse, secondUse, recordFault, recordsFault, headFault, ruleFault}
-use Rattle.tree_strip.specs.TreeStrip.{treeBits, treeStrip}
-use Rattle.rules.specs.Room.{roomRefusal}
-use Rattle.decide.specs.Decide.{earlyRefusal, tell, outAfter, verdictOf, outOf}
 use Rattle.decide.specs.declared.Verdict.{Verdict}
 use Rattle.decide.specs.declared.Verdict.the-variants.{Shown, None, Larger, RefusedAt, Refused, TooManyStates}
 use Rattle.report.specs.Text.{decimal, hex}
 use Rattle.report.specs.Line.{lineOf}
 use Rattle.program.specs.Program.{verdictLine}
+use Rattle.examples.proofs.Decided.{answer}
 
 -- document 01's strip of X0 = X1 1 with n = 2; example c; that strip cut short; no bytes; the one byte 11; that strip with a padding bit
 -- set, with variable 2 on the left, on the right and on both sides, and with op 9; a "not" of itself
@@ -56,13 +43,9 @@ outputs =
     ∷ (114 ∷ 101 ∷ 102 ∷ 117 ∷ 115 ∷ 101 ∷ 100 ∷ 32 ∷ 57 ∷ 32 ∷ 50 ∷ 48 ∷ 10 ∷ [])
     ∷ []
 
+-- `answer` is named for all that it unfolds
 pub outputs-right : map verdictLine inputs ≡ outputs
-unfolding verdictLine inputs outputs lineOf decimal hex bits anySet firstSet bitLength recordAt recordsFrom recordsOf firstUse secondUse recordFault
-    recordsFault headFault ruleFault roomRefusal earlyRefusal tell outAfter verdictOf outOf
-    low bit downFrom allOf anyOf sumOf positions successorAt kindOf setLow withBit run elem below
-    flat select outcomes successors add closure reach position numbered wordOf members projection table codedProduct build productTable projectionTable
-    complementTable tableOf admit namesOf namedAfter mark marks isReached buildAll settled view lighter choose consider loop tuples pick verdict next rounds anyBelow begin search report
-    conclude decideOf digits pack treeBits treeStrip decLt
+unfolding answer verdictLine inputs outputs lineOf decimal hex
 outputs-right = refl
 
 -- one verdict of each kind, over a buffer with a byte after the strip

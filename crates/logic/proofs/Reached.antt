@@ -25,7 +25,9 @@ Earlier names m = (r : ℕ) → r < m → (i : ℕ) → T (elem i (names r)) →
 module _ (names : ℕ → List ℕ) where
   either : (m : Bool) (i j : ℕ) (ms : List Bool) → T (namedAfter names i j (m ∷ ms)) ↔ ((T m × T (elem i (names j))) ⊎ T (namedAfter names i (suc j) ms))
   unfolding namedAfter
-  either m i j ms = or-iff (m && elem i (names j)) (namedAfter names i (suc j) ms) (and-iff m (elem i (names j)) (λ t. t, λ t. t) (λ t. t, λ t. t)) (λ t. t, λ t. t)
+  either m i j ms =
+      or-iff (m && elem i (names j)) (namedAfter names i (suc j) ms)
+      (and-iff m (elem i (names j)) (λ t. t, λ t. t) (λ t. t, λ t. t)) (λ t. t, λ t. t)
 
   moved : {i j r s : ℕ} → i ≡ j → r ≡ s → T (elem i (names r)) → T (elem j (names s))
   moved e f = subst T (ap₂ (λ (x y : ℕ). elem x (names y)) e f)

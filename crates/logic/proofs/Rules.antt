@@ -90,17 +90,18 @@ module _ (k n c : ℕ) (used : ℕ → Bool) where
   abbrev CountAt : List (Formula k) → ℕ → ℕ
   CountAt fs i = (table n (getD fs i (root 0))) .count
 
+  -- no formula of fs that is used has more than c states
+  abbrev pub Roomed : List (Formula k) → Type 0
+  Roomed fs = (i : ℕ) → i < length fs → T (used i) → CountAt fs i ≤ c
+
   -- what building says of the formulas fs
   unfoldable pub Says : List (Formula k) → Built k → Type 0
   Says fs (over r) = T (used r) × (c < CountAt fs r) × ((i : ℕ) → i < r → T (used i) → CountAt fs i ≤ c)
-  Says fs (built ts) = (ts ≡ tablesOf fs) × ((i : ℕ) → i < length fs → T (used i) → CountAt fs i ≤ c)
+  Says fs (built ts) = (ts ≡ tablesOf fs) × Roomed fs
 
-  all-built : (fs : List (Formula k)) → ((i : ℕ) → i < length fs → T (used i) → CountAt fs i ≤ c) → Says fs (built (tablesOf fs))
+  all-built : (fs : List (Formula k)) → Roomed fs → Says fs (built (tablesOf fs))
   unfolding Says
   all-built fs h = (refl, h)
-
-  abbrev Roomed : List (Formula k) → Type 0
-  Roomed fs = (i : ℕ) → i < length fs → T (used i) → CountAt fs i ≤ c
 
   -- one record more, of formula f and with the machine t
   module _ (rs : List Record) (fs : List (Formula k)) (h : Roomed fs) (f : Formula k) (t : Table k) (e : t ≡ table n f) where

@@ -1,7 +1,7 @@
 -- The builder's outcome for all records of a rule, and decide's and judge's answers from it.
 -- Assumes nothing.
-use Rattle.words.proofs.Vocabulary.{ℕ, _≤_, _<_, _+_, suc, zero, _^_, Bool, true, false, cond, _&&_, _≡_, _∙_, refl, sym, ap, subst, _↔_, List, [], _∷_, _++_, some}
-use Rattle.words.proofs.Vocabulary.{Option, none, eqb, ltb, T, ltb→lt, length, getD, length-append, decLt, not-suc-le-zero, arith}
+use Rattle.words.proofs.Vocabulary.{ℕ, _≤_, _<_, _+_, suc, zero, _^_, Bool, true, false, cond, _&&_, _≡_, _∙_, refl, sym, ap, subst, _↔_, List, [], _∷_, _++_}
+use Rattle.words.proofs.Vocabulary.{some, Option, none, eqb, ltb, T, ltb→lt, length, getD, length-append, decLt, not-suc-le-zero, arith}
 use Rattle.refinement.specs.Decode.{weight, shapeOf, decodedOf}
 use Rattle.layout.specs.Shape.{Shaped}
 use Rattle.logic.specs.Meaning.{Branch, Assignment, Formula, successor, root}

@@ -30,6 +30,8 @@ returns c =
       v .ensures .1,
     )
 
+reached-requires : tie.Need-reached-requires
+reached-requires c κs = let a = c .before .pre .0 in ((omega arith, omega arith), λ r h. in-order (c .before) r (omega arith))
+
 pub build-all-spec : {M : Type 1} → statement M
-build-all-spec =
-    tie.close (tie.spec (λ c κs. let a = c .before .pre .0 in ((omega arith, omega arith), λ r h. in-order (c .before) r (omega arith))) build-marked-requires (λ c. search needs) returns)
+build-all-spec = tie.close (tie.spec reached-requires build-marked-requires (λ c. search needs) returns)

@@ -178,8 +178,8 @@ returns-2 c =
 pub build-marked-spec : {M : Type 1} → statement M
 build-marked-spec =
     tie.close
-    (tie.spec Inv-loop μ-loop (λ c κs. (omega arith, c .before .pre .0, c .before .pre .1 .1 .0)) loop-holds (λ c. search needs) (λ c. search needs) (λ c. search needs) kept-requires
-    (λ c. search needs) kept-requires-2 build-next-requires (λ c. search needs)
+    (tie.spec Inv-loop μ-loop (λ c κs. (omega arith, c .before .pre .0, c .before .pre .1 .1 .0)) loop-holds (λ c. search needs) (λ c. search needs)
+    (λ c. search needs) kept-requires (λ c. search needs) kept-requires-2 build-next-requires (λ c. search needs)
     (λ c. c .before .before .before .before .build-next .kept .0 ∙ turn-of (c .before .before .before .before) .before .loop .inv .long)
     returns (λ c. number (turn-of (c .before .before .before .before)) .1)
     (λ c. omega (arith, number (turn-of (c .before .before .before .before))))

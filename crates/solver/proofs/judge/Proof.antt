@@ -39,6 +39,6 @@ returns-2 c =
 pub judge-spec : {M : Type 1} → statement M
 judge-spec =
     tie.close
-    (tie.spec (λ c κs. let w = c .before .before .before .pre .0 in ((w .some, w .few), w .buildable)) (λ c. search needs) (λ c. search needs) (λ c. search needs)
-    (λ c. search needs) (λ c. search needs) (λ c. search needs) (λ c. search needs) accepted-requires (λ c. search needs) returns (λ c. search needs)
-    returns-2)
+    (tie.spec (λ c κs. let w = c .before .before .before .pre .0 in ((w .some, w .few), w .buildable)) (λ c. search needs) (λ c. search needs)
+    (λ c. search needs) (λ c. search needs) (λ c. search needs) (λ c. search needs) (λ c. search needs) accepted-requires (λ c. search needs) returns
+    (λ c. search needs) returns-2)
