@@ -13,6 +13,7 @@
 #   prints them and the verdict program's verdict.
 # - The picture is the one that the command draws.
 # - Every target of make is in `make help` and in the README.
+# - The README has the number of crates that `make run` proves.
 # - No contract or definition cites a file under proofs/, as docs/PROOFS.md says.
 # It prints what differs, and ends with status 1 if anything does.
 set -eu
@@ -124,6 +125,17 @@ for target in $(sed -n 's/^\.PHONY: //p' Makefile); do
     grep -q "make $target\b" "$room/help" || [ "$target" = help ] || { echo "make help has no $target"; failed=1; }
     grep -q "\`make $target\`" README.md || { echo "the README has no make $target"; failed=1; }
 done
+made_of=$(awk '
+    function visit(crate,    i, part) {
+        if (!(crate in below) || met[crate]++)
+            return
+        count++
+        for (i = split(below[crate], part); i; i--)
+            visit(part[i])
+    }
+    { name = $1; sub(/:$/, "", name); $1 = ""; below[name] = $0 }
+    END { visit("verdict"); print count }' crates.txt)
+differs 'README, crates of make run' "$(sed -n 's/.*a line for each of the \([0-9]*\) crates.*/\1/p' README.md)" "$made_of"
 if grep -n 'proofs\.' crates/*/specs/*.antt crates/*/src/*.rt; then
     echo 'a contract or definition cites a file under proofs/'
     failed=1
