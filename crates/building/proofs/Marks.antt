@@ -3,10 +3,10 @@ use Rattle.words.proofs.Vocabulary.{ℕ, _≤_, _<_, _-_, suc, zero, _≡_, _�
 use Rattle.words.proofs.Vocabulary.{length-set, getD-set-other, getD-set-same, ⊎-elim, inl, inr, _↔_, _⊎_, eq-or-lt-of-le, add-one, cond, _+_, arith}
 use lib.ListN.{replicate}
 use Rattle.logic.specs.Reach.{elem}
-use Rattle.logic.specs.Reached.{ReachedFrom, itself, named}
+use Rattle.logic.specs.ReachedRecords.{ReachedFrom, itself, named}
 use Rattle.logic.proofs.Orders.{less, same, more, ℕ-tri}
 use Rattle.logic.proofs.Reach.{elem-cons, elem-none, elem-one, elem-two, elem-first, elem-second}
-use Rattle.logic.proofs.Reached.{Earlier, reached-iff, reached-below, reached-parts}
+use Rattle.logic.proofs.ReachedRecords.{Earlier, reached-iff, reached-below, reached-parts}
 use Rattle.table.specs.declared.plan.Kind.{Kind}
 use Rattle.table.specs.declared.plan.Kind.the-variants.{Subset, Single, Child1, Child2, Root, Not, Or, And, Exists}
 use Rattle.records.specs.Rule.{OfParts, noDecoded}

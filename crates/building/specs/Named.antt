@@ -7,7 +7,7 @@ use mathlib.Core.List.{List, [], _∷_}
 use lib.Dec.{T}
 use lib.ListN.{getD, set}
 use Rattle.logic.specs.Reach.{elem}
-use Rattle.logic.specs.Reached.{isReached}
+use Rattle.logic.specs.ReachedRecords.{isReached}
 use Rattle.table.specs.declared.plan.Kind.{Kind}
 use Rattle.table.specs.declared.plan.Kind.the-variants.{Subset, Single, Child1, Child2, Root, Not, Or, And, Exists}
 use Rattle.records.specs.Rule.{OfParts, noDecoded}

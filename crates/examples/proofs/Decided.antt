@@ -9,7 +9,7 @@ use Rattle.logic.specs.Tree.{downFrom, sumOf, positions, low, bit}
 use Rattle.logic.specs.Rule.{Record, successorAt}
 use Rattle.logic.specs.Machine.{setLow, withBit, run, allOf, anyOf}
 use Rattle.logic.specs.Reach.{elem, below, flat, select, outcomes, successors, add, closure, reach, position, numbered, wordOf, members, projection}
-use Rattle.logic.specs.Reached.{namesOf, namedAfter, mark, marks, isReached}
+use Rattle.logic.specs.ReachedRecords.{namesOf, namedAfter, mark, marks, isReached}
 use Rattle.logic.specs.Table.{table, codedProduct, build, productTable, projectionTable, complementTable, tableOf, admit, buildAll, kindOf}
 use Rattle.logic.specs.Search.{settled, view, lighter, choose, consider, loop, tuples, pick, verdict, next, rounds, anyBelow, begin, search}
 use Rattle.logic.specs.Decide.{report, conclude, decideOf}

@@ -12,7 +12,7 @@ use Rattle.logic.specs.Meaning.{Assignment, Holds}
 use Rattle.logic.specs.Tree.{Tree, empty, node, positions, Proper, Represents, TreeOf, SameSets}
 use Rattle.logic.specs.Order.{_≺_, _⪯_}
 use Rattle.logic.specs.Rule.{Record, extend, formulaAt, lastOf, Satisfies, Accepted}
-use Rattle.logic.specs.Reached.{itself, namesIn, isReached}
+use Rattle.logic.specs.ReachedRecords.{itself, namesIn, isReached}
 use Rattle.logic.specs.Machine.{Machine, run, Decides}
 use Rattle.logic.specs.Reach.{below, Reached}
 use Rattle.logic.specs.Table.{Table, table, Built, over, built}

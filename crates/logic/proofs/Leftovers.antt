@@ -9,7 +9,7 @@ use lib.ListN.{length}
 use Rattle.logic.specs.Meaning.{Assignment}
 use Rattle.logic.specs.Tree.{Tree, TreeOf}
 use Rattle.logic.specs.Rule.{Record, Satisfies, Accepted}
-use Rattle.logic.specs.Reached.{ReachedRecord}
+use Rattle.logic.specs.ReachedRecords.{ReachedRecord}
 use Rattle.logic.specs.Claims.{Outcome, refused14, Judgement, unbuilt, yes, no, statesAt, FirstOver, Roomy, Demand2, Demand3, Answers, Judges}
 use Rattle.logic.proofs.Rules.{reached-within}
 

@@ -5,7 +5,7 @@ pub mod Exists
 pub mod Branches
 pub mod Atoms
 pub mod Reach
-pub mod Reached
+pub mod ReachedRecords
 pub mod Rounds
 pub mod Numbered
 pub mod Projection

@@ -10,7 +10,7 @@ use Rattle.logic.specs.Meaning.{Branch, Place, Assignment}
 use Rattle.logic.specs.Tree.{Tree, positions, nodeAt, TreeOf, SameSets}
 use Rattle.logic.specs.Order.{_≺_}
 use Rattle.logic.specs.Rule.{Record, formulaAt, Satisfies}
-use Rattle.logic.specs.Reached.{ReachedRecord}
+use Rattle.logic.specs.ReachedRecords.{ReachedRecord}
 use Rattle.logic.specs.Table.{table}
 
 -- decide's answers: refusal 14 with the record's number; shown (positions, states) and the tree; none (states); larger (states)

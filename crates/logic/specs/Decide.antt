@@ -6,7 +6,7 @@ use mathlib.Core.List.{List, []}
 use lib.ListN.{length, getD}
 use Rattle.logic.specs.Tree.{Tree, positions}
 use Rattle.logic.specs.Rule.{Record, lastOf}
-use Rattle.logic.specs.Reached.{namesIn, isReached}
+use Rattle.logic.specs.ReachedRecords.{namesIn, isReached}
 use Rattle.logic.specs.Meaning.{root}
 use Rattle.logic.specs.Machine.{run}
 use Rattle.logic.specs.Table.{Table, table, Built, over, built, buildAll}

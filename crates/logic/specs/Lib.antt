@@ -6,7 +6,7 @@ pub mod Claims
 pub mod Machine
 pub mod Atom
 pub mod Reach
-pub mod Reached
+pub mod ReachedRecords
 pub mod Table
 pub mod Trim
 pub mod Search

@@ -8,7 +8,7 @@ use Rattle.logic.specs.Meaning.{Branch, Assignment, Formula, successor, root}
 use Rattle.logic.specs.Tree.{Tree, TreeOf}
 use Rattle.logic.specs.Rule.{noRecord, Record, formulaOf, formulaAt, extend, lastOf, good, successorAt, Accepted}
 use Rattle.logic.specs.Reach.{elem}
-use Rattle.logic.specs.Reached.{itself, named, namesOf, namesIn, ReachedRecord, isReached}
+use Rattle.logic.specs.ReachedRecords.{itself, named, namesOf, namesIn, ReachedRecord, isReached}
 use Rattle.logic.specs.Machine.{run}
 use Rattle.logic.specs.Search.{search}
 use Rattle.logic.specs.Alike.{Bounded}
@@ -19,7 +19,7 @@ use Rattle.logic.proofs.Branches.{branch-same}
 use Rattle.logic.proofs.Connectives.{and-iff}
 use Rattle.logic.proofs.Tables.{Valid}
 use Rattle.logic.proofs.Reach.{elem-first, elem-second}
-use Rattle.logic.proofs.Reached.{reached-cong}
+use Rattle.logic.proofs.ReachedRecords.{reached-cong}
 use Rattle.logic.proofs.Rules.{record-valid, record-formula, good-here, rule-earlier, rule-reached, reached-within, getD-snoc}
 use Rattle.logic.proofs.Answers.{decide-answers, judge-judges}
 use Rattle.logic.proofs.Builders.{states-any, over-index, decide-any, judge-any}

@@ -10,7 +10,7 @@ use Rattle.logic.specs.Trim.{Trimmed}
 use Rattle.logic.specs.Search.{Sought, tree, large, absent}
 use Rattle.logic.specs.Decide.{report, say}
 use Rattle.logic.proofs.Answers.{trimmed-iff}
-use Rattle.logic.proofs.Reached.{last-reached}
+use Rattle.logic.proofs.ReachedRecords.{last-reached}
 use Rattle.records.specs.Rule.{Mach, noMach, Stored}
 use Rattle.records.specs.declared.Decoded.{Decoded}
 use Rattle.building.specs.Named.{namesIn, usedIn}

@@ -9,7 +9,7 @@ use native.Mathlib.Omega.{arith}
 use lib.Dec.{T}
 use lib.ListN.{length, getD}
 use Rattle.logic.specs.Reach.{elem}
-use Rattle.logic.specs.Reached.{ReachedFrom, itself, named, namedAfter, mark, marks, isReached}
+use Rattle.logic.specs.ReachedRecords.{ReachedFrom, itself, named, namedAfter, mark, marks, isReached}
 use Rattle.logic.proofs.Connectives.{or-iff, and-iff}
 
 -- a place that holds something true is within
