@@ -15,9 +15,9 @@
  *
  * For each number N of variables (2, 3 and 4 if none is given) the program closes
  * the atoms' frames under product and "exists", dropping what has more than
- * CEILING (16) states. These are the frames of all records of all rules in N
- * variables that are not refused with 14, however many records there are, for the
- * parts of a record are records too. It prints how many frames there are and the
+ * CEILING (16) states. These are the frames of all records that are reached in
+ * rules in N variables not refused with 14, however many records there are, for
+ * the parts of such a record are reached too. It prints how many frames there are and the
  * most positions that one needs. The status is 1 if that is more than 60, and 2 if
  * there is no result. README.md says which N cover the verdict program.
  *
