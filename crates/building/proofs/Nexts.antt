@@ -2,20 +2,22 @@
 -- states. Assumes nothing.
 use Rattle.words.proofs.Vocabulary.{ℕ, _≤_, _<_, _+_, _-_, suc, zero, _≡_, _∙_, refl, sym, ap, ap₂, subst, ⊎-elim, List, [], _∷_, _++_, some}
 use Rattle.words.proofs.Vocabulary.{Option, none, Bool, true, false, cond, T, length, getD, set, List·getD-append, length-append, length-set}
-use Rattle.words.proofs.Vocabulary.{getD-set-other, getD-set-same, getD-append-seam, add-zero, eq-or-lt-of-le, add-suc, add-one, arith}
+use Rattle.words.proofs.Vocabulary.{getD-set-other, getD-set-same, getD-append-seam, add-zero, eq-or-lt-of-le, add-suc, add-one, drop, arith}
+use lib.Seq.{getD-drop}
 use Rattle.records.specs.Rule.{Mach, noMach, machineOf, noDecoded, Fits, Stored, PartsStored, Placed, Added, Spared}
-use Rattle.layout.specs.Shape.{shareAt, placeIn}
+use Rattle.layout.specs.Shape.{shareOf, shareAt, placeIn}
 use Rattle.layout.specs.declared.Shape.{Shape}
-use Rattle.layout.proofs.Places.{tuple-up, place-before}
+use Rattle.layout.proofs.Places.{tuple-up, place-before, share-next}
 use Rattle.table.specs.Entry.{entry, seen}
 use Rattle.records.specs.declared.Decoded.{Decoded}
 use Rattle.records.specs.declared.Summary.{Summary}
 use Rattle.logic.specs.Reach.{elem}
+use Rattle.logic.proofs.Orders.{less, same, more as later, ℕ-tri}
 use Rattle.table.proofs.Masks.{seen-le}
 use Rattle.building.specs.declared.Ending.the-variants.{Over, Ready}
 use Rattle.building.specs.declared.Machines.{Machines}
 use Rattle.building.specs.Named.{namesOf, nextOf}
-use Rattle.building.specs.Build.{Outcome, built, over, more, after, passed, upto, Made, MadeBy, Wide, entryOf}
+use Rattle.building.specs.Build.{Outcome, built, over, more, after, passed, upto, Made, MadeBy, Wide, Untouched, entryOf}
 use Rattle.building.proofs.Marks.{named-all, all-named}
 
 -- ---- one record more
@@ -41,6 +43,27 @@ stored-spared {s} a {r} {m} {k} {ws} {ws′} h sp st = record {
   some-state = st .some-state;
   few = st .few;
 }
+
+-- the share of a record that is not used stays as it was where one that is used is built
+pub untouched-next : {used : ℕ → Bool} {s : Shape} {m r : ℕ} {ws₀ ws ws′ : List ℕ} → used r ≡ true → Spared s r ws ws′
+    → Untouched used s m ws₀ ws → Untouched used s m ws₀ ws′
+untouched-next {used} {s} {m} {r} {ws₀} {ws} {ws′} here sp old = record {
+  same = λ a q h bare from to. elim (ℕ-tri a r) [
+    | less l ↦ sp .low q (omega (arith, share-next s a r l)) ∙ old .same a q h bare from to
+    | same e ↦ absurd (subst T (sym here ∙ ap used (sym e) ∙ bare) tt)
+    | later l ↦ past q (omega (arith, share-next s r a l)) ∙ old .same a q h bare from to
+  ];
+}
+  where
+    end : ℕ
+    end = shareAt s r + shareOf s
+
+    past : (q : ℕ) → end ≤ q → getD ws′ q 0 ≡ getD ws q 0
+    past q l =
+        let e : end + (q - end) ≡ q = omega arith in
+        let at : (v : List ℕ) → getD (drop end v) (q - end) 0 ≡ getD v q 0 =
+        λ v. getD-drop end v (q - end) 0 ∙ ap (λ (i : ℕ). getD v i 0) e in
+        sym (at ws′) ∙ ap (λ (v : List ℕ). getD v (q - end) 0) (sp .high) ∙ at ws
 
 -- the machines of the first r records, those of them that are used, are stored
 pub record AllStored (xs : List Decoded) (used : ℕ → Bool) (s : Shape) (r : ℕ) (t : Machines) (ws : List ℕ) : Type 0 where
@@ -178,6 +201,10 @@ upto-cong xs u v s zero h = refl
 upto-cong xs u v s (suc r) h =
     ap₂ (λ (b : Bool) (o : Outcome). cond b (after s r (getD xs r noDecoded) o) (passed o)) (h r (omega arith))
     (upto-cong xs u v s r (λ i l. h i (omega arith)))
+
+pub untouched-cong : (u v : ℕ → Bool) {s : Shape} {m : ℕ} {ws ws′ : List ℕ} → ((i : ℕ) → i < m → u i ≡ v i)
+    → Untouched u s m ws ws′ → Untouched v s m ws ws′
+untouched-cong u v h w = record { same = λ r q l bare. w .same r q l (h r l ∙ bare) }
 
 pub made-cong : (xs : List Decoded) (u v : ℕ → Bool) (s : Shape) (m : ℕ) (t : Machines) (ws : List ℕ) → ((i : ℕ) → i < m → u i ≡ v i)
     → MadeBy u xs s m t ws → MadeBy v xs s m t ws

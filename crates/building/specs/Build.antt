@@ -1,14 +1,14 @@
 -- The machines of the records that are reached, one after the other in strip order. Document 01, "Machines": "Counts and accepting sets are
 -- kept with one entry for each of the 128 possible records"; request A5: "Refusal 14 now speaks only of records reached from the last one, in
 -- strip order". Assumes nothing.
-use Prim.Native.Nat.{ℕ, zero, suc, _<_}
+use Prim.Native.Nat.{ℕ, zero, suc, _+_, _≤_, _<_}
 use mathlib.Core.Path.{_≡_}
-use mathlib.Core.Bool.{Bool, cond}
+use mathlib.Core.Bool.{Bool, false, cond}
 use mathlib.Core.List.{List, [], _∷_, _++_}
 use mathlib.Core.Option.{Option, none, some}
 use lib.Dec.{T}
 use lib.ListN.{length, getD}
-use Rattle.layout.specs.Shape.{shareAt}
+use Rattle.layout.specs.Shape.{shareOf, shareAt}
 use Rattle.layout.specs.declared.Shape.{Shape}
 use Rattle.records.specs.Rule.{Mach, noMach, machineOf, Fits, Stored, noDecoded}
 use Rattle.records.specs.declared.Decoded.{Decoded}
@@ -66,3 +66,7 @@ upto xs used s (suc r) = cond (used r) (after s r (getD xs r noDecoded) (upto xs
 -- what building the first m records, those of them that are used, comes to
 abbrev pub MadeBy : (ℕ → Bool) → List Decoded → Shape → ℕ → Machines → List ℕ → Type 0
 MadeBy used xs s m t ws = Made used (upto xs used s m) s m t ws
+
+-- nothing is built of a record that is not used: its share, of the first m, is as it was
+pub record Untouched (used : ℕ → Bool) (s : Shape) (m : ℕ) (ws ws′ : List ℕ) : Type 0 where
+  pub same : (r q : ℕ) → r < m → used r ≡ false → shareAt s r ≤ q → q < shareAt s r + shareOf s → getD ws′ q 0 ≡ getD ws q 0

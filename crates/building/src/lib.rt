@@ -6,7 +6,7 @@ ghost use lib.ListN.{length, getD, drop};
 ghost use Rattle.layout.specs.Shape.{shareAt};
 ghost use Rattle.records.specs.Rule.{noDecoded};
 ghost use Rattle.building.specs.Named.{namesOf, usedIn, InOrder, marked, Marks, Closed, marking, nextOf};
-ghost use Rattle.building.specs.Build.{Buildable, MadeBy};
+ghost use Rattle.building.specs.Build.{Buildable, MadeBy, Untouched};
 use layout::Shape;
 use records::Decoded;
 use records::Summary;
@@ -113,6 +113,7 @@ pub fn build_marked(
     requires { ⌜ (marked (now marks) m ≡ true) × Closed records (now marks) m ⌝ }
     ensures { λ t. ⌜ MadeBy (marked (now (marks .entry))) records s m t (now (ws .exit)) ⌝ }
     ensures { λ t. ⌜ drop (shareAt s m) (now (ws .exit)) ≡ drop (shareAt s m) (now (ws .entry)) ⌝ }
+    ensures { λ t. ⌜ Untouched (marked (now (marks .entry))) s m (now (ws .entry)) (now (ws .exit)) ⌝ }
 {
     let c = s.ceiling;
     let mut counts = [0u8; 128];
@@ -151,6 +152,7 @@ pub fn build_all(ws: &mut [u8], records: [Decoded; 128], m: usize, s: Shape) -> 
     requires { ⌜ ((r : ℕ) → r < m → Buildable (getD records r noDecoded) r s (length (now ws))) ⌝ }
     ensures { λ t. ⌜ MadeBy (usedIn records m) records s m t (now (ws .exit)) ⌝ }
     ensures { λ t. ⌜ drop (shareAt s m) (now (ws .exit)) ≡ drop (shareAt s m) (now (ws .entry)) ⌝ }
+    ensures { λ t. ⌜ Untouched (usedIn records m) s m (now (ws .entry)) (now (ws .exit)) ⌝ }
 {
     let marks = reached(records, m);
     build_marked(ws, records, &marks, m, s)

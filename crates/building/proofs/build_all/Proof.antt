@@ -3,7 +3,7 @@ use Rattle.words.proofs.Vocabulary.{ℕ, _<_, needs, getD, arith}
 use Rattle.records.specs.Rule.{noDecoded}
 use Rattle.building.specs.Named.{usedIn, InOrder, marked}
 use Rattle.building.proofs.Marks.{used-closed}
-use Rattle.building.proofs.Nexts.{made-cong}
+use Rattle.building.proofs.Nexts.{made-cong, untouched-cong}
 use Rattle.building.proofs.build_all.Statement.{statement}
 use Rattle.building.proofs.build_all.Tie as tie
 
@@ -23,11 +23,10 @@ returns : tie.Need-returns
 returns c =
     let s = c .before .before .before .before .before .before .before in
     let a = s .args in
-    let m = c .before .before .before .before .before .reached .result in
+    let u = c .before .before .before .before .before .reached in
     let v = c .before .before .build-marked in (
-      made-cong (a .records) (marked m) (usedIn (a .records) (a .m)) (a .s) (a .m) (v .result) (v .last .0)
-          (c .before .before .before .before .before .reached .ensures .below) (v .ensures .0),
-      v .ensures .1,
+      made-cong (a .records) (marked (u .result)) (usedIn (a .records) (a .m)) (a .s) (a .m) (v .result) (v .last .0) (u .ensures .below) (v .ensures .0),
+      (v .ensures .1 .0, untouched-cong (marked (u .result)) (usedIn (a .records) (a .m)) (u .ensures .below) (v .ensures .1 .1)),
     )
 
 reached-requires : tie.Need-reached-requires

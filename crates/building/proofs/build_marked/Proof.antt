@@ -1,5 +1,5 @@
 -- `build_marked` meets its contract. The invariant: the machines of the marked ones of the first r records are stored, record r is marked,
--- and nothing after all shares is changed. Assumes nothing.
+-- and neither the share of one without a mark nor anything after all shares is changed. Assumes nothing.
 use Rattle.words.proofs.Vocabulary.{ℕ, _≤_, _<_, _+_, _-_, _≡_, _∙_, refl, sym, ap, subst, Bool, true, T, List, needs, length, getD, drop, arith}
 use Rattle.records.specs.Rule.{Fits, PartsStored, Added, noDecoded, noMach}
 use Rattle.records.specs.declared.Decoded.{Decoded}
@@ -7,13 +7,14 @@ use Rattle.records.proofs.Shares.{drop-later}
 use Rattle.layout.specs.Shape.{shareOf, shareAt}
 use Rattle.layout.specs.declared.Shape.{Shape}
 use Rattle.layout.proofs.Places.{share-next}
-use Rattle.building.specs.Build.{Wide, entryOf}
+use Rattle.building.specs.Build.{Wide, Untouched, entryOf}
 use Rattle.building.specs.Named.{marked, nextOf}
 use Rattle.building.specs.declared.Ending.{Ending}
 use Rattle.building.specs.declared.Ending.the-variants.{Over, Ready}
 use Rattle.building.specs.declared.Machines.{Machines}
 use Rattle.building.proofs.Marks.{next-within, next-after, next-used}
-use Rattle.building.proofs.Nexts.{AllStored, ready-first, made-ready, parts-ready, ready-next, ready-next-used, wide-next, over-next, made-over}
+use Rattle.building.proofs.Nexts.{AllStored, ready-first, made-ready, parts-ready, ready-next, ready-next-used, wide-next, over-next}
+use Rattle.building.proofs.Nexts.{made-over, untouched-next}
 use Rattle.building.proofs.build_marked.Statement.{statement}
 use Rattle.building.proofs.build_marked.Tie as tie
 
@@ -28,18 +29,20 @@ record Turn (ws₀ ws : List ℕ) (m : ℕ) (s : Shape) (records : List Decoded)
   pub wide : Wide t
   pub ready : AllStored records used s r t ws
   pub rest : drop (shareAt s m) ws ≡ drop (shareAt s m) ws₀
+  pub untouched : Untouched used s m ws₀ ws
 
 -- up to the next one
 turn-next : {ws₀ ws : List ℕ} {m : ℕ} {s : Shape} {records : List Decoded} {used : ℕ → Bool} {t : Machines} (r next : ℕ) → r ≤ m → length ws ≡ length ws₀
-    → Wide t → AllStored records used s r t ws → drop (shareAt s m) ws ≡ drop (shareAt s m) ws₀ → next ≡ nextOf used r (m - r)
-    → Turn ws₀ ws m s records used t next
-turn-next {ws₀} {ws} {m} {s} {records} {used} {t} r next h long wide ready rest e = record {
+    → Wide t → AllStored records used s r t ws → drop (shareAt s m) ws ≡ drop (shareAt s m) ws₀ → Untouched used s m ws₀ ws
+    → next ≡ nextOf used r (m - r) → Turn ws₀ ws m s records used t next
+turn-next {ws₀} {ws} {m} {s} {records} {used} {t} r next h long wide ready rest untouched e = record {
   within = omega (arith, next-within used (m - r) r);
   is-used = λ l. ap used e ∙ next-used used (m - r) r (omega arith);
   long = long;
   wide = wide;
   ready = rw e (ready-next-used (m - r) r ready);
   rest = rest;
+  untouched = untouched;
 }
 
 abbrev Inv-loop : tie.InvT-loop
@@ -52,7 +55,7 @@ abbrev μ-loop : tie.MeasureT-loop
 loop-holds : tie.Need-loop-holds Inv-loop μ-loop
 loop-holds c =
     turn-next 0 (c .next-marked .result) (omega arith) refl (record { counts = refl; accepts = refl; looks = refl }) ready-first refl
-    (c .next-marked .ensures)
+    (record { same = λ r q l bare from to. refl }) (c .next-marked .ensures)
 
 -- where the call starts, from a turn
 abbrev start-of : tie.In-loop Inv-loop μ-loop → tie.Start Inv-loop μ-loop
@@ -101,7 +104,8 @@ build-next-requires c κs =
 abbrev turn-of : tie.After-build-next Inv-loop μ-loop → tie.In-loop Inv-loop μ-loop
 turn-of c = c .before .before .before .before .before .before .before .before .before .before .before .before .before
 
--- what trying to build it gives: its machine is added or has too many states, and nothing after all shares is changed
+-- what trying to build it gives: its machine is added or has too many states, and nothing after all shares is changed, nor the share of a
+-- record without a mark
 tried : (c : tie.After-build-next Inv-loop μ-loop)
     → let n = turn-of c in
     let h = n .before .loop in
@@ -113,6 +117,7 @@ tried : (c : tie.After-build-next Inv-loop μ-loop)
     Added x (a .s) (h .r) (entryOf t (x .first)) (entryOf t (x .second)) (getD ms (x .first) noMach) (getD ms (x .second) noMach) (v .result) (h .ws)
     (v .last .0)
     × (drop (shareAt (a .s) (a .m)) (v .last .0) ≡ drop (shareAt (a .s) (a .m)) (a .ws .now))
+    × Untouched (marked (a .marks .now)) (a .s) (a .m) (a .ws .now) (v .last .0)
 tried c =
     let n = turn-of c in
     let h = n .before .loop in
@@ -124,6 +129,7 @@ tried c =
       (rw (c .before .before .before .before .before .before .before .kept .ensures, c .before .before .kept2 .ensures) at (v .ensures .0))
           (getD (w .machines) (x .first) noMach) (getD (w .machines) (x .second) noMach) (parts n),
       drop-later (shareAt (a .s) (h .r) + shareOf (a .s)) (shareAt (a .s) (a .m)) (v .last .0) (h .ws) later (v .ensures .1 .high) ∙ h .inv .rest,
+      untouched-next (is-marked n) (v .ensures .1) (h .inv .untouched),
     )
 
 returns : tie.Need-returns Inv-loop μ-loop
@@ -135,7 +141,7 @@ returns c =
     let t = machines (h .counts) (h .accepts) (h .looks) (Over (h .r)) in (
       made-over (a .t2) (marked (a .marks .now)) (a .s) (h .r) (a .m) t (b .build-next .last .0) (number n .0) refl
           (over-next (h .inv .ready) (is-marked n) (tried b .0) (c .if1 .taken)),
-      tried b .1,
+      (tried b .1, tried b .2),
     )
 
 loop-less : tie.Need-loop-less Inv-loop μ-loop
@@ -154,7 +160,7 @@ loop-again c =
     turn-next (h .r + 1) (c .next-marked2 .result) (omega (arith, number n)) (v .kept .0 ∙ h .inv .long)
     (wide-next (machines (h .counts) (h .accepts) (h .looks) Ready) (h .r) (v .result) (h .inv .wide))
     (ready-next (h .inv .ready) (is-marked n) (tried b .0) (h .inv .wide) (number n .1) (omega arith) (v .ensures .1))
-    (tried b .1) (c .next-marked2 .ensures)
+    (tried b .1) (tried b .2) (c .next-marked2 .ensures)
 
 kept-requires : tie.Need-kept-requires Inv-loop μ-loop
 kept-requires c κs =
@@ -173,7 +179,7 @@ returns-2 c =
     let a = c .before .before .before .before .args in
     let h = c .before .loop in
     let e : h .r ≡ a .m = omega arith in
-    (made-ready refl (rw e at (h .inv .ready)), h .inv .rest)
+    (made-ready refl (rw e at (h .inv .ready)), (h .inv .rest, h .inv .untouched))
 
 pub build-marked-spec : {M : Type 1} → statement M
 build-marked-spec =

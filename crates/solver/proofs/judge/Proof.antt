@@ -22,7 +22,7 @@ returns c =
     let w = s .pre .0 in
     let b = c .before .before .before .before .before .build-all in
     let g = c .before .ending .given in
-    (judge-refused (a .records) (a .m) (a .s) (w .shape) (w .some) (b .result) (b .last .0) (b .ensures .0) (a .tree .now) (g .0 .0) (g .1) _, b .ensures .1)
+    (judge-refused (a .records) (a .m) (a .s) (w .shape) (w .some) (b .result) (b .last .0) (b .ensures .0) (a .tree .now) (g .0 .0) (g .1) _, b .ensures .1 .0)
 
 returns-2 : tie.Need-returns-2
 returns-2 c =
@@ -33,7 +33,7 @@ returns-2 c =
     let y = c .accepted in (
       judge-ruled (a .records) (a .m) (a .s) (w .shape) (w .some) (b .result) (b .last .0) (b .ensures .0) (a .tree .now)
           (c .before .before .before .before .before .enum-told .given .1) (y .result) (y .ensures),
-      b .ensures .1,
+      b .ensures .1 .0,
     )
 
 pub judge-spec : {M : Type 1} → statement M

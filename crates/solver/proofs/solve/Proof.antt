@@ -22,7 +22,7 @@ returns c =
     let w = s .pre .0 in
     let b = c .before .before .before .before .before .build-all in
     let g = c .before .ending .given in
-    (solve-refused (a .records) (a .m) (a .s) (w .shape) (w .some) (b .result) (b .last .0) (b .ensures .0) (a .p) (g .0 .0) (g .1) _ refl, b .ensures .1)
+    (solve-refused (a .records) (a .m) (a .s) (w .shape) (w .some) (b .result) (b .last .0) (b .ensures .0) (a .p) (g .0 .0) (g .1) _ refl, b .ensures .1 .0)
 
 returns-2 : tie.Need-returns-2
 returns-2 c =
@@ -33,7 +33,7 @@ returns-2 c =
     let f = c .before .earliest in (
       solve-decided (a .records) (a .m) (a .s) (w .shape) (w .some) (b .result) (b .last .0) (b .ensures .0) (a .p)
           (c .before .before .before .before .before .before .enum-told .given .1) (f .result) (f .ensures),
-      b .ensures .1,
+      b .ensures .1 .0,
     )
 
 pub solve-spec : {M : Type 1} → statement M
