@@ -55,9 +55,9 @@
  * Time. Every call ends. The checks take microseconds; the time to read a text
  * grows with its length, times at most the names in use. Judge and decide take
  * longer the more workspace is asked for: the longest calls known, with 8
- * variables, 128 records and c = 64, take two seconds, about 15 ns for each byte
- * asked for; that makes half a millisecond for 3 variables, 16 records and
- * c = 16. Most rules take a small part of it. A lower c bounds the time.
+ * variables, 128 records and c = 64, take about a second, up to 10 ns for each
+ * byte asked for; that makes a third of a millisecond for 3 variables, 16 records
+ * and c = 16. Most rules take a small part of it. A lower c bounds the time.
  *
  * Stack and time are measured, on a machine of 2026, not proved.
  *
