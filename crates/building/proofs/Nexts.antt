@@ -26,8 +26,11 @@ abbrev pub withNext : Machines → ℕ → Summary → Machines
 withNext s r k =
     record { counts = set (s .counts) r (k .count); accepts = set (s .accepts) r (k .accept); looks = set (s .looks) r (k .looks); ending = s .ending }
 
-pub wide-next : (s : Machines) (r : ℕ) (k : Summary) → Wide s → Wide (withNext s r k)
-wide-next s r k w = record { counts = simp length-set (w .counts); accepts = simp length-set (w .accepts); looks = simp length-set (w .looks) }
+-- an entry stays for each possible record, whatever is kept of record r
+pub wide-next : (s : Machines) (r count accept looks : ℕ) → Wide s
+    → Wide (record { counts = set (s .counts) r count; accepts = set (s .accepts) r accept; looks = set (s .looks) r looks; ending = s .ending })
+wide-next s r count accept looks w =
+    record { counts = simp length-set (w .counts); accepts = simp length-set (w .accepts); looks = simp length-set (w .looks) }
 
 -- a machine stays stored where only a later share is changed
 stored-spared : {s : Shape} (a : ℕ) {r : ℕ} {m : Mach} {k : Summary} {ws ws′ : List ℕ} → a < r → Spared s r ws ws′

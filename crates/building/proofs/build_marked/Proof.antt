@@ -158,7 +158,7 @@ loop-again c =
     let h = n .before .loop in
     let v = b .build-next in
     turn-next (h .r + 1) (c .next-marked2 .result) (omega (arith, number n)) (v .kept .0 ∙ h .inv .long)
-    (wide-next (machines (h .counts) (h .accepts) (h .looks) Ready) (h .r) (v .result) (h .inv .wide))
+    (wide-next (machines (h .counts) (h .accepts) (h .looks) Ready) (h .r) _ _ _ (h .inv .wide))
     (ready-next (h .inv .ready) (is-marked n) (tried b .0) (h .inv .wide) (number n .1) (omega arith) (v .ensures .1))
     (tried b .1) (tried b .2) (c .next-marked2 .ensures)
 
