@@ -13,7 +13,7 @@ use Rattle.table.specs.declared.plan.Kind.the-variants.{Subset, Single, Child1,
 use Rattle.records.specs.Rule.{OfParts, noDecoded}
 use Rattle.records.specs.declared.Decoded.{Decoded}
 
--- the records that a record of this kind names, by its fields
+-- the records that a decoded record of this kind names, by its numbers; "exists" has its record as the first of them once it is decoded
 abbrev pub namedBy : Kind → ℕ → ℕ → List ℕ
 namedBy Subset a b = []
 namedBy Single a b = []
@@ -25,6 +25,7 @@ namedBy Or a b = a ∷ b ∷ []
 namedBy And a b = a ∷ b ∷ []
 namedBy Exists a b = a ∷ []
 
+-- those that a decoded record names
 abbrev pub namesOf : Decoded → List ℕ
 namesOf x = namedBy (x .kind) (x .first) (x .second)
 
