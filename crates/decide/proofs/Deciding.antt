@@ -1,66 +1,96 @@
--- From an accepted rule strip to decide's outcome, and from the outcome to the bytes in out. Assumes nothing.
-use Prim.Native.Nat.{ℕ, _≤_}
+-- From a rule's machine and the search over it to decide's answer and the bytes in out. Assumes nothing.
+use Prim.Native.Nat.{ℕ, _+_, _-_, _≤_}
 use mathlib.Core.Path.{_≡_, refl, sym, ap, _∙_}
 use mathlib.Core.List.{List, _++_}
+use native.Mathlib.Nat.{mul-le-mul-right}
 use native.Mathlib.Omega.{arith}
 use lib.ListN.{length, take, drop}
 use lib.Seq.{length-take-le}
-use Rattle.logic.specs.Tree.{positions}
-use Rattle.records.specs.declared.Decoded.{Decoded}
-use Rattle.building.specs.declared.Ending.the-variants.{Over, Ready}
-use Rattle.search.specs.declared.Finding.the-variants.{None as Nothing, Larger as Beyond, Shown as Found}
-use Rattle.refinement.specs.Decode.{shapeOf}
-use Rattle.solver.specs.Solve.{outcomeOf, Ranked, Solved}
-use Rattle.solver.proofs.Told.{treeIn, told-over, told-none, told-larger, told-shown}
-use Rattle.solver.specs.declared.Solution.{Solution}
-use Rattle.rule_strip.specs.RuleStrip.{recordsOf, AcceptedRule}
-use Rattle.rules.specs.Decoding.{DecodesTo}
-use Rattle.rules.proofs.Rules.{rule-decoded}
+use Rattle.logic.specs.Tree.{Tree, positions}
+use Rattle.logic.specs.Claims.{Outcome, refused14, shown, FirstOver}
+use Rattle.logic.specs.Search.{Sought, tree, large, absent}
+use Rattle.logic.specs.Decide.{report}
+use Rattle.logic.proofs.Answers.{decide-answers, shown-fits}
+use Rattle.logic.proofs.Builders.{decide-any}
+use Rattle.reading.specs.Reading.{Finds}
+use Rattle.records.specs.declared.Summary.{Summary}
+use Rattle.search.specs.Rounds.{answerBy, answerOf, Ended}
+use Rattle.search.specs.declared.Found.{Found}
+use Rattle.search.specs.declared.Finding.the-variants.{None as Absent, Larger as Large, Shown as Tree-found}
+use Rattle.rule_strip.specs.RuleStrip.{variablesOf, countOf, recordsOf, ruleFault}
+use Rattle.rule_strip.proofs.RuleLaws.{rule-accepted}
+use Rattle.bits.specs.declared.Fault.the-variants.{Sound}
+use Rattle.rules.specs.Building.{ruleShape, Decider}
+use Rattle.tree_strip.specs.Ranks.{treeOfRank}
 use Rattle.tree_strip.specs.TreeStrip.{treeStrip, treeBytes}
 use Rattle.tree_strip.proofs.TreeLaws.{treeStrip-length}
-use Rattle.decide.specs.Decide.{decidedOf, tell, outAfter, Spacious}
+use Rattle.decide.specs.Decide.{decidedOf, outcomeVerdict, outAfter, Spacious}
 use Rattle.decide.specs.declared.Verdict.{Verdict}
-use Rattle.decide.specs.declared.Verdict.the-variants.{Shown, None, Larger, TooManyStates}
+use Rattle.decide.specs.declared.Verdict.the-variants.{Shown, None, Larger}
 
--- what building and searching the strip's records answers is decide's outcome
-pub rule-solved : {s : List ℕ} {n m c : ℕ} → AcceptedRule s n m → (xs : List Decoded) → DecodesTo s m xs → {P : ℕ} {v : Solution}
-    → Solved xs m (shapeOf n c) P v → outcomeOf v ≡ decidedOf s c P
-rule-solved {s} accepted xs dec g = g .answer (recordsOf s) (rule-decoded accepted xs dec) ∙ (rw (accepted .variables))
+module _ (rule : List ℕ) (sound : ruleFault rule ≡ Sound) (c P : ℕ) where
+  -- a record with too many states
+  pub rule-over : (r : ℕ) → FirstOver 2 (variablesOf rule) (recordsOf rule) c r → decidedOf rule c P ≡ refused14 r
+  rule-over r h =
+      ((decide-answers 2 (variablesOf rule) (recordsOf rule) c P (rule-accepted rule sound .records-accepted)) .refused-is r) .1 h
 
--- what a solution tells, and what stands in out then
-module _ (n : ℕ) (v : Solution) (out : List ℕ) where
+  -- the tree that decide shows has room where one of P positions has
+  pub spacious : P ≤ 255 → {space : ℕ} → treeBytes (variablesOf rule) P ≤ space → Spacious (variablesOf rule) (decidedOf rule c P) space
+  spacious few room places states t f =
+      let w = shown-fits 2 (variablesOf rule) (recordsOf rule) c P (rule-accepted rule sound .records-accepted) places states t f in
+      let e = mul-le-mul-right (variablesOf rule + 1) (w .1) in
+      (let a = w .1 in omega arith, let a = w .1 in omega arith)
+
+  -- what the search over the last record's machine found
+  module _ {k : Summary} {ws : List ℕ} (d : Decider rule c k ws) (f : Found) (finds : Finds ws (ruleShape rule c) (countOf rule - 1) k P f) where
+    pub found-ended : Ended (answerOf f) f
+    found-ended =
+        let e = finds (d .readable .machine) (d .readable .stored) in
+        record { answer = refl; counted = λ t h. e .counted t (sym (e .answer) ∙ h); back = e .back; low = e .low; high = e .high }
+
+    pub found-decided : report (k .count) (answerOf f) ≡ decidedOf rule c P
+    found-decided =
+        let h = d .readable in
+        rw (h .stored .count, finds (h .machine) (h .stored) .answer)
+        (decide-any 2 (variablesOf rule) (recordsOf rule) (rule-accepted rule sound .records-accepted) c P (d .roomy) _ (d .decides) _ (d .full))
+
+-- what a finding tells, and what stands in out then
+module _ (n states : ℕ) (f : Found) (out : List ℕ) where
   abbrev Tells : Verdict → List ℕ → Type 0
-  Tells x end = (x ≡ tell n (outcomeOf v)) × (end ≡ outAfter n (outcomeOf v) out)
+  Tells x end = (x ≡ outcomeVerdict n (report states (answerOf f))) × (end ≡ outAfter n (report states (answerOf f)) out)
 
-  pub tells-over : (r : ℕ) → v .ending ≡ Over r → Tells (TooManyStates r) out
-  unfolding tell outAfter
-  tells-over r h = rw (told-over v r h) (refl, refl)
+  pub tells-none : f .finding ≡ Absent → Tells (None states) out
+  unfolding outcomeVerdict outAfter report answerBy
+  tells-none e = rw e (refl, refl)
 
-  module _ (h : v .ending ≡ Ready) where
-    pub tells-none : v .found .finding ≡ Nothing → Tells (None (v .states)) out
-    unfolding tell outAfter
-    tells-none e = rw (told-none v h e) (refl, refl)
+  pub tells-larger : f .finding ≡ Large → Tells (Larger states) out
+  unfolding outcomeVerdict outAfter report answerBy
+  tells-larger e = rw e (refl, refl)
 
-    pub tells-larger : v .found .finding ≡ Beyond → Tells (Larger (v .states)) out
-    unfolding tell outAfter
-    tells-larger e = rw (told-larger v h e) (refl, refl)
+  module _ (a : f .finding ≡ Tree-found) (r : Ended (answerOf f) f) (w : Spacious n (report states (answerOf f)) (length out)) where
+    -- the tree that is shown
+    abbrev pub shownTree : Tree 2
+    shownTree = treeOfRank (f .label) (f .first) (f .second) (f .n) (f .n - 1)
 
-    module _ (a : v .found .finding ≡ Found) (r : Ranked v) (w : Spacious n (outcomeOf v) (length out)) where
-      same-size : v .found .positions ≡ positions (treeIn v)
-      same-size = r .counted (positions (treeIn v)) (v .states) (treeIn v) (told-shown v h a)
+    is-shown : (answerOf f ≡ tree shownTree) × (report states (answerOf f) ≡ shown (positions shownTree) states shownTree)
+    unfolding report answerBy
+    is-shown = rw a (refl, refl)
 
-      -- the front of out holds the strip
-      pub shown-room : (v .found .positions ≡ positions (treeIn v)) × (positions (treeIn v) ≤ 255) × (treeBytes n (positions (treeIn v)) ≤ length out)
-      shown-room = let k = w (positions (treeIn v)) (v .states) (treeIn v) (told-shown v h a) in (same-size, k .0, k .1)
+    same-size : f .positions ≡ positions shownTree
+    same-size = r .counted shownTree (is-shown .0)
 
-      pub shown-front : (len : ℕ) → len ≡ treeBytes n (v .found .positions) → length (take len out) ≡ treeBytes n (positions (treeIn v))
-      shown-front len e =
-          let k = shown-room in let z : len ≡ treeBytes n (positions (treeIn v)) = e ∙ ap (treeBytes n) same-size in
-          length-take-le len out (let y = k .2 in omega arith) ∙ z
+    -- the front of out holds the strip
+    pub shown-room : (f .positions ≡ positions shownTree) × (positions shownTree ≤ 255) × (treeBytes n (positions shownTree) ≤ length out)
+    shown-room = let k = w (positions shownTree) states shownTree (is-shown .1) in (same-size, k .0, k .1)
 
-      pub tells-shown : (len : ℕ) → len ≡ treeBytes n (v .found .positions) → (front : List ℕ) → front ≡ treeStrip n (treeIn v)
-          → Tells (Shown (v .found .positions) (v .states) len) (front ++ drop len out)
-      unfolding tell outAfter
-      tells-shown len e front f =
-          let z : len ≡ length (treeStrip n (treeIn v)) = e ∙ ap (treeBytes n) same-size ∙ sym (treeStrip-length n (treeIn v)) in
-          rw (told-shown v h a, f, z, same-size) (refl, refl)
+    pub shown-front : (len : ℕ) → len ≡ treeBytes n (f .positions) → length (take len out) ≡ treeBytes n (positions shownTree)
+    shown-front len e =
+        let k = shown-room in let z : len ≡ treeBytes n (positions shownTree) = e ∙ ap (treeBytes n) same-size in
+        length-take-le len out (let y = k .2 in omega arith) ∙ z
+
+    pub tells-shown : (len : ℕ) → len ≡ treeBytes n (f .positions) → (front : List ℕ) → front ≡ treeStrip n shownTree
+        → Tells (Shown (f .positions) states len) (front ++ drop len out)
+    unfolding outcomeVerdict outAfter
+    tells-shown len e front g =
+        let z : len ≡ length (treeStrip n shownTree) = e ∙ ap (treeBytes n) same-size ∙ sym (treeStrip-length n shownTree) in
+        rw (is-shown .1, g, z, same-size) (refl, refl)

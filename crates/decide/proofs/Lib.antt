@@ -1,3 +1,4 @@
 pub mod Deciding
 pub mod Shown
 pub mod Verdicts
+pub mod InNumbers

@@ -8,22 +8,22 @@ use Rattle.logic.specs.Tree.{Tree}
 use Rattle.logic.specs.Claims.{Outcome, refused14, shown, none, larger}
 use Rattle.logic.proofs.Answers.{decide-shallow, shown-earliest, shown-fits, shown-states}
 use Rattle.logic.proofs.Assignments.{tree-of-trimmed}
-use Rattle.rule_strip.specs.RuleStrip.{variablesOf, countOf, recordsOf, ruleFault}
+use Rattle.rule_strip.specs.RuleStrip.{variablesOf, recordsOf}
 use Rattle.rule_strip.proofs.RuleLaws.{rule-accepted}
 use Rattle.tree_strip.specs.TreeStrip.{treeStrip, parsed}
 use Rattle.tree_strip.proofs.TreeLaws.{tree-read-back}
-use Rattle.rules.specs.Refusal.{Refusal, nothing, placed, plain}
-use Rattle.rules.proofs.Refusals.{checked-free, tested-free}
-use Rattle.rules.proofs.Rooms.{room-free}
-use Rattle.decide.proofs.Verdicts.{Ends, early, strip-first, claim}
-use Rattle.decide.specs.Decide.{earlyRefusal, decidedOf, tell, refusedOr, verdictOf, workspaceOf, outOf, Claim, ShallowStrip, ShowsShallow}
+use Rattle.refusals.specs.Refusal.{answerUnless}
+use Rattle.refusals.specs.declared.Refusal.{Refusal}
+use Rattle.refusals.specs.declared.Refusal.the-variants.{Nothing, Placed, Plain, TooManyStates}
+use Rattle.decide.proofs.Verdicts.{Ends, early, early-free, strip-first, claim}
+use Rattle.decide.specs.Decide.{decidedOf, outcomeVerdict, verdictOf, workspaceOf, outOf, DecideClaim, ShallowStrip, ShowsShallow}
 use Rattle.decide.specs.declared.Verdict.{Verdict}
-use Rattle.decide.specs.declared.Verdict.the-variants.{Shown}
+use Rattle.decide.specs.declared.Verdict.the-variants.{Shown, Refused}
 
 -- the outcome that shown tells
-told-tree : (n : ℕ) (o : Outcome 2) {places states bytes : ℕ} → tell n o ≡ Shown places states bytes
+told-tree : (n : ℕ) (o : Outcome 2) {places states bytes : ℕ} → outcomeVerdict n o ≡ Shown places states bytes
     → (t : Tree 2) × (o ≡ shown places states t) × (bytes ≡ length (treeStrip n t))
-unfolding tell
+unfolding outcomeVerdict
 told-tree n (refused14 r) e = absurd (let z : _≡_ {A = ℕ} 0 1 = cc in omega arith)
 told-tree n (shown places states t) e = (t, cc, cc)
 told-tree n (none states) e = absurd (let z : _≡_ {A = ℕ} 0 1 = cc in omega arith)
@@ -31,25 +31,23 @@ told-tree n (larger states) e = absurd (let z : _≡_ {A = ℕ} 0 1 = cc in omeg
 
 module _ (rule : List ℕ) (c P : ℕ) (ws out : List ℕ) where
   -- the strip of the tree that is shown
-  strip-shallow : early rule c P ws out ≡ nothing → (places states : ℕ) (t : Tree 2) → decidedOf rule c P ≡ shown places states t
+  strip-shallow : early rule c P ws out ≡ Nothing → (places states : ℕ) (t : Tree 2) → decidedOf rule c P ≡ shown places states t
       → ShallowStrip (treeStrip (variablesOf rule) t) c places states
-  unfolding earlyRefusal
   strip-shallow e places states t f =
       let n = variablesOf rule in
-      let a = checked-free (ruleFault rule) _ e in
-      let g = rule-accepted rule (a .0) in
+      let a = early-free rule c P ws out e in
+      let g = rule-accepted rule (a .0 .sound) in
       let ok = g .records-accepted in
-      let r = room-free n (countOf rule) c (length ws) P (length out) (tested-free _ nothing (a .1) .0) in
       let m = shown-earliest 2 n (recordsOf rule) c P ok places states t f .1 .model .tree in
       let w = shown-fits 2 n (recordsOf rule) c P ok places states t f in
-      let b = tree-read-back n t (g .some-variable) (g .few-variables) (m .proper) (tree-of-trimmed n _ t m) (omega (arith, w .1, r .few-places)) in
+      let b = tree-read-back n t (g .some-variable) (g .few-variables) (m .proper) (tree-of-trimmed n _ t m) (omega (arith, w .1, a .1)) in
       record {
         tree = t;
         rest = replicate (b .0) 0;
         read = b .1 ∙ ap (λ (N : ℕ). parsed t N (replicate (b .0) 0)) (sym (w .0));
         shallow = λ path d. let h = decide-shallow 2 n (recordsOf rule) c P ok places states t f path d in omega arith;
         few = shown-states 2 n (recordsOf rule) c P ok places states t f;
-        at-most = r .roomy .few-states;
+        at-most = a .0 .few-states;
       }
 
   shows-shallow : {x : Verdict} → x ≡ verdictOf rule c P (length ws) (length out)
@@ -57,11 +55,12 @@ module _ (rule : List ℕ) (c P : ℕ) (ws out : List ℕ) where
   unfolding verdictOf
   shows-shallow ex {out′ = out′} eo places states bytes f = go (early rule c P ws out) refl (sym ex ∙ f)
     where
-      go : (r : Refusal) → early rule c P ws out ≡ r → refusedOr r (tell (variablesOf rule) (decidedOf rule c P)) ≡ Shown places states bytes
+      go : (r : Refusal) → early rule c P ws out ≡ r → answerUnless Refused r (outcomeVerdict (variablesOf rule) (decidedOf rule c P)) ≡ Shown places states bytes
           → ShallowStrip (take bytes out′) c places states
-      go (placed k p) e h = absurd (let z : _≡_ {A = ℕ} 0 1 = cc in omega arith)
-      go (plain k) e h = absurd (let z : _≡_ {A = ℕ} 0 1 = cc in omega arith)
-      go nothing e h =
+      go (Placed k p) e h = absurd (let z : _≡_ {A = ℕ} 0 1 = cc in omega arith)
+      go (Plain k) e h = absurd (let z : _≡_ {A = ℕ} 0 1 = cc in omega arith)
+      go (TooManyStates k) e h = absurd (let z : _≡_ {A = ℕ} 0 1 = cc in omega arith)
+      go Nothing e h =
           let w = told-tree (variablesOf rule) (decidedOf rule c P) h in
           let z = strip-first rule c P ws out eo e places states (w .0) (w .1) in
           subst (λ (s : List ℕ). ShallowStrip s c places states) (sym (ap (λ (l : ℕ). take l out′) (w .2) ∙ z))
@@ -72,5 +71,5 @@ module _ (rule : List ℕ) (c P : ℕ) (ws out : List ℕ) where
       → (x ≡ verdictOf rule c P (length ws) (length out))
       × ((ws′ ≡ workspaceOf rule c P ws (length out))
       × ((out′ ≡ outOf rule c P (length ws) out)
-      × (Claim rule c P (length ws) (length out) x out′ × ShowsShallow c x out′)))
+      × (DecideClaim rule c P (length ws) (length out) x out′ × ShowsShallow c x out′)))
   promised e = (e .0, (e .1 .0, (e .1 .1, (claim rule c P ws out (e .0) (e .1 .1), shows-shallow (e .0) (e .1 .1)))))

@@ -1,31 +1,36 @@
 -- Decide's result and the buffers at its end, by the refusals; and demands 2 and 3 of them. Assumes nothing.
-use Prim.Native.Nat.{ℕ, zero, suc, _+_, _-_, _≤_}
+use Prim.Native.Nat.{ℕ, _≤_}
 use mathlib.Core.Path.{_≡_, refl, sym, _∙_}
+use mathlib.Core.Logic.{⊎-elim}
 use mathlib.Core.List.{List}
-use native.Mathlib.Nat.{mul-le-mul-right}
 use native.Mathlib.Omega.{arith}
-use borrow.Author.Tests.{ne-eqb}
-use lib.Dec.{eqb·suc-zero}
 use lib.ListN.{length, take, drop}
 use lib.Seq.{take-append-seam}
-use Rattle.logic.specs.Tree.{Tree, positions}
+use Rattle.logic.specs.Tree.{Tree}
 use Rattle.logic.specs.Claims.{Outcome, refused14, shown, none, larger}
-use Rattle.logic.proofs.Answers.{decide-answers, shown-fits}
-use Rattle.solver.specs.Solve.{outcomeOf}
-use Rattle.solver.specs.declared.Solution.{Solution}
-use Rattle.rule_strip.specs.RuleStrip.{variablesOf, countOf, recordsOf, ruleFault, AcceptedRule}
-use Rattle.tree_strip.specs.TreeStrip.{treeStrip, treeBytes}
+use Rattle.logic.proofs.Answers.{decide-answers}
+use Rattle.bits.specs.declared.Fault.the-variants.{At}
+use Rattle.rule_strip.specs.RuleStrip.{variablesOf, countOf, recordsOf, ruleFault}
 use Rattle.rule_strip.proofs.RuleLaws.{rule-accepted}
 use Rattle.rule_strip.proofs.RulePlaces.{place-told}
-use Rattle.bits.specs.declared.Fault.{Fault}
-use Rattle.bits.specs.declared.Fault.the-variants.{Sound, At}
-use Rattle.rules.specs.Refusal.{Refusal, nothing, checked, tested}
-use Rattle.rules.specs.Room.{roomFor, cleared, roomRefusal, Roomy}
-use Rattle.decide.specs.Decide.{earlyRefusal, decidedOf, tell, outAfter, Spacious, refusedOr, verdictOf, workspaceOf, outOf, Claim}
+use Rattle.tree_strip.specs.TreeStrip.{treeStrip, treeBytes}
+use Rattle.refusals.specs.Refusal.{answerUnless}
+use Rattle.refusals.specs.declared.Refusal.{Refusal}
+use Rattle.refusals.specs.declared.Refusal.the-variants.{Nothing, Placed, Plain, TooManyStates}
+use Rattle.refusals.proofs.Refusals.{checked-free, tested-free, unless-refused, checked-placed, tested-unplaced, nothing-unplaced}
+use Rattle.rules.specs.Room.{roomOf, cleared, ceilingRefusal, placesRefusal, workspaceRefusal, outRefusal, Workable}
+use Rattle.rules.proofs.Rooms.{ceiling-free, places-free, workspace-free, out-free}
+use Rattle.decide.specs.Decide.{roomRefusal, decideRefusal, decidedOf, outcomeVerdict, outAfter, verdictOf, workspaceOf, outOf, DecideClaim}
 use Rattle.decide.specs.declared.Verdict.{Verdict}
-use Rattle.decide.specs.declared.Verdict.the-variants.{RefusedAt, Refused}
-use Rattle.rules.proofs.Refusals.{checked-free}
-use Rattle.rules.proofs.Rooms.{room-free}
+use Rattle.decide.specs.declared.Verdict.the-variants.{Refused}
+
+-- none of 11 to 13 names a place
+room-unplaced : (n m c P room outRoom : ℕ) {k p : ℕ} → roomRefusal n m c P room outRoom ≡ Placed k p → ⊥
+unfolding roomRefusal
+room-unplaced n m c P room outRoom e =
+    nothing-unplaced
+    (tested-unplaced (outRefusal n P outRoom) _
+    (tested-unplaced (workspaceRefusal n m c room) _ (tested-unplaced (placesRefusal P) _ (tested-unplaced (ceilingRefusal c) _ e))))
 
 module _ (rule : List ℕ) (c P : ℕ) (ws out : List ℕ) where
   -- decide ends so
@@ -34,78 +39,72 @@ module _ (rule : List ℕ) (c P : ℕ) (ws out : List ℕ) where
       (v ≡ verdictOf rule c P (length ws) (length out)) × ((ws′ ≡ workspaceOf rule c P ws (length out)) × (out′ ≡ outOf rule c P (length ws) out))
 
   abbrev pub early : Refusal
-  early = earlyRefusal rule c P (length ws) (length out)
+  early = decideRefusal rule c P (length ws) (length out)
 
-  -- a strip that is turned down
-  pub ends-refused : (k p : ℕ) → ruleFault rule ≡ At k p → Ends (RefusedAt k p) ws out
-  unfolding verdictOf workspaceOf outOf earlyRefusal
-  ends-refused k p e = rw e (refl, (refl, refl))
+  -- it is refused
+  pub ends-refused : {r : Refusal} → r ≡ early → (r ≡ Nothing → ⊥) → Ends (Refused r) ws out
+  unfolding verdictOf workspaceOf outOf
+  ends-refused {r} e h = rw (← e) (sym (unless-refused r _ _ h), (sym (unless-refused r _ _ h), sym (unless-refused r _ _ h)))
 
-  module _ {n m : ℕ} (accepted : AcceptedRule rule n m) {k : ℕ} (ek : k ≡ roomRefusal n m c P (length ws) (length out)) where
-    early-room : early ≡ tested k nothing
-    unfolding earlyRefusal
-    early-room = rw (accepted .unrefused, ← accepted .variables, ← accepted .count, ← ek) refl
+  -- it goes on
+  module _ (e : early ≡ Nothing) where
+    pub early-free : Workable rule c (length ws) × (P ≤ 255) × (treeBytes (variablesOf rule) P ≤ length out)
+    unfolding decideRefusal roomRefusal
+    early-free =
+        let s = checked-free (ruleFault rule) _ e in
+        let n = variablesOf rule in
+        let a = tested-free (ceilingRefusal c) _ (s .1) in
+        let b = tested-free (placesRefusal P) _ (a .1) in
+        let d = tested-free (workspaceRefusal n (countOf rule) c (length ws)) _ (b .1) in
+        let w = ceiling-free c (a .0) in (
+          record {
+            sound = s .0;
+            some-state = w .0;
+            few-states = w .1;
+            long = workspace-free n (countOf rule) c (length ws) (d .0);
+          },
+          places-free P (b .0),
+          out-free n P (length out) (tested-free (outRefusal n P (length out)) _ (d .1) .0),
+        )
 
-    -- want of room, or a ceiling out of range
-    pub ends-room : (k ≡ 0 → ⊥) → Ends (Refused k) ws out
+    pub ends-told : {x : Verdict} → x ≡ outcomeVerdict (variablesOf rule) (decidedOf rule c P) → {ws′ : List ℕ} → ws′ ≡ cleared (roomOf rule c) ws
+        → {out′ : List ℕ} → out′ ≡ outAfter (variablesOf rule) (decidedOf rule c P) out → Ends x ws′ out′
     unfolding verdictOf workspaceOf outOf
-    ends-room z = rw (early-room, ne-eqb k 0 z) (refl, (refl, refl))
+    ends-told ex ew eo = rw e (ex, (ew, eo))
 
-    module _ (z : k ≡ 0) where
-      -- the build and the search may go on
-      pub room-known : Roomy n m c (length ws) × (P ≤ 255)
-      room-known = let f = room-free n m c (length ws) P (length out) (sym ek ∙ z) in (f .roomy, f .few-places)
+  -- a refusal that names a place is the strip's
+  placed-is : {k p : ℕ} → verdictOf rule c P (length ws) (length out) ≡ Refused (Placed k p) → ruleFault rule ≡ At k p
+  unfolding verdictOf decideRefusal outcomeVerdict
+  placed-is {k} {p} e =
+      ⊎-elim (λ f. f) (λ f. absurd (room-unplaced (variablesOf rule) (countOf rule) c P (length ws) (length out) f))
+      (checked-placed (ruleFault rule) _ (go early (decidedOf rule c P) e))
+    where
+      go : (r : Refusal) (o : Outcome 2) → answerUnless Refused r (outcomeVerdict (variablesOf rule) o) ≡ Refused (Placed k p) → r ≡ Placed k p
+      go (Placed l q) o f = cc
+      go (Plain l) o f = cc
+      go (TooManyStates r) o f = cc
+      go Nothing (refused14 r) f = absurd (let z : _≡_ {A = ℕ} 0 1 = cc in omega arith)
+      go Nothing (shown places states t) f = absurd (let z : _≡_ {A = ℕ} 0 1 = cc in omega arith)
+      go Nothing (none states) f = absurd (let z : _≡_ {A = ℕ} 0 1 = cc in omega arith)
+      go Nothing (larger states) f = absurd (let z : _≡_ {A = ℕ} 0 1 = cc in omega arith)
 
-      bytes-mono : (N : ℕ) → N ≤ P → treeBytes n N ≤ treeBytes n P
-      bytes-mono N h = let e = mul-le-mul-right (n + 1) h in omega arith
+  -- the strip of a tree that is shown stands at the front of out
+  pub strip-first : {out′ : List ℕ} → out′ ≡ outOf rule c P (length ws) out → early ≡ Nothing
+      → (places states : ℕ) (t : Tree 2) → decidedOf rule c P ≡ shown places states t
+      → take (length (treeStrip (variablesOf rule) t)) out′ ≡ treeStrip (variablesOf rule) t
+  unfolding outOf outAfter
+  strip-first eo e places states t f = let s = treeStrip (variablesOf rule) t in rw eo (rw e (rw f (take-append-seam s (drop (length s) out))))
 
-      pub spacious : (v : Solution) → outcomeOf v ≡ decidedOf rule c P → Spacious n (outcomeOf v) (length out)
-      spacious v e places states t f =
-          let g = rule-accepted rule (accepted .unrefused) in
-          let w = shown-fits 2 (variablesOf rule) (recordsOf rule) c P (g .records-accepted) places states t (sym e ∙ f) in
-          let r = room-free n m c (length ws) P (length out) (sym ek ∙ z) in
-          (let a = w .1 in omega arith, let a = bytes-mono (positions t) (w .1) in omega arith)
-
-      pub ends-told : (v : Solution) → outcomeOf v ≡ decidedOf rule c P → {x : Verdict} → x ≡ tell n (outcomeOf v)
-          → {ws′ : List ℕ} → ws′ ≡ cleared (roomFor n m c) ws → {out′ : List ℕ} → out′ ≡ outAfter n (outcomeOf v) out → Ends x ws′ out′
-      unfolding verdictOf workspaceOf outOf
-      ends-told v e ex ew eo =
-          let y : early ≡ nothing = early-room ∙ rw z refl in
-          let en = accepted .variables in
-          rw y (ex ∙ rw (e, en), (ew ∙ rw (en, accepted .count), eo ∙ rw (e, en)))
-
--- a refusal that names a place is the strip's
-placed-is : (f : Fault) (j n : ℕ) (o : Outcome 2) {k p : ℕ} → refusedOr (checked f (tested j nothing)) (tell n o) ≡ RefusedAt k p → f ≡ At k p
-unfolding tell
-placed-is (At l q) j n o e = cc
-placed-is Sound (suc j) n o e =
-    absurd (let f : Refused (suc j) ≡ RefusedAt _ _ = rw eqb·suc-zero at e in let z : _≡_ {A = ℕ} 0 1 = cc in omega arith)
-placed-is Sound zero n (refused14 r) e = absurd (let z : _≡_ {A = ℕ} 0 1 = cc in omega arith)
-placed-is Sound zero n (shown places states t) e = absurd (let z : _≡_ {A = ℕ} 0 1 = cc in omega arith)
-placed-is Sound zero n (none states) e = absurd (let z : _≡_ {A = ℕ} 0 1 = cc in omega arith)
-placed-is Sound zero n (larger states) e = absurd (let z : _≡_ {A = ℕ} 0 1 = cc in omega arith)
-
--- the strip of a tree that is shown stands at the front of out
-pub strip-first : (rule : List ℕ) (c P : ℕ) (ws out : List ℕ) {out′ : List ℕ} → out′ ≡ outOf rule c P (length ws) out
-    → early rule c P ws out ≡ nothing → (places states : ℕ) (t : Tree 2) → decidedOf rule c P ≡ shown places states t
-    → take (length (treeStrip (variablesOf rule) t)) out′ ≡ treeStrip (variablesOf rule) t
-unfolding outOf outAfter
-strip-first rule c P ws out eo e places states t f =
-    let s = treeStrip (variablesOf rule) t in rw eo (rw e (rw f (take-append-seam s (drop (length s) out))))
-
--- DEMANDS 2 AND 3, of what decide answers and leaves in out, and the place that it names
-pub claim : (rule : List ℕ) (c P : ℕ) (ws out : List ℕ) {x : Verdict} → x ≡ verdictOf rule c P (length ws) (length out)
-    → {out′ : List ℕ} → out′ ≡ outOf rule c P (length ws) out → Claim rule c P (length ws) (length out) x out′
-unfolding earlyRefusal verdictOf
-claim rule c P ws out ex eo = record {
-  outcome = λ e. decidedOf rule c P;
-  answers = λ e. decide-answers 2 (variablesOf rule) (recordsOf rule) c P (rule-accepted rule (accepted e) .records-accepted);
-  told = λ e. ex ∙ rw e;
-  shows = strip-first rule c P ws out eo;
-  names = λ k p e. place-told rule
-      (placed-is (ruleFault rule) (roomRefusal (variablesOf rule) (countOf rule) c P (length ws) (length out)) (variablesOf rule) (decidedOf rule c P)
-      (sym ex ∙ e));
-}
-  where
-    accepted : earlyRefusal rule c P (length ws) (length out) ≡ nothing → ruleFault rule ≡ Sound
-    accepted e = checked-free (ruleFault rule) _ e .0
+  -- DEMANDS 2 AND 3, of what decide answers and leaves in out, and the place that it names
+  pub claim : {x : Verdict} → x ≡ verdictOf rule c P (length ws) (length out) → {out′ : List ℕ} → out′ ≡ outOf rule c P (length ws) out
+      → DecideClaim rule c P (length ws) (length out) x out′
+  unfolding verdictOf
+  claim ex eo = record {
+    decided = λ e. record {
+      outcome = decidedOf rule c P;
+      answers = decide-answers 2 (variablesOf rule) (recordsOf rule) c P (rule-accepted rule (early-free e .0 .sound) .records-accepted);
+      told = ex ∙ rw e;
+      shows = strip-first eo e;
+    };
+    names = λ k p e. place-told rule (placed-is (sym ex ∙ e));
+  }

@@ -1,20 +1,24 @@
 // Decide: from the bytes of a rule strip to the bytes in out.
 ghost use mathlib.Core.Path.{_≡_};
 ghost use Prim.Native.Nat.{_≤_};
-ghost use lib.ListN.{length};
-ghost use Rattle.solver.specs.Solve.{outcomeOf, Ranked};
-ghost use Rattle.rule_strip.specs.RuleStrip.{AcceptedRule};
-ghost use Rattle.rules.specs.Room.{roomFor, cleared, roomRefusal, Roomy};
-ghost use Rattle.decide.specs.Decide.{decidedOf, tell, outAfter, Spacious, verdictOf, workspaceOf, outOf, Claim, ShowsShallow};
-use building::Ending;
+ghost use lib.ListN.{length, drop};
+ghost use Rattle.logic.specs.Decide.{report};
+ghost use Rattle.search.specs.Rounds.{answerOf, Ended};
+ghost use Rattle.rule_strip.specs.RuleStrip.{variablesOf};
+ghost use Rattle.tree_strip.specs.TreeStrip.{treeBytes};
+ghost use Rattle.rules.specs.Room.{roomOf, Workable};
+ghost use Rattle.decide.specs.Decide.{roomRefusal, decideRefusal, decidedOf, outcomeVerdict, outAfter, Spacious};
+ghost use Rattle.decide.specs.Decide.{verdictOf, workspaceOf, outOf, DecideClaim, ShowsShallow};
+use refusals::Refusal;
 use rule_strip::RuleCheck;
-use rules::decode::decode;
+use rules::build::Built;
 use search::Finding;
-use solver::Solution;
+use search::Found;
+
+pub mod numbers; // what C is told
 
 // Decide's answer: the tree shown in out, with its positions, the states of the last record and the strip's length; none or
-// larger, with the states; a refusal of the strip, 1 to 10, with its number and the bit place that it names; a refusal without a place,
-// 11 to 13; or refusal 14, with the record's number.
+// larger, with the states; or a refusal.
 pub enum Verdict {
     Shown {
         positions: u64,
@@ -23,110 +27,97 @@ pub enum Verdict {
     },
     None(u64),
     Larger(u64),
-    RefusedAt {
-        number: u64,
-        place: u64,
-    },
-    Refused(u64),
-    TooManyStates(u64),
+    Refused(Refusal),
 }
 
-// The refusals 11 to 13 of an accepted strip of m records over n variables, or 0.
-fn room_refusal(n: usize, m: usize, c: u64, p: u64, room: usize, outroom: usize) -> u64
+// The refusals 11 to 13 of an accepted strip of m records over n variables.
+fn room_refusal(n: usize, m: usize, c: u64, p: u64, room: usize, outroom: usize) -> Refusal
     requires { ⌜ (1 ≤ n) × (n ≤ 8) × (m ≤ 128) ⌝ }
     ensures { λ r. ⌜ r ≡ roomRefusal n m c p room outroom ⌝ }
 {
-    if 255 < p {
-        return 11;
+    let states = rules::room::ceiling_refusal(c);
+    if states != 0 {
+        return Refusal::Plain(states);
     }
-    let k = rules::room::work_refusal(n, m, c, room);
-    if k != 0 {
-        return k;
+    let places = rules::room::places_refusal(p);
+    if places != 0 {
+        return Refusal::Plain(places);
     }
-    if outroom < rules::room::strip_bytes(n, p as usize) {
-        return 13;
+    let work = rules::room::workspace_refusal(n, m, c as usize, room);
+    if work != 0 {
+        return Refusal::Plain(work);
     }
-    0
+    let short = rules::room::out_refusal(n, p as usize, outroom);
+    if short != 0 {
+        return Refusal::Plain(short);
+    }
+    Refusal::Nothing
 }
 
-// Build and search over the strip's own records; the workspace is cleared behind them.
-fn solve_rule(rule: &[u8], n: usize, m: usize, c: usize, p: u64, ws: &mut [u8]) -> Solution
-    requires { ⌜ AcceptedRule (now rule) n m ⌝ }
-    requires { ⌜ Roomy n m c (length (now ws)) ⌝ }
-    requires { ⌜ p ≤ 255 ⌝ }
-    ensures { λ r. ⌜ (outcomeOf r ≡ decidedOf (now (rule .entry)) c p) × Ranked r ⌝ }
-    ensures { λ r. ⌜ now (ws .exit) ≡ cleared (roomFor n m c) (now (ws .entry)) ⌝ }
+// The refusals that are tested before anything is built.
+fn decide_refusal(rule: &[u8], c: u64, p: u64, room: usize, outroom: usize) -> Refusal
+    ensures { λ r. ⌜ r ≡ decideRefusal (now (rule .entry)) c p room outroom ⌝ }
 {
-    let records = decode(rule, n, m);
-    let v = solver::solve(ws, records, m, rules::room::shape(n, c), p);
-    bits::clear(ws, rules::room::needed(n, m, c));
-    v
+    match rule_strip::check_rule(rule) {
+        RuleCheck::Refused { number, place } => Refusal::Placed { number, place },
+        RuleCheck::Accepted { variables, records } => {
+            room_refusal(variables, records, c, p, room, outroom)
+        }
+    }
 }
 
-// The answer that a solution stands for; the tree that it shows is written to the front of out.
-fn conclude(n: usize, v: Solution, out: &mut [u8]) -> Verdict
-    requires { ⌜ (n ≤ 8) × Ranked v × Spacious n (outcomeOf v) (length (now out)) ⌝ }
-    ensures { λ r. ⌜ r ≡ tell n (outcomeOf v) ⌝ }
-    ensures { λ _. ⌜ now (out .exit) ≡ outAfter n (outcomeOf v) (now (out .entry)) ⌝ }
+// The answer that a search over a machine of so many states stands for; the tree that it found is written to the front of out.
+pub fn conclude(n: usize, states: u64, f: Found, out: &mut [u8]) -> Verdict
+    requires { ⌜ (n ≤ 8) × Ended (answerOf f) f × Spacious n (report states (answerOf f)) (length (now out)) ⌝ }
+    ensures { λ r. ⌜ r ≡ outcomeVerdict n (report states (answerOf f)) ⌝ }
+    ensures { λ _. ⌜ now (out .exit) ≡ outAfter n (report states (answerOf f)) (now (out .entry)) ⌝ }
 {
-    let ending = v.ending;
-    let states = v.states;
-    match ending {
-        Ending::Over(r) => Verdict::TooManyStates(r as u64),
-        Ending::Ready => {
-            let f = v.found;
-            let finding = f.finding;
-            match finding {
-                Finding::None => Verdict::None(states as u64),
-                Finding::Larger => Verdict::Larger(states as u64),
-                Finding::Shown => {
-                    let positions = f.positions;
-                    let count = f.n;
-                    let label = f.label;
-                    let first = f.first;
-                    let second = f.second;
-                    let len = rules::room::strip_bytes(n, positions as usize);
-                    tree_strip::write::write_strip(
-                        &mut out[..len],
-                        n,
-                        &label,
-                        &first,
-                        &second,
-                        count,
-                        count - 1,
-                    );
-                    Verdict::Shown {
-                        positions,
-                        states: states as u64,
-                        length: len as u64,
-                    }
-                }
+    let finding = f.finding;
+    match finding {
+        Finding::None => Verdict::None(states),
+        Finding::Larger => Verdict::Larger(states),
+        Finding::Shown => {
+            let positions = f.positions;
+            let count = f.n;
+            let label = f.label;
+            let first = f.first;
+            let second = f.second;
+            let len = rules::room::strip_bytes(n, positions as usize);
+            tree_strip::write::write_strip(
+                &mut out[..len],
+                n,
+                &label,
+                &first,
+                &second,
+                count,
+                count - 1,
+            );
+            Verdict::Shown {
+                positions,
+                states,
+                length: len as u64,
             }
         }
     }
 }
 
-// Decide, of an accepted strip of m records over n variables.
-fn decide_accepted(
-    rule: &[u8],
-    n: usize,
-    m: usize,
-    c: u64,
-    p: u64,
-    ws: &mut [u8],
-    out: &mut [u8],
-) -> Verdict
-    requires { ⌜ AcceptedRule (now rule) n m ⌝ }
-    ensures { λ r. ⌜ r ≡ verdictOf (now (rule .entry)) c p (length (now (ws .entry))) (length (now (out .entry))) ⌝ }
-    ensures { λ _. ⌜ now (ws .exit) ≡ workspaceOf (now (rule .entry)) c p (now (ws .entry)) (length (now (out .entry))) ⌝ }
-    ensures { λ _. ⌜ now (out .exit) ≡ outOf (now (rule .entry)) c p (length (now (ws .entry))) (now (out .entry)) ⌝ }
+// The answer to an accepted strip, for which there is room: 14, or what is read off the last record's machine.
+fn decide_accepted(rule: &[u8], c: usize, p: u64, ws: &mut [u8], out: &mut [u8]) -> Verdict
+    requires { ⌜ Workable (now rule) c (length (now ws)) ⌝ }
+    requires { ⌜ (p ≤ 255) × (treeBytes (variablesOf (now rule)) p ≤ length (now out)) ⌝ }
+    ensures { λ r. ⌜ r ≡ outcomeVerdict (variablesOf (now (rule .entry))) (decidedOf (now (rule .entry)) c p) ⌝ }
+    ensures { λ _. ⌜ now (out .exit) ≡ outAfter (variablesOf (now (rule .entry))) (decidedOf (now (rule .entry)) c p) (now (out .entry)) ⌝ }
+    ensures { λ _. ⌜ drop (roomOf (now (rule .entry)) c) (now (ws .exit)) ≡ drop (roomOf (now (rule .entry)) c) (now (ws .entry)) ⌝ }
 {
-    let k = room_refusal(n, m, c, p, ws.len(), out.len());
-    if k != 0 {
-        return Verdict::Refused(k);
+    match rules::build::build_rule(rule, c, ws) {
+        Built::Over(r) => Verdict::Refused(Refusal::TooManyStates(r as u64)),
+        Built::Ready(k) => {
+            let n = rule_strip::variables_of(rule);
+            let last = rule_strip::count_of(rule) - 1;
+            let f = reading::earliest(ws, layout::shape_for(n, c), last, k, p);
+            conclude(n, k.count as u64, f, out)
+        }
     }
-    let v = solve_rule(rule, n, m, c as usize, p, ws);
-    conclude(n, v, out)
 }
 
 // Decide a rule with the state ceiling c and the place ceiling p: any bytes, any ceilings, any buffers.
@@ -134,19 +125,14 @@ pub fn decide(rule: &[u8], c: u64, p: u64, ws: &mut [u8], out: &mut [u8]) -> Ver
     ensures { λ r. ⌜ r ≡ verdictOf (now (rule .entry)) c p (length (now (ws .entry))) (length (now (out .entry))) ⌝ }
     ensures { λ _. ⌜ now (ws .exit) ≡ workspaceOf (now (rule .entry)) c p (now (ws .entry)) (length (now (out .entry))) ⌝ }
     ensures { λ _. ⌜ now (out .exit) ≡ outOf (now (rule .entry)) c p (length (now (ws .entry))) (now (out .entry)) ⌝ }
-    ensures { λ r. ⌜ Claim (now (rule .entry)) c p (length (now (ws .entry))) (length (now (out .entry))) r (now (out .exit)) ⌝ }
+    ensures { λ r. ⌜ DecideClaim (now (rule .entry)) c p (length (now (ws .entry))) (length (now (out .entry))) r (now (out .exit)) ⌝ }
     ensures { λ r. ⌜ ShowsShallow c r (now (out .exit)) ⌝ }
 {
-    match rule_strip::check_rule(rule) {
-        RuleCheck::Refused { number, place } => Verdict::RefusedAt { number, place },
-        RuleCheck::Accepted { variables, records } => decide_accepted(
-            rule,
-            variables,
-            records,
-            c,
-            p,
-            ws,
-            out,
-        ),
-    }
+    let refusal = decide_refusal(rule, c, p, ws.len(), out.len());
+    let Refusal::Nothing = refusal else {
+        return Verdict::Refused(refusal);
+    };
+    let v = decide_accepted(rule, c as usize, p, ws, out);
+    rules::build::clear_work(rule, c as usize, ws);
+    v
 }

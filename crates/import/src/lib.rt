@@ -9,6 +9,8 @@ ghost use Rattle.formulas.specs.Reading.{readingOf};
 ghost use Rattle.import.specs.Answers.{HeadingTold, Ends, FreePut, bodyOf, Blank, TextTold, importedOf, faultOf, Claimed};
 use phrases::Mark;
 
+pub mod numbers; // what C is told
+
 // What import answers: the variables and records of the rule and the length of its strip in bytes; or a refusal's number.
 pub enum Import {
     Written {

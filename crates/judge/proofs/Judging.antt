@@ -1,183 +1,135 @@
 -- From an accepted rule strip and an accepted tree strip to judge's answer, and its claim. Assumes nothing.
-use Prim.Native.Nat.{ℕ, zero, suc}
-use mathlib.Core.Path.{_≡_, refl, sym, ap, _∙_, subst}
+use Prim.Native.Nat.{ℕ, _-_}
+use mathlib.Core.Path.{_≡_, refl, sym, ap, _∙_}
 use mathlib.Core.Logic.{_⊎_, inl, inr, ⊎-elim}
-use mathlib.Core.Bool.{Bool, true, false, cond}
+use mathlib.Core.Bool.{Bool}
 use mathlib.Core.List.{List}
 use native.Mathlib.Omega.{arith}
-use borrow.Author.Tests.{eq-eqb, ne-eqb, eqb-true}
-use lib.Dec.{eqb, eqb·suc-zero}
 use lib.ListN.{length}
-use Rattle.logic.specs.Claims.{Judgement as Ruled, unbuilt, yes, no}
+use Rattle.logic.specs.Claims.{Judgement as Ruled, unbuilt, yes, no, FirstOver}
 use Rattle.logic.specs.Decide.{say, judgeOf}
 use Rattle.logic.proofs.Answers.{judge-judges, trimmed-iff}
-use Rattle.records.specs.declared.Decoded.{Decoded}
-use Rattle.building.specs.declared.Ending.the-variants.{Over, Ready}
-use Rattle.reading.specs.Reading.{HasTree}
-use Rattle.refinement.specs.Decode.{shapeOf}
-use Rattle.solver.specs.Solve.{judgementAfter, judgementOf, Judged}
-use Rattle.solver.specs.declared.Ruling.{Ruling}
-use Rattle.bits.specs.Bits.{field}
-use Rattle.bits.specs.declared.Fault.{Fault}
-use Rattle.bits.specs.declared.Fault.the-variants.{Sound, At}
-use Rattle.rule_strip.specs.RuleStrip.{variablesOf, countOf, recordsOf, ruleFault, AcceptedRule}
-use Rattle.tree_strip.specs.TreeStrip.{Parsed, parsed, refused, readTree, treeFault}
-use Rattle.tree_strip.specs.TreeAnswers.{answered, checkedTree}
-use Rattle.tree_strip.specs.declared.check.TreeCheck.the-variants.{Accepted as treeAccepted}
+use Rattle.logic.proofs.Builders.{judge-any}
+use Rattle.reading.specs.Reading.{Accepts}
+use Rattle.records.specs.declared.Summary.{Summary}
+use Rattle.bits.specs.declared.Fault.the-variants.{At}
+use Rattle.rule_strip.specs.RuleStrip.{variablesOf, countOf, recordsOf, ruleFault}
 use Rattle.rule_strip.proofs.RuleLaws.{rule-accepted}
 use Rattle.rule_strip.proofs.RulePlaces.{place-told}
-use Rattle.tree_strip.proofs.TreeLaws.{TreeFacts, tree-accepted, sound-read, facts-length, treeBytes-most}
+use Rattle.tree_strip.specs.TreeStrip.{readTree, treeFault}
 use Rattle.tree_strip.proofs.TreePlaces.{place-told as tree-told}
 use Rattle.tree_strip.proofs.TreeWalk.{facts-stand}
-use Rattle.rules.specs.Decoding.{DecodesTo}
-use Rattle.rules.specs.Refusal.{Refusal, nothing, checked, tested}
-use Rattle.rules.specs.Room.{roomFor, cleared, workRefusal, Roomy}
-use Rattle.judge.specs.Judge.{AcceptedTree, otherVariables, refusalBefore, tell, judgedOf, refusedOr, judgementFor, workspaceFor, JudgedTree, JudgeClaim}
+use Rattle.refusals.specs.Refusal.{answerUnless}
+use Rattle.refusals.specs.declared.Refusal.{Refusal}
+use Rattle.refusals.specs.declared.Refusal.the-variants.{Nothing, Placed, Plain, TooManyStates}
+use Rattle.refusals.proofs.Refusals.{checked-free, tested-free, unless-refused, checked-placed, tested-unplaced, nothing-unplaced}
+use Rattle.rules.specs.Building.{ruleShape, Decider}
+use Rattle.rules.specs.Room.{roomOf, cleared, ceilingRefusal, workspaceRefusal, Workable}
+use Rattle.rules.specs.Trees.{otherVariables, treeRefusal, AcceptedTree}
+use Rattle.rules.proofs.Rooms.{ceiling-free, workspace-free}
+use Rattle.rules.proofs.TreeRefusals.{tree-free, tree-facts}
+use Rattle.judge.specs.Judge.{judgeRefusal, judgedOf, rulingJudgement, judgementFor, workspaceFor, JudgeClaim}
 use Rattle.judge.specs.declared.Judgement.{Judgement}
-use Rattle.judge.specs.declared.Judgement.the-variants.{No, Yes, RefusedAt, Refused, TooManyStates}
-use Rattle.rules.proofs.Rules.{rule-decoded}
-use Rattle.rules.proofs.Refusals.{checked-free, tested-free}
-use Rattle.rules.proofs.Rooms.{work-free}
+use Rattle.judge.specs.declared.Judgement.the-variants.{Refused}
 
--- ---- what the check of the tree says
-pub check-readable : (s : List ℕ) {n N : ℕ} → checkedTree s ≡ treeAccepted n N → AcceptedTree s n
-check-readable s {n} {N} e = go (readTree s) refl e
-  where
-    go : (p : Parsed) → readTree s ≡ p → answered s p ≡ treeAccepted n N → AcceptedTree s n
-    go (refused k p) q f = absurd (let z : _≡_ {A = ℕ} 0 1 = cc in omega arith)
-    go (parsed t met rest) q f = record { tree = t; met = met; rest = rest; read = q; variables = cc }
+-- ---- the answer
+module _ {rule : List ℕ} {c room : ℕ} (w : Workable rule c room) {tree : List ℕ} (a : AcceptedTree tree (variablesOf rule)) where
+  is-judged : judgedOf rule c tree ≡ judgeOf (variablesOf rule) (recordsOf rule) c (a .tree)
+  unfolding judgedOf
+  is-judged = rw (a .read)
 
-readable-free : {s : List ℕ} {n : ℕ} → AcceptedTree s n → treeFault s ≡ Sound
-unfolding treeFault
-readable-free w = rw (w .read) refl
+  -- a record with too many states
+  pub rule-over : (r : ℕ) → FirstOver 2 (variablesOf rule) (recordsOf rule) c r → judgedOf rule c tree ≡ unbuilt r
+  rule-over r h =
+      is-judged ∙ ((judge-judges 2 (variablesOf rule) (recordsOf rule) c 0 (rule-accepted rule (w .sound) .records-accepted) (a .tree)) .unbuilt-is r) .1 h
 
--- its tree, in its place
-module _ {s : List ℕ} {n : ℕ} (w : AcceptedTree s n) where
-  readable-facts : TreeFacts s n (w .tree)
-  readable-facts = subst (λ (k : ℕ). TreeFacts s k (w .tree)) (w .variables) (tree-accepted s (w .tree) (w .met) (w .rest) (w .read) .1)
-
-  pub readable-tree : (c : ℕ) → HasTree s (shapeOf n c)
-  readable-tree c =
-      let f = readable-facts in
-      let l = facts-length s n (w .tree) f in
-      let b = treeBytes-most n _ (f .at-most) (f .few) in
-      record { short = omega arith; tree = w .tree; proper = f .proper; stands = facts-stand s n (w .tree) f }
-
--- ---- the answer of a ruling
-module _ (v : Ruling) where
-  pub ruled-over : (r : ℕ) → v .ending ≡ Over r → TooManyStates r ≡ tell (judgementOf v)
-  unfolding judgementAfter
-  ruled-over r h = rw h
-
-  pub ruled-yes : v .ending ≡ Ready → v .yes ≡ true → Yes ≡ tell (judgementOf v)
-  unfolding judgementAfter say
-  ruled-yes h e = rw (h, e)
-
-  pub ruled-no : v .ending ≡ Ready → v .yes ≡ false → No ≡ tell (judgementOf v)
-  unfolding judgementAfter say
-  ruled-no h e = rw (h, e)
-
-pub rule-judged : {rule tree : List ℕ} {n m : ℕ} → AcceptedRule rule n m → (c : ℕ) (xs : List Decoded) → DecodesTo rule m xs → AcceptedTree tree n
-    → (v : Ruling) → Judged xs m (shapeOf n c) tree v → judgementOf v ≡ judgedOf rule c tree
-unfolding judgedOf
-rule-judged {rule} {tree} {n} accepted c xs dec w v g =
-    let f = readable-facts w in
-    rw (w .read) (g (recordsOf rule) (rule-decoded accepted xs dec) (w .tree) (f .proper) (f .trimmed) (facts-stand tree n (w .tree) f)
-    ∙ (rw (accepted .variables)))
+  -- what the last record's machine says of the tree
+  pub rule-judged : {k : Summary} {ws : List ℕ} → Decider rule c k ws → (b : Bool) → Accepts ws (ruleShape rule c) (countOf rule - 1) k tree b
+      → say b ≡ judgedOf rule c tree
+  rule-judged d b accepts =
+      let n = variablesOf rule in
+      let f = tree-facts a in
+      let h = d .readable in
+      let A = (trimmed-iff n (a .tree) (f .proper)) .0 (f .trimmed) in
+      ap say (accepts (h .machine) (a .tree) (h .stored) (f .proper) (facts-stand tree n (a .tree) f))
+      ∙ judge-any 2 n (recordsOf rule) (rule-accepted rule (w .sound) .records-accepted) c (d .roomy) _ (d .decides) (a .tree) (A .0) (A .1)
+      ∙ sym is-judged
 
 -- ---- the end, by the refusals
 module _ (rule : List ℕ) (c : ℕ) (ws tree : List ℕ) where
   abbrev pub Ends : Judgement → List ℕ → Type 0
   Ends v ws′ = (v ≡ judgementFor rule c (length ws) tree) × (ws′ ≡ workspaceFor rule c ws tree)
 
-  abbrev before : Refusal
-  before = refusalBefore rule c (length ws) tree
+  abbrev pub early : Refusal
+  early = judgeRefusal rule c (length ws) tree
 
-  -- a rule strip that is turned down
-  pub ends-refused : (k p : ℕ) → ruleFault rule ≡ At k p → Ends (RefusedAt k p) ws
-  unfolding judgementFor workspaceFor refusalBefore
-  ends-refused k p e = rw e (refl, refl)
+  -- it is refused
+  pub ends-refused : {r : Refusal} → r ≡ early → (r ≡ Nothing → ⊥) → Ends (Refused r) ws
+  unfolding judgementFor workspaceFor
+  ends-refused {r} e h = rw (← e) (sym (unless-refused r _ _ h), sym (unless-refused r _ _ h))
 
-  module _ {n m : ℕ} (accepted : AcceptedRule rule n m) {k : ℕ} (ek : k ≡ workRefusal n m c (length ws)) where
-    after-rule : before ≡ tested k (checked (treeFault tree) (tested (otherVariables tree n) nothing))
-    unfolding refusalBefore
-    after-rule = rw (accepted .unrefused, ← accepted .variables, ← accepted .count, ← ek) refl
+  -- it goes on
+  module _ (e : early ≡ Nothing) where
+    pub early-free : Workable rule c (length ws) × AcceptedTree tree (variablesOf rule)
+    unfolding judgeRefusal
+    early-free =
+        let s = checked-free (ruleFault rule) _ e in
+        let a = tested-free (ceilingRefusal c) _ (s .1) in
+        let b = tested-free (workspaceRefusal (variablesOf rule) (countOf rule) c (length ws)) _ (a .1) in
+        let w = ceiling-free c (a .0) in (
+          record {
+            sound = s .0;
+            some-state = w .0;
+            few-states = w .1;
+            long = workspace-free (variablesOf rule) (countOf rule) c (length ws) (b .0);
+          },
+          tree-free tree (variablesOf rule) (b .1),
+        )
 
-    -- want of room, or a ceiling out of range
-    pub ends-room : (k ≡ 0 → ⊥) → Ends (Refused k) ws
+    pub ends-told : {x : Judgement} → x ≡ rulingJudgement (judgedOf rule c tree) → {ws′ : List ℕ} → ws′ ≡ cleared (roomOf rule c) ws → Ends x ws′
     unfolding judgementFor workspaceFor
-    ends-room z = rw (after-rule, ne-eqb k 0 z) (refl, refl)
+    ends-told ex ew = rw e (ex, ew)
 
-    module _ (z : k ≡ 0) where
-      late : before ≡ checked (treeFault tree) (tested (otherVariables tree n) nothing)
-      late = after-rule ∙ rw z refl
+  -- a refusal that names a place is one of the strips'
+  placed-is : {k p : ℕ} → judgementFor rule c (length ws) tree ≡ Refused (Placed k p) → (ruleFault rule ≡ At k p) ⊎ (treeFault tree ≡ At k p)
+  unfolding judgementFor judgeRefusal rulingJudgement treeRefusal
+  placed-is {k} {p} e =
+      ⊎-elim inl
+      (λ f. ⊎-elim inr (λ g. absurd (nothing-unplaced (tested-unplaced (otherVariables tree (variablesOf rule)) _ g)))
+      (checked-placed (treeFault tree) _
+      (tested-unplaced (workspaceRefusal (variablesOf rule) (countOf rule) c (length ws)) _ (tested-unplaced (ceilingRefusal c) _ f))))
+      (checked-placed (ruleFault rule) _ (go early (judgedOf rule c tree) e))
+    where
+      go : (r : Refusal) (o : Ruled) → answerUnless Refused r (rulingJudgement o) ≡ Refused (Placed k p) → r ≡ Placed k p
+      go (Placed l q) o f = cc
+      go (Plain l) o f = cc
+      go (TooManyStates r) o f = cc
+      go Nothing (unbuilt r) f = absurd (let z : _≡_ {A = ℕ} 0 1 = cc in omega arith)
+      go Nothing yes f = absurd (let z : _≡_ {A = ℕ} 0 1 = cc in omega arith)
+      go Nothing no f = absurd (let z : _≡_ {A = ℕ} 0 1 = cc in omega arith)
 
-      pub room-known : Roomy n m c (length ws)
-      room-known = work-free n m c (length ws) (sym ek ∙ z)
-
-      -- a tree strip that is turned down
-      pub ends-tree : {i p : ℕ} → treeFault tree ≡ At i p → Ends (RefusedAt i p) ws
-      unfolding judgementFor workspaceFor
-      ends-tree e = rw (late, e) (refl, refl)
-
-      -- another number of variables
-      pub ends-other : {i : ℕ} → AcceptedTree tree i → (i ≡ n → ⊥) → Ends (Refused 22) ws
-      unfolding judgementFor workspaceFor
-      ends-other w y = rw (late, readable-free w, ne-eqb (field tree 4 4) n (λ q. y (sym (w .variables) ∙ q))) (refl, refl)
-
-      pub ends-told : AcceptedTree tree n → (v : Ruling) → judgementOf v ≡ judgedOf rule c tree → {x : Judgement} → x ≡ tell (judgementOf v)
-          → {ws′ : List ℕ} → ws′ ≡ cleared (roomFor n m c) ws → Ends x ws′
-      unfolding judgementFor workspaceFor
-      ends-told w v e ex ew =
-          let y : before ≡ nothing = late ∙ rw (readable-free w, eq-eqb (field tree 4 4) n (w .variables)) refl in
-          rw y (ex ∙ ap tell e, ew ∙ rw (accepted .variables, accepted .count))
-
--- a refusal that names a place is one of the strips'
-module _ {k p : ℕ} where
-  placed-is : (f : Fault) (j : ℕ) (g : Fault) (i : ℕ) (v : Ruled)
-      → refusedOr (checked f (tested j (checked g (tested i nothing)))) (tell v) ≡ RefusedAt k p → (f ≡ At k p) ⊎ (g ≡ At k p)
-  placed-is (At l q) j g i v e = inl cc
-  placed-is Sound zero (At l q) i v e = inr cc
-  placed-is Sound (suc j) g i v e =
-      absurd (let f : Refused (suc j) ≡ RefusedAt k p = rw eqb·suc-zero at e in let z : _≡_ {A = ℕ} 0 1 = cc in omega arith)
-  placed-is Sound zero Sound (suc i) v e =
-      absurd (let f : Refused (suc i) ≡ RefusedAt k p = rw eqb·suc-zero at e in let z : _≡_ {A = ℕ} 0 1 = cc in omega arith)
-  placed-is Sound zero Sound zero (unbuilt r) e = absurd (let z : _≡_ {A = ℕ} 0 1 = cc in omega arith)
-  placed-is Sound zero Sound zero yes e = absurd (let z : _≡_ {A = ℕ} 0 1 = cc in omega arith)
-  placed-is Sound zero Sound zero no e = absurd (let z : _≡_ {A = ℕ} 0 1 = cc in omega arith)
-
--- YES OR NO AGREES WITH THE MEANING, and a place that is named is where a strip offends
-pub claim : (rule : List ℕ) (c : ℕ) (ws tree : List ℕ) {x : Judgement} → x ≡ judgementFor rule c (length ws) tree → JudgeClaim rule c (length ws) tree x
-unfolding refusalBefore judgementFor judgedOf
-claim rule c ws tree {x} ex = record {
-  judged = λ e. go e;
-  names = λ k p e. ⊎-elim (λ f. inl (place-told rule f)) (λ f. inr (tree-told tree k p f))
-      (placed-is (ruleFault rule) (workRefusal (variablesOf rule) (countOf rule) c (length ws)) (treeFault tree)
-      (otherVariables tree (variablesOf rule)) (judgedOf rule c tree) (sym ex ∙ e));
-}
-  where
-    same-variables : (n : ℕ) (v : Bool) → eqb (field tree 4 4) n ≡ v → _≡_ {A = ℕ} (cond v 0 22) 0 → field tree 4 4 ≡ n
-    same-variables n true q f = eqb-true (field tree 4 4) n q
-    same-variables n false q f = absurd (omega arith)
-
-    go : refusalBefore rule c (length ws) tree ≡ nothing → JudgedTree rule c tree x
-    go e =
-        let n = variablesOf rule in
-        let a = checked-free (ruleFault rule) _ e in
-        let b = tested-free (workRefusal n (countOf rule) c (length ws)) _ (a .1) in
-        let d = checked-free (treeFault tree) _ (b .1) in
-        let v = tested-free (otherVariables tree n) _ (d .1) in
-        let r = sound-read tree (d .0) in
-        let f : TreeFacts tree n (r .0) =
-        subst (λ (k : ℕ). TreeFacts tree k (r .0)) (same-variables n (eqb (field tree 4 4) n) refl (v .0))
-        (tree-accepted tree (r .0) (r .1) (r .2) (r .3) .1) in
+  -- YES OR NO AGREES WITH THE MEANING, and a place that is named is where a strip offends
+  pub claim : {x : Judgement} → x ≡ judgementFor rule c (length ws) tree → JudgeClaim rule c (length ws) tree x
+  unfolding judgementFor judgedOf
+  claim ex = record {
+    judged = λ e.
+        let w = early-free e in
+        let a = w .1 in
+        let f = tree-facts a in
         record {
-          tree = r .0;
-          met = r .1;
-          rest = r .2;
-          read = r .3;
-          assigned = (trimmed-iff n (r .0) (f .proper)) .0 (f .trimmed);
-          judgement = judgeOf n (recordsOf rule) c (r .0);
-          judges = judge-judges 2 n (recordsOf rule) c 0 (rule-accepted rule (a .0) .records-accepted) (r .0);
-          told = ex ∙ rw (e, r .3);
-        }
+          tree = a .tree;
+          met = a .met;
+          rest = a .rest;
+          read = a .read;
+          assigned = (trimmed-iff (variablesOf rule) (a .tree) (f .proper)) .0 (f .trimmed);
+          judgement = judgeOf (variablesOf rule) (recordsOf rule) c (a .tree);
+          judges = judge-judges 2 (variablesOf rule) (recordsOf rule) c 0 (rule-accepted rule (w .0 .sound) .records-accepted) (a .tree);
+          told = ex ∙ rw (e, a .read);
+        };
+    names = λ k p e. ⊎-elim (λ f. inl (place-told rule f)) (λ f. inr (tree-told tree k p f)) (placed-is (sym ex ∙ e));
+  }
+
+  -- all that judge promises follows from how it ends
+  pub promised : {x : Judgement} {ws′ : List ℕ} → Ends x ws′
+      → (x ≡ judgementFor rule c (length ws) tree) × ((ws′ ≡ workspaceFor rule c ws tree) × JudgeClaim rule c (length ws) tree x)
+  promised e = (e .0, (e .1, claim (e .0)))

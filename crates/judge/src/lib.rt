@@ -1,77 +1,58 @@
 // Judge: whether the sets of a tree satisfy a rule.
 ghost use mathlib.Core.Path.{_≡_};
-ghost use lib.ListN.{length};
-ghost use Rattle.solver.specs.Solve.{judgementOf};
-ghost use Rattle.rule_strip.specs.RuleStrip.{AcceptedRule};
-ghost use Rattle.rules.specs.Room.{roomFor, cleared, Roomy};
-ghost use Rattle.judge.specs.Judge.{AcceptedTree, judgedOf, tell, judgementFor, workspaceFor, JudgeClaim};
-use building::Ending;
+ghost use lib.ListN.{length, drop};
+ghost use Rattle.rule_strip.specs.RuleStrip.{variablesOf};
+ghost use Rattle.rules.specs.Room.{roomOf, Workable};
+ghost use Rattle.rules.specs.Trees.{AcceptedTree};
+ghost use Rattle.judge.specs.Judge.{judgeRefusal, judgedOf, rulingJudgement, judgementFor, workspaceFor, JudgeClaim};
+use refusals::Refusal;
 use rule_strip::RuleCheck;
-use rules::decode::decode;
-use solver::Ruling;
-use tree_strip::check::TreeCheck;
+use rules::build::Built;
 
-// Judge's answer: no or yes; a strip's refusal, 1 to 10 or 15 to 21, with its number and the bit place that it names; a refusal without a
-// place, 11, 12 or 22; or refusal 14, with the record's number.
+pub mod numbers; // what C is told
+
+// Judge's answer: no or yes, or a refusal.
 pub enum Judgement {
     No,
     Yes,
-    RefusedAt { number: u64, place: u64 },
-    Refused(u64),
-    TooManyStates(u64),
+    Refused(Refusal),
 }
 
-// The answer that a ruling stands for.
-fn ruled(v: Ruling) -> Judgement
-    ensures { λ r. ⌜ r ≡ tell (judgementOf v) ⌝ }
+// The refusals that are tested before anything is built.
+fn judge_refusal(rule: &[u8], c: u64, room: usize, tree: &[u8]) -> Refusal
+    ensures { λ r. ⌜ r ≡ judgeRefusal (now (rule .entry)) c room (now (tree .entry)) ⌝ }
 {
-    let ending = v.ending;
-    let yes = v.yes;
-    match ending {
-        Ending::Over(r) => Judgement::TooManyStates(r as u64),
-        Ending::Ready => {
-            if yes {
-                return Judgement::Yes;
+    match rule_strip::check_rule(rule) {
+        RuleCheck::Refused { number, place } => Refusal::Placed { number, place },
+        RuleCheck::Accepted { variables, records } => {
+            let states = rules::room::ceiling_refusal(c);
+            if states != 0 {
+                return Refusal::Plain(states);
             }
-            Judgement::No
+            let work = rules::room::workspace_refusal(variables, records, c as usize, room);
+            if work != 0 {
+                return Refusal::Plain(work);
+            }
+            rules::trees::tree_refusal(tree, variables)
         }
     }
 }
 
-// Build over the strip's own records, and the last record's machine run on the tree; the workspace is cleared behind them.
-fn judge_rule(rule: &[u8], n: usize, m: usize, c: usize, ws: &mut [u8], tree: &[u8]) -> Ruling
-    requires { ⌜ AcceptedRule (now rule) n m ⌝ }
-    requires { ⌜ Roomy n m c (length (now ws)) ⌝ }
-    requires { ⌜ AcceptedTree (now tree) n ⌝ }
-    ensures { λ r. ⌜ judgementOf r ≡ judgedOf (now (rule .entry)) c (now (tree .entry)) ⌝ }
-    ensures { λ _. ⌜ now (ws .exit) ≡ cleared (roomFor n m c) (now (ws .entry)) ⌝ }
+// The answer to an accepted rule strip, for which there is room, and an accepted tree: 14, or whether the last record's machine accepts it.
+fn judge_accepted(rule: &[u8], c: usize, ws: &mut [u8], tree: &[u8]) -> Judgement
+    requires { ⌜ Workable (now rule) c (length (now ws)) ⌝ }
+    requires { ⌜ AcceptedTree (now tree) (variablesOf (now rule)) ⌝ }
+    ensures { λ r. ⌜ r ≡ rulingJudgement (judgedOf (now (rule .entry)) c (now (tree .entry))) ⌝ }
+    ensures { λ _. ⌜ drop (roomOf (now (rule .entry)) c) (now (ws .exit)) ≡ drop (roomOf (now (rule .entry)) c) (now (ws .entry)) ⌝ }
 {
-    let records = decode(rule, n, m);
-    let v = solver::judge(ws, records, m, rules::room::shape(n, c), tree);
-    bits::clear(ws, rules::room::needed(n, m, c));
-    v
-}
-
-// Judge, of an accepted rule strip of m records over n variables.
-fn judge_accepted(rule: &[u8], n: usize, m: usize, c: u64, ws: &mut [u8], tree: &[u8]) -> Judgement
-    requires { ⌜ AcceptedRule (now rule) n m ⌝ }
-    ensures { λ r. ⌜ r ≡ judgementFor (now (rule .entry)) c (length (now (ws .entry))) (now (tree .entry)) ⌝ }
-    ensures { λ _. ⌜ now (ws .exit) ≡ workspaceFor (now (rule .entry)) c (now (ws .entry)) (now (tree .entry)) ⌝ }
-{
-    let k = rules::room::work_refusal(n, m, c, ws.len());
-    if k != 0 {
-        return Judgement::Refused(k);
-    }
-    match tree_strip::check::check_tree(tree) {
-        TreeCheck::Refused { number, place } => Judgement::RefusedAt { number, place },
-        TreeCheck::Accepted {
-            variables,
-            positions: _,
-        } => {
-            if variables != n {
-                return Judgement::Refused(22);
+    match rules::build::build_rule(rule, c, ws) {
+        Built::Over(r) => Judgement::Refused(Refusal::TooManyStates(r as u64)),
+        Built::Ready(k) => {
+            let s = layout::shape_for(rule_strip::variables_of(rule), c);
+            if reading::accepted(ws, s, rule_strip::count_of(rule) - 1, k, tree) {
+                return Judgement::Yes;
             }
-            ruled(judge_rule(rule, n, m, c as usize, ws, tree))
+            Judgement::No
         }
     }
 }
@@ -82,15 +63,11 @@ pub fn judge(rule: &[u8], c: u64, ws: &mut [u8], tree: &[u8]) -> Judgement
     ensures { λ _. ⌜ now (ws .exit) ≡ workspaceFor (now (rule .entry)) c (now (ws .entry)) (now (tree .entry)) ⌝ }
     ensures { λ r. ⌜ JudgeClaim (now (rule .entry)) c (length (now (ws .entry))) (now (tree .entry)) r ⌝ }
 {
-    match rule_strip::check_rule(rule) {
-        RuleCheck::Refused { number, place } => Judgement::RefusedAt { number, place },
-        RuleCheck::Accepted { variables, records } => judge_accepted(
-            rule,
-            variables,
-            records,
-            c,
-            ws,
-            tree,
-        ),
-    }
+    let refusal = judge_refusal(rule, c, ws.len(), tree);
+    let Refusal::Nothing = refusal else {
+        return Judgement::Refused(refusal);
+    };
+    let v = judge_accepted(rule, c as usize, ws, tree);
+    rules::build::clear_work(rule, c as usize, ws);
+    v
 }

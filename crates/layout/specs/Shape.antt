@@ -14,6 +14,10 @@ pub record Shaped (s : Shape) : Type 0 where
   pub ceiling : s .ceiling ≤ 64
   pub branches : s .branches ≡ 2
 
+-- the shape of tables for n variables and state ceiling c
+abbrev pub shapeOf : ℕ → ℕ → Shape
+shapeOf n c = record { variables = n; ceiling = c; branches = 2 }
+
 -- the number of labels
 abbrev pub labelsIn : Shape → ℕ
 labelsIn s = 2 ^ s .variables

@@ -2,13 +2,24 @@
 ghost use mathlib.Core.Path.{_≡_};
 ghost use Prim.Native.Nat.{_≤_, _<_};
 ghost use mathlib.Core.List.{[], _∷_};
-ghost use Rattle.layout.specs.Shape.{Shaped, labelsIn, placeIn, shareOf, shareAt};
+ghost use Rattle.layout.specs.Shape.{Shaped, shapeOf, labelsIn, placeIn, shareOf, shareAt};
 
 // What the tables of a rule have in common: the number of variables, the state ceiling, and the number of branches of a node.
 pub struct Shape {
     pub variables: usize,
     pub ceiling: usize,
     pub branches: usize,
+}
+
+// The shape of the tables for n variables and the state ceiling c.
+pub fn shape_for(n: usize, c: usize) -> Shape
+    ensures { λ s. ⌜ s ≡ shapeOf n c ⌝ }
+{
+    Shape {
+        variables: n,
+        ceiling: c,
+        branches: 2,
+    }
 }
 
 // The number of labels.

@@ -1,3 +1,4 @@
 pub mod Machine
 pub mod Complement
 pub mod Rule
+pub mod Decode

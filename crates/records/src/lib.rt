@@ -1,5 +1,6 @@
 // The machine of one record, from what is kept of its parts' machines, in the record's share of the workspace.
 mod complement; // the machine of "not" from its part's
+pub mod decode; // a rule's record, as it is taken here
 
 ghost use mathlib.Core.Path.{_≡_};
 ghost use Prim.Native.Nat.{_≤_, _<_};

@@ -14,7 +14,7 @@ use Rattle.logic.proofs.Two.{two-branches, all-elem}
 use Rattle.logic.proofs.Builders.{of-agrees, of-subset, of-singleton, of-successor, of-root}
 use Rattle.table.specs.Succ.{tabled, ruleAt, subsetRule, singleRule, child1Rule, child2Rule, rootRule}
 use Rattle.table.proofs.Masks.{rule-bits}
-use Rattle.refinement.specs.Decode.{weight}
+use Rattle.records.specs.Decode.{weight}
 use Rattle.refinement.proofs.Weights.{bit-is}
 
 abbrev Rule : Type 0

@@ -1,6 +1,6 @@
 -- An accepted rule's records, decoded, are what the builder asks for. Assumes nothing.
 use Rattle.words.proofs.Vocabulary.{ℕ, _≤_, _<_, _-_, suc, zero, Bool, true, false, cond, refl, List, eqb, T, length, getD, pow-mono, arith}
-use Rattle.layout.specs.Shape.{Shaped, shareAt}
+use Rattle.layout.specs.Shape.{Shaped, shareAt, shapeOf}
 use Rattle.layout.proofs.Places.{share-next}
 use Rattle.logic.specs.Rule.{Record, noRecord, good, Accepted}
 use Rattle.logic.proofs.Rules.{good-here}
@@ -8,7 +8,7 @@ use Rattle.records.specs.Rule.{OfParts}
 use Rattle.building.specs.Build.{Buildable}
 use Rattle.records.specs.declared.Decoded.{Decoded}
 use Rattle.table.proofs.Labels.{bit-of}
-use Rattle.refinement.specs.Decode.{weight, shapeOf, decodedOf}
+use Rattle.records.specs.Decode.{weight, decodedOf}
 use Rattle.refinement.proofs.Upto.{lt-first, lt-both}
 
 abbrev Before : ℕ → Decoded → Type 0

@@ -2,7 +2,7 @@
 -- more than c states. Assumes nothing.
 use Rattle.words.proofs.Vocabulary.{ℕ, _≤_, _<_, _+_, _*_, suc, _%_, _^_, _/_, Bool, _||_, _&&_, not, _≡_, _∙_, refl, sym, ap, ap₂, _↔_, List, [], _∷_}
 use Rattle.words.proofs.Vocabulary.{some, Option, none, lt-ltb, ltb, length, getD, arith}
-use Rattle.layout.specs.Shape.{Shaped, Each, nil, cons}
+use Rattle.layout.specs.Shape.{Shaped, Each, nil, cons, shapeOf}
 use Rattle.layout.proofs.Places.{two-of}
 use Rattle.logic.specs.Meaning.{Formula, negation, disjunction, conjunction, exists as someF}
 use Rattle.logic.specs.Machine.{Machine, complement, product, Simulates}
@@ -26,7 +26,7 @@ use Rattle.records.specs.declared.Decoded.{Decoded}
 use Rattle.exploring.proofs.Found.{Codes, Found, explore-found, explore-many, explore-closed}
 use Rattle.exploring.proofs.Place.{place-own}
 use Rattle.words.proofs.WordLaws.{word-mem}
-use Rattle.refinement.specs.Decode.{weight, shapeOf}
+use Rattle.records.specs.Decode.{weight}
 use Rattle.refinement.proofs.Sets.{of-sets}
 
 -- the machine over codes of a record of kind k

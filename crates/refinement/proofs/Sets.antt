@@ -23,7 +23,7 @@ use Rattle.words.proofs.Any.{or-cases, and-both, bool-ext, any-true, any-in}
 use Rattle.table.proofs.Sets.{Picks, nil, cons, choice-true, choice-in, exists-below, closing-same}
 use Rattle.table.proofs.Labels.{bit-of}
 use Rattle.words.proofs.WordLaws.{mem-one, mem-or, word-mem, word-lt, word-ext}
-use Rattle.refinement.specs.Decode.{weight}
+use Rattle.records.specs.Decode.{weight}
 use Rattle.refinement.proofs.Weights.{put-off, put-on}
 
 -- over the part's machine, of m states

@@ -1,29 +1,21 @@
--- The builder's outcome for all records of a rule, and decide's and judge's answers from it.
--- Assumes nothing.
-use Rattle.words.proofs.Vocabulary.{ℕ, _≤_, _<_, _+_, suc, zero, _^_, Bool, true, false, cond, _&&_, _≡_, _∙_, refl, sym, ap, subst, _↔_, List, [], _∷_, _++_}
+-- The builder's outcome for all records of a rule: refusal 14, or the machine of the last one. Assumes nothing.
+use Rattle.words.proofs.Vocabulary.{ℕ, _≤_, _<_, _+_, suc, zero, Bool, true, false, cond, _&&_, _≡_, _∙_, refl, sym, ap, subst, _↔_, List, [], _∷_, _++_}
 use Rattle.words.proofs.Vocabulary.{some, Option, none, eqb, ltb, T, ltb→lt, length, getD, length-append, decLt, not-suc-le-zero, arith}
-use Rattle.refinement.specs.Decode.{weight, shapeOf, decodedOf}
-use Rattle.layout.specs.Shape.{Shaped}
-use Rattle.logic.specs.Meaning.{Branch, Assignment, Formula, successor, root}
-use Rattle.logic.specs.Tree.{Tree, TreeOf}
+use Rattle.layout.specs.Shape.{Shaped, shapeOf}
+use Rattle.records.specs.Decode.{weight, decodedOf}
+use Rattle.logic.specs.Meaning.{Branch, Formula, successor, root}
 use Rattle.logic.specs.Rule.{noRecord, Record, formulaOf, formulaAt, extend, lastOf, good, successorAt, Accepted}
 use Rattle.logic.specs.Reach.{elem}
 use Rattle.logic.specs.ReachedRecords.{itself, named, namesOf, namesIn, ReachedRecord, isReached}
-use Rattle.logic.specs.Machine.{run}
-use Rattle.logic.specs.Search.{search}
-use Rattle.logic.specs.Alike.{Bounded}
 use Rattle.logic.specs.Two.{one, two}
-use Rattle.logic.specs.Claims.{refused14, unbuilt, Roomy, statesAt, FirstOver}
-use Rattle.logic.specs.Decide.{report, decideOf, say, judgeOf}
+use Rattle.logic.specs.Claims.{Roomy, statesAt, FirstOver}
 use Rattle.logic.proofs.Branches.{branch-same}
 use Rattle.logic.proofs.Connectives.{and-iff}
 use Rattle.logic.proofs.Tables.{Valid}
 use Rattle.logic.proofs.Reach.{elem-first, elem-second}
 use Rattle.logic.proofs.ReachedRecords.{reached-cong}
 use Rattle.logic.proofs.Rules.{record-valid, record-formula, good-here, rule-earlier, rule-reached, reached-within, getD-snoc}
-use Rattle.logic.proofs.Answers.{decide-answers, judge-judges}
-use Rattle.logic.proofs.Builders.{states-any, over-index, decide-any, judge-any}
-use Rattle.words.specs.Word.{mem}
+use Rattle.logic.proofs.Builders.{states-any, over-index}
 use Rattle.table.specs.Succ.{startCode, kindCode}
 use Rattle.records.specs.Rule.{Mach, noMach, machOf, machineOf, noDecoded}
 use Rattle.records.specs.declared.Decoded.{Decoded}
@@ -191,37 +183,19 @@ module _ (n c : ℕ) (sh : Shaped (shapeOf n c)) (rs : List Record) (acc : Accep
       go (built ns) w true e = next-linked m h ns w (subst T (sym e) tt)
       go (built ns) w false e = passed-linked m h ns w (λ u. subst T e u)
 
-  -- and so decide's and judge's answers come from it: from a record with too many states
-  first-over : (r : ℕ) → upto xs used (shapeOf n c) (length rs) ≡ over r → FirstOver 2 n rs c r
+  -- refusal 14 names its first record with too many states
+  pub first-over : (r : ℕ) → upto xs used (shapeOf n c) (length rs) ≡ over r → FirstOver 2 n rs c r
   unfolding Linked
   first-over r e = subst (Linked (length rs)) e (linked (length rs) (omega arith))
 
-  pub decide-over : (P r : ℕ) → upto xs used (shapeOf n c) (length rs) ≡ over r → decideOf 2 n rs c P ≡ refused14 r
-  decide-over P r e = ((decide-answers 2 n rs c P acc) .refused-is r) .1 (first-over r e)
-
-  pub judge-over : (t : Tree 2) (r : ℕ) → upto xs used (shapeOf n c) (length rs) ≡ over r → judgeOf n rs c t ≡ unbuilt r
-  judge-over t r e = ((judge-judges 2 n rs c 0 acc t) .unbuilt-is r) .1 (first-over r e)
-
-  -- or from the last record's machine
+  -- and else the last record's machine is the rule's
   module _ (ms : List Mach) (e : upto xs used (shapeOf n c) (length rs) ≡ built ms) where
-    abbrev m : Mach
-    m = getD ms (lastOf rs) noMach
-
     all-good : (r : ℕ) → r < length rs → T (used r) → GoodAt r (getD ms r noMach)
     unfolding Linked
     all-good = subst (Linked (length rs)) e (linked (length rs) (omega arith)) .1
 
-    last-good : GoodAt (lastOf rs) m
+    pub last-good : GoodAt (lastOf rs) (getD ms (lastOf rs) noMach)
     last-good = all-good (lastOf rs) (omega (arith, acc .0)) ((used-iff (lastOf rs)) .1 itself)
 
-    roomy : Roomy 2 n rs c
+    pub roomy : Roomy 2 n rs c
     roomy r u = few-states (length rs) ms (omega arith) all-good r (reached-within 2 n rs acc r u) u
-
-    pub bounded-built : Bounded n (length (m .codes)) (machOf m)
-    bounded-built = last-good .full .0
-
-    pub decide-built : (P : ℕ) → report (length (m .codes)) (search (2 ^ n) (record { count = length (m .codes); machine = machOf m }) P) ≡ decideOf 2 n rs c P
-    decide-built P = decide-any 2 n rs acc c P roomy (machOf m) (last-good .machine) (length (m .codes)) (last-good .full)
-
-    pub judge-built : (t : Tree 2) (A : Assignment 2) → TreeOf n A t → say (mem (run (machOf m) t) (m .accept)) ≡ judgeOf n rs c t
-    judge-built = judge-any 2 n rs acc c roomy (machOf m) (last-good .machine)

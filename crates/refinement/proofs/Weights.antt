@@ -2,7 +2,7 @@
 -- Assumes nothing.
 use Rattle.words.proofs.Vocabulary.{ℕ, _+_, _-_, _*_, suc, _%_, zero, _^_, _/_, Bool, true, false, _≡_, _∙_, sym, ap, ap₂, mod-mul, eqb, pow-pos}
 use Rattle.words.proofs.Vocabulary.{pow-suc, div-div-eq-div-mul, mul-assoc, arith}
-use Rattle.refinement.specs.Decode.{weight}
+use Rattle.records.specs.Decode.{weight}
 use Rattle.logic.specs.Tree.{bit}
 use Rattle.logic.specs.Machine.{bitOf, setLow, withBit}
 use Rattle.logic.proofs.Bits.{low-shift}

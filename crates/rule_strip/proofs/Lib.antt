@@ -2,3 +2,4 @@ pub mod RuleChecks
 pub mod RuleLaws
 pub mod RulePlaces
 pub mod RuleWriting
+pub mod InNumbers

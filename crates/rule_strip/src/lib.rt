@@ -4,10 +4,11 @@ ghost use mathlib.Core.Bool.{not};
 ghost use Prim.Native.Nat.{_+_, _*_, _<_, _≤_};
 ghost use lib.ListN.{length};
 ghost use Rattle.bits.specs.Bits.{between};
-ghost use Rattle.rule_strip.specs.RuleStrip.{firstUse, secondUse, recordAt, recordFault, headFault};
+ghost use Rattle.rule_strip.specs.RuleStrip.{variablesOf, countOf, firstUse, secondUse, recordAt, recordFault, headFault};
 ghost use Rattle.rule_strip.specs.RuleAnswers.{useRefusal, limitOf, fieldFault, fieldsOf, readRecord, Filled, readRecords, GoodHead, checkedRule};
 use bits::Fault;
 
+pub mod numbers; // what C is told
 pub mod write; // written from records as numbers
 
 // A record's three fields, as they stand in the strip.
@@ -273,14 +274,27 @@ fn check_body(s: &[u8], n: usize, m: usize) -> RuleCheck
     }
 }
 
+// How many variables the strip says that it has, and how many records.
+pub fn variables_of(s: &[u8]) -> usize
+    requires { ⌜ 2 ≤ length (now s) ⌝ }
+    ensures { λ r. ⌜ r ≡ variablesOf (now (s .entry)) ⌝ }
+{
+    bits::field_at(s, 4, 4) as usize
+}
+
+pub fn count_of(s: &[u8]) -> usize
+    requires { ⌜ 2 ≤ length (now s) ⌝ }
+    ensures { λ r. ⌜ r ≡ countOf (now (s .entry)) ⌝ }
+{
+    bits::field_at(s, 8, 8) as usize
+}
+
 // Whether any bytes are a rule strip: the first refusal in document 01's order, with its place, or n and m.
 pub fn check_rule(s: &[u8]) -> RuleCheck
     ensures { λ r. ⌜ r ≡ checkedRule (now (s .entry)) ⌝ }
 {
     let Fault::At { number, place } = head_fault(s) else {
-        let n = bits::field_at(s, 4, 4) as usize;
-        let m = bits::field_at(s, 8, 8) as usize;
-        return check_body(s, n, m);
+        return check_body(s, variables_of(s), count_of(s));
     };
     RuleCheck::Refused { number, place }
 }

@@ -1,26 +1,21 @@
--- Decoding a rule strip, record by record; and what the builder asks of decoded records. Assumes nothing.
-use Prim.Native.Nat.{ℕ, suc, _+_, _-_, _*_, _≤_, _<_}
+-- Decoding a rule strip, record by record. Assumes nothing.
+use Prim.Native.Nat.{ℕ, _+_, _*_, _≤_, _<_}
 use mathlib.Core.Path.{_≡_, refl, _∙_}
 use mathlib.Core.List.{List}
 use native.Mathlib.Decide.{ℕ-discrete}
 use native.Mathlib.Omega.{arith}
 use lib.ListN.{length, set, length-set}
-use lib.Pow.{pow-mono}
 use lib.Seq.{getD-set-same, getD-set-other}
 use Rattle.records.specs.declared.Decoded.{Decoded}
 use Rattle.records.specs.Rule.{noDecoded}
-use Rattle.refinement.specs.Decode.{weight, decodedOf}
+use Rattle.records.specs.Decode.{decodedOf}
 use Rattle.rule_strip.specs.RuleStrip.{recordAt, AcceptedRule}
 use Rattle.rule_strip.specs.RuleAnswers.{fieldsOf}
 use Rattle.rule_strip.specs.declared.Fields.{Fields}
 use Rattle.rule_strip.proofs.RuleLaws.{rule-accepted, records-at, widths-at}
 use Rattle.rules.specs.Decoding.{DecodesTo}
 
--- a weight fits in a byte
-pub weight-byte : (n x : ℕ) → n ≤ 8 → weight n x ≤ 255
-weight-byte n x few = let h : n - suc x ≤ 7 = omega arith in let e = pow-mono h in omega arith
-
--- and so do a record's fields
+-- a record's fields fit in a byte
 pub fields-byte : (s : List ℕ) (at : ℕ) (f : Fields) → f ≡ fieldsOf (recordAt s at) → (f .first < 128) × (f .second < 128)
 fields-byte s at f q = let w = widths-at s at in rw q (w .1, w .2)
 

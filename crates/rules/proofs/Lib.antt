@@ -1,4 +1,4 @@
 pub mod Rooms
 pub mod Decodes
 pub mod Rules
-pub mod Refusals
+pub mod TreeRefusals

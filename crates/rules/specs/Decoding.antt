@@ -6,7 +6,7 @@ use lib.ListN.{getD}
 use Rattle.logic.specs.Rule.{noRecord}
 use Rattle.records.specs.declared.Decoded.{Decoded}
 use Rattle.records.specs.Rule.{noDecoded}
-use Rattle.refinement.specs.Decode.{decodedOf}
+use Rattle.records.specs.Decode.{decodedOf}
 use Rattle.rule_strip.specs.RuleStrip.{variablesOf, recordsOf}
 
 -- the first m entries of xs are the strip's first m records

@@ -1,3 +1,4 @@
 pub mod Room
 pub mod Decoding
-pub mod Refusal
+pub mod Building
+pub mod Trees

@@ -7,3 +7,4 @@ pub mod TreeWalk
 pub mod TreePlaces
 pub mod Ranks
 pub mod TreeWriting
+pub mod InNumbers

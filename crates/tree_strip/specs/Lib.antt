@@ -2,3 +2,4 @@ pub mod TreeStrip
 pub mod TreeAnswers
 pub mod TreePlaces
 pub mod Ranks
+pub mod Numbers

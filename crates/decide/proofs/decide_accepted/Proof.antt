@@ -1,57 +1,75 @@
 -- `decide::decide_accepted` meets its contract. Assumes nothing.
+use mathlib.Core.Path.{_≡_, refl, _∙_}
+use Prim.Native.Nat.{_-_}
 use native.Mathlib.Omega.{arith}
-use Rattle.rule_strip.proofs.RuleLaws.{rule-accepted}
-use Rattle.decide.proofs.Verdicts.{ends-room, room-known, spacious, ends-told}
 use borrow.Author.Needs.{needs}
+use Rattle.logic.specs.Decide.{report}
+use Rattle.reading.specs.Reading.{Finds}
+use Rattle.search.specs.Rounds.{answerOf, Ended}
+use Rattle.rule_strip.specs.RuleStrip.{variablesOf, countOf}
+use Rattle.rules.specs.Building.{ruleShape, Decider}
+use Rattle.rules.proofs.Rules.{rule-sizes}
+use Rattle.decide.specs.Decide.{decidedOf, outcomeVerdict, outAfter}
+use Rattle.decide.proofs.Deciding.{rule-over, spacious, found-ended, found-decided}
 use Rattle.decide.proofs.decide_accepted.Statement.{statement}
 use Rattle.decide.proofs.decide_accepted.Tie as tie
 
-room-refusal-requires : tie.Need-room-refusal-requires
-room-refusal-requires c κs =
-    let st = c .before .before .before in
-    let h = st .pre in
-    let f = rule-accepted (st .args .rule .now) (h .unrefused) in
-    (omega arith, omega arith, omega arith)
+-- where the call starts, from where the machines are ready
+abbrev start-of : tie.After-known-told2 → tie.Start
+start-of b = b .before .before .before .before .before .before .before .before .before .before
 
-returns : tie.Need-returns
-returns c =
-    let st = c .before .before .before .before .before in
-    let a = st .args in
-    ends-room (a .rule .now) (a .c) (a .p) (a .ws .now) (a .out .now) (st .pre) (c .before .room-refusal .ensures) (c .if1 .taken)
+-- the last record's machine
+ready : (b : tie.After-known-told2)
+    → let a = start-of b .args in Decider (a .rule .now) (a .c) (b .before .k .given .0 .0) (b .before .before .before .before .before .build-rule .last .1 .1 .0)
+ready b = rw (b .before .k .given .1) at (b .before .before .before .before .before .build-rule .ensures .0)
 
-solve-rule-requires : tie.Need-solve-rule-requires
-solve-rule-requires c κs =
-    let st = c .before .before .before .before .before .before in
-    let a = st .args in
-    let r = c .before .before .room-refusal in
-    (st .pre, room-known (a .rule .now) (a .c) (a .p) (a .ws .now) (a .out .now) (st .pre) (r .ensures) (search needs))
+earliest-requires : tie.Need-earliest-requires
+earliest-requires c κs =
+    let v = c .before .before .before in
+    rw (c .shape-for .ensures, v .variables-of .ensures, c .before .before .count-of .ensures) (ready (v .before) .readable, start-of (v .before) .pre .1 .0)
+
+-- what the search found, where its answer is to be told
+found : (e : tie.After-earliest)
+    → let b = e .before .before .before .before .before in
+    let a = start-of b .args in
+    let f = e .earliest .result in
+    Ended (answerOf f) f × (report (b .before .k .given .0 .0 .count) (answerOf f) ≡ decidedOf (a .rule .now) (a .c) (a .p))
+found e =
+    let v = e .before .before .before .before in
+    let b = v .before in
+    let a = start-of b .args in
+    let sound = start-of b .pre .0 .sound in
+    let finds : Finds _ (ruleShape (a .rule .now) (a .c)) (countOf (a .rule .now) - 1) _ (a .p) (e .earliest .result) =
+    rw (e .before .shape-for .ensures, v .variables-of .ensures, e .before .before .before .count-of .ensures) at (e .earliest .ensures) in
+    (found-ended _ sound _ _ (ready b) _ finds, found-decided _ sound _ _ (ready b) _ finds)
 
 conclude-requires : tie.Need-conclude-requires
 conclude-requires c κs =
-    let st = c .before .before .before .before .before .before .before .before .before .before in
-    let a = st .args in
-    let h = st .pre in
-    let f = rule-accepted (a .rule .now) (h .unrefused) in
-    let r = c .before .before .before .before .before .before .room-refusal in
-    let v = c .before .before .before .solve-rule in (
-      omega arith,
-      v .ensures .0 .1,
-      spacious (a .rule .now) (a .c) (a .p) (a .ws .now) (a .out .now) h (r .ensures) (search needs) (v .result) (v .ensures .0 .0),
-    )
+    let e = c .before .before in
+    let v = e .before .before .before .before in
+    let s = start-of (v .before) in
+    let z = rule-sizes (s .pre .0) in
+    (omega (arith, v .variables-of .ensures), found e .0, rw (found e .1, v .variables-of .ensures) (spacious _ (s .pre .0 .sound) _ _ (s .pre .1 .0) (s .pre .1 .1)))
+
+returns : tie.Need-returns
+unfolding outcomeVerdict outAfter
+returns c =
+    let b = c .before .before .before .before .before .build-rule in
+    let s = c .before .before .before .before .before .before .before .before .before .before in
+    rw (rule-over _ (s .pre .0 .sound) _ (s .args .p) _ (rw (c .before .r .given .1) at (b .ensures .0))) (refl, (refl, b .ensures .1))
 
 returns-2 : tie.Need-returns-2
 returns-2 c =
-    let st = c .before .before .before .before .before .before .before .before .before .before .before .before .before in
-    let a = st .args in
-    let r = c .before .before .before .before .before .before .before .before .before .room-refusal in
-    let v = c .before .before .before .before .before .before .solve-rule in
-    let x = c .before .before .conclude in
-    ends-told (a .rule .now) (a .c) (a .p) (a .ws .now) (a .out .now) (st .pre) (r .ensures)
-    (omega (arith, c .before .before .before .before .before .before .before .before .if1 .left)) (v .result) (v .ensures .0 .0) (x .ensures .0)
-    (v .ensures .1) (x .ensures .1)
+    let x = c .before .before in
+    let e = x .before .before .before in
+    let v = e .before .before .before .before in
+    let told = rw (found e .1, v .variables-of .ensures) at (x .conclude .ensures) in
+    (told .0, (told .1, v .before .before .before .before .before .before .build-rule .ensures .1))
 
 pub decide-accepted-spec : {M : Type 1} → statement M
 decide-accepted-spec =
     tie.close
-    (tie.spec
-    room-refusal-requires returns solve-rule-requires conclude-requires (λ c. search needs) (λ c. search needs) returns-2)
+    (tie.spec (λ c κs. search needs) (λ c. search needs) (λ c. search needs) (λ c κs. rule-sizes (start-of c .pre .0) .0)
+    (λ c κs. rule-sizes (start-of (c .before) .pre .0) .0) (λ c. let z = rule-sizes (start-of (c .before .before) .pre .0) in omega (arith, c .count-of .ensures))
+    (λ c κs. search needs) earliest-requires (λ c. search needs) conclude-requires (λ c. search needs) returns (λ c. search needs) (λ c. search needs)
+    returns-2)

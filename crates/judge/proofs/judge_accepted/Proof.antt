@@ -1,73 +1,64 @@
 -- `judge::judge_accepted` meets its contract. Assumes nothing.
-use mathlib.Core.Path.{sym, _∙_, subst}
-use Prim.Native.Nat.{ℕ}
+use Prim.Native.Nat.{_-_}
+use mathlib.Core.Path.{_≡_, refl, sym, ap, _∙_}
 use native.Mathlib.Omega.{arith}
-use Rattle.rule_strip.proofs.RuleLaws.{rule-accepted}
-use Rattle.tree_strip.proofs.TreeLaws.{checked-refused}
-use Rattle.judge.specs.Judge.{AcceptedTree}
-use Rattle.judge.proofs.Judging.{check-readable, ends-room, ends-tree, ends-other, room-known, ends-told}
 use borrow.Author.Needs.{needs}
+use Rattle.logic.specs.Decide.{say}
+use Rattle.reading.specs.Reading.{Accepts}
+use Rattle.rule_strip.specs.RuleStrip.{countOf}
+use Rattle.rules.specs.Building.{ruleShape, Decider}
+use Rattle.rules.proofs.Rules.{rule-sizes}
+use Rattle.rules.proofs.TreeRefusals.{tree-readable}
+use Rattle.judge.specs.Judge.{judgedOf, rulingJudgement}
+use Rattle.judge.proofs.Judging.{rule-over, rule-judged}
 use Rattle.judge.proofs.judge_accepted.Statement.{statement}
 use Rattle.judge.proofs.judge_accepted.Tie as tie
 
-work-refusal-requires : tie.Need-work-refusal-requires
-work-refusal-requires c κs =
-    let st = c .before .before .before in
-    let h = st .pre in
-    let f = rule-accepted (st .args .rule .now) (h .unrefused) in
-    (omega arith, omega arith, omega arith)
+-- where the call starts, from where the machines are ready
+abbrev start-of : tie.After-known-told2 → tie.Start
+start-of b = b .before .before .before .before .before .before .before .before .before .before
+
+-- the last record's machine
+ready : (b : tie.After-known-told2)
+    → let a = start-of b .args in Decider (a .rule .now) (a .c) (b .before .k .given .0 .0) (b .before .before .before .before .before .build-rule .last .1 .1 .0)
+ready b = rw (b .before .k .given .1) at (b .before .before .before .before .before .build-rule .ensures .0)
+
+accepted-requires : tie.Need-accepted-requires
+accepted-requires c κs =
+    let v = c .before .before .before in
+    let s = start-of (v .before) in
+    rw (c .before .before .shape-for .ensures, v .variables-of .ensures, c .count-of .ensures) (ready (v .before) .readable, tree-readable (s .pre .1) (s .args .c))
+
+-- what the machine says of the tree
+ruled : (c : tie.After-accepted)
+    → let a = start-of (c .before .before .before .before .before) .args in say (c .accepted .result) ≡ judgedOf (a .rule .now) (a .c) (a .tree .now)
+ruled c =
+    let v = c .before .before .before .before in
+    let b = v .before in
+    let s = start-of b in
+    rule-judged (s .pre .0) (s .pre .1) (ready b) _
+    (rw (c .before .before .before .shape-for .ensures, v .variables-of .ensures, c .before .count-of .ensures) at (c .accepted .ensures))
+
 
 returns : tie.Need-returns
-returns c =
-    let st = c .before .before .before .before .before in
-    let a = st .args in
-    ends-room (a .rule .now) (a .c) (a .ws .now) (a .tree .now) (st .pre) (c .before .work-refusal .ensures) (c .if1 .taken)
+unfolding rulingJudgement say
+returns c = (rw (← ruled (c .before), c .if1 .taken) refl, c .before .before .before .before .before .before .before .before .before .before .before .build-rule .ensures .1)
 
 returns-2 : tie.Need-returns-2
+unfolding rulingJudgement
 returns-2 c =
-    let b = c .before .before .before .before in
-    let st = b .before .before .before .before .before .before in
-    let a = st .args in
-    let w = check-readable (a .tree .now) (sym (b .check-tree .ensures) ∙ c .before .before .variables .given .1) in
-    ends-other (a .rule .now) (a .c) (a .ws .now) (a .tree .now) (st .pre) (b .before .before .work-refusal .ensures)
-    (omega arith) w (c .if2 .taken)
-
-judge-rule-requires : tie.Need-judge-rule-requires
-judge-rule-requires c κs =
-    let b = c .before .before .before .before .before in
-    let st = b .before .before .before .before .before .before in
-    let a = st .args in
-    let w = check-readable (a .tree .now) (sym (b .check-tree .ensures) ∙ c .before .before .before .variables .given .1) in (
-      st .pre,
-      (
-        room-known (a .rule .now) (a .c) (a .ws .now) (a .tree .now) (st .pre) (b .before .before .work-refusal .ensures) (omega arith),
-        subst (λ (i : ℕ). AcceptedTree (a .tree .now) i) (c .before .if2 .left) w,
-      ),
-    )
+    let b = c .before .before .before .before .before .build-rule in
+    let s = c .before .before .before .before .before .before .before .before .before .before in
+    rw (rule-over (s .pre .0) (s .pre .1) _ (rw (c .before .r .given .1) at (b .ensures .0))) (refl, b .ensures .1)
 
 returns-3 : tie.Need-returns-3
-returns-3 c =
-    let b = c .before .before .before in
-    let st = b .before .before .before .before .before .before in
-    let a = st .args in
-    ends-tree (a .rule .now) (a .c) (a .ws .now) (a .tree .now) (st .pre) (b .before .before .work-refusal .ensures)
-    (omega arith) (checked-refused (a .tree .now) _ _ (sym (b .check-tree .ensures) ∙ c .before .number .given .1))
-
-returns-4 : tie.Need-returns-4
-returns-4 c =
-    let d = c .before .before .before .before .before in
-    let b = d .before .before .before .before in
-    let st = b .before .before .before .before .before .before in
-    let a = st .args in
-    let w = check-readable (a .tree .now) (sym (b .check-tree .ensures) ∙ d .before .before .variables .given .1) in
-    let v = c .before .before .before .judge-rule in
-    ends-told (a .rule .now) (a .c) (a .ws .now) (a .tree .now) (st .pre) (b .before .before .work-refusal .ensures)
-    (omega arith) (subst (λ (i : ℕ). AcceptedTree (a .tree .now) i) (d .if2 .left) w)
-    (v .result) (v .ensures .0) (c .ruled .ensures) (v .ensures .1)
+unfolding rulingJudgement say
+returns-3 c = (rw (← ruled (c .before), c .if1 .left) refl, c .before .before .before .before .before .before .before .before .before .before .before .build-rule .ensures .1)
 
 pub judge-accepted-spec : {M : Type 1} → statement M
 judge-accepted-spec =
     tie.close
-    (tie.spec
-    work-refusal-requires returns (λ c κs. search needs) (λ c. search needs) (λ c. search needs) returns-2 judge-rule-requires
-    (λ c κs. search needs) returns-3 (λ c. search needs) returns-4)
+    (tie.spec (λ c κs. search needs) (λ c. search needs) (λ c. search needs) (λ c κs. rule-sizes (start-of c .pre .0) .0) (λ c κs. search needs)
+    (λ c κs. rule-sizes (start-of (c .before .before .before) .pre .0) .0)
+    (λ c. let z = rule-sizes (start-of (c .before .before .before .before) .pre .0) in omega (arith, c .count-of .ensures)) accepted-requires
+    (λ c. search needs) returns (λ c. search needs) returns-2 (λ c. search needs) returns-3)

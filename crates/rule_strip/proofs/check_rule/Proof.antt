@@ -20,5 +20,5 @@ check-rule-spec =
     (tie.spec
     (λ c κs. search needs) (λ c. search needs) (λ c. search needs) (λ c κs. let h = head c in omega arith)
     (λ c κs. let h = head (c .before) in omega arith)
-    (λ c κs. record { good = sound (c .before .before); variables = c .before .field-at .ensures; count = c .field-at2 .ensures })
+    (λ c κs. record { good = sound (c .before .before); variables = c .before .variables-of .ensures; count = c .count-of .ensures })
     (λ c. search needs) (λ c. check-head _ _ (c .before .before .before .head-fault .ensures) (c .before .number .given .1)))

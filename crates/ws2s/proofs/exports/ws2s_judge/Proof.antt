@@ -1,6 +1,6 @@
 -- `ws2s::exports::ws2s_judge` meets its contract. Assumes nothing.
 use mathlib.Core.Path.{_∙_, ap}
-use Rattle.ws2s.specs.Numbers.{judgementNumbers}
+use Rattle.judge.specs.Numbers.{judgementNumbers}
 use borrow.Author.Needs.{needs}
 use Rattle.ws2s.proofs.exports.ws2s_judge.Statement.{statement}
 use Rattle.ws2s.proofs.exports.ws2s_judge.Tie as tie

@@ -1,7 +1,7 @@
 -- `ws2s::exports::ws2s_text_fault` meets its contract. Assumes nothing.
 use mathlib.Core.Path.{_∙_, ap}
 use borrow.Author.Needs.{needs}
-use Rattle.ws2s.specs.Numbers.{faultNumbers}
+use Rattle.import.specs.Numbers.{faultNumbers}
 use Rattle.ws2s.proofs.exports.ws2s_text_fault.Statement.{statement}
 use Rattle.ws2s.proofs.exports.ws2s_text_fault.Tie as tie
 

@@ -1,0 +1,32 @@
+-- `rules::build::clear_work` meets its contract. Assumes nothing.
+use mathlib.Core.Path.{_≡_, refl}
+use native.Mathlib.Omega.{arith}
+use borrow.Author.Needs.{needs}
+use Rattle.rules.specs.Room.{roomOf}
+use Rattle.rules.proofs.Rules.{rule-sizes}
+use Rattle.rules.proofs.build.clear_work.Statement.{statement}
+use Rattle.rules.proofs.build.clear_work.Tie as tie
+
+needed-requires : tie.Need-needed-requires
+needed-requires c κs =
+    let w = c .before .before .before .before .before .pre in
+    let z = rule-sizes w in
+    (omega (arith, c .before .before .variables-of .ensures), omega (arith, c .before .before .variables-of .ensures),
+    omega (arith, c .before .count-of .ensures), w .some-state, w .few-states)
+
+-- what is cleared is what 12 asks for
+room : (c : tie.After-needed)
+    → let s = c .before .before .before .before .before .before in c .needed .result ≡ roomOf (s .args .rule .now) (s .args .c)
+room c = rw (c .needed .ensures, c .before .before .before .variables-of .ensures, c .before .before .count-of .ensures) refl
+
+clear-requires : tie.Need-clear-requires
+clear-requires c κs = rw (room c) (c .before .before .before .before .before .before .pre .long)
+
+returns : tie.Need-returns
+returns c = rw (← room (c .before .before .before)) (c .before .before .clear .ensures)
+
+pub clear-work-spec : {M : Type 1} → statement M
+clear-work-spec =
+    tie.close
+    (tie.spec (λ c κs. rule-sizes (c .before .before .pre) .0) (λ c κs. rule-sizes (c .before .before .before .pre) .0) needed-requires clear-requires
+    (λ c. search needs) returns)

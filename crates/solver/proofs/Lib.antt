@@ -1,2 +1,0 @@
-pub mod Solving
-pub mod Told
