@@ -16,10 +16,11 @@ use Rattle.logic.specs.Decide.{report, conclude, decideOf}
 use Rattle.bits.specs.Bits.{digits, bits, anySet, firstSet, bitLength, pack}
 use Rattle.rule_strip.specs.RuleStrip.{variablesOf, recordAt, recordsFrom, recordsOf, firstUse, secondUse, recordFault, recordsFault, headFault, ruleFault}
 use Rattle.tree_strip.specs.TreeStrip.{treeBits, treeStrip}
-use Rattle.rules.specs.Room.{roomRefusal}
-use Rattle.decide.specs.Decide.{earlyRefusal, tell, outAfter, verdictOf, outOf}
+use Rattle.rules.specs.Room.{ceilingRefusal, placesRefusal, workspaceRefusal, outRefusal}
+use Rattle.decide.specs.Decide.{roomRefusal, decideRefusal, outcomeVerdict, outAfter, verdictOf, outOf}
 use Rattle.decide.specs.declared.Verdict.{Verdict}
-use Rattle.decide.specs.declared.Verdict.the-variants.{Shown, None, Larger, RefusedAt, Refused, TooManyStates}
+use Rattle.decide.specs.declared.Verdict.the-variants.{Shown, None, Larger, Refused}
+use Rattle.refusals.specs.declared.Refusal.the-variants.{TooManyStates}
 
 -- what decide is asked: a rule strip and both ceilings
 pub record Question : Type 0 where
@@ -39,14 +40,13 @@ abbrev front : Verdict → List ℕ → List ℕ
 front (Shown places states size) out = take size out
 front (None states) out = []
 front (Larger states) out = []
-front (RefusedAt number place) out = []
-front (Refused number) out = []
-front (TooManyStates number) out = []
+front (Refused r) out = []
 
 -- with the longest workspace that can be asked for, and 320 bytes of out, none of them 0; whoever unfolds it has all that decide is defined by
 unfoldable pub answer : Question → Answer
 unfolding bits anySet firstSet bitLength recordAt recordsFrom recordsOf firstUse secondUse recordFault recordsFault
-    headFault ruleFault roomRefusal earlyRefusal tell outAfter verdictOf outOf low bit downFrom allOf anyOf sumOf positions successorAt kindOf setLow
+    headFault ruleFault ceilingRefusal placesRefusal workspaceRefusal outRefusal roomRefusal decideRefusal outcomeVerdict outAfter verdictOf outOf
+    low bit downFrom allOf anyOf sumOf positions successorAt kindOf setLow
     withBit run elem below flat select outcomes successors add closure reach position numbered wordOf members projection table codedProduct build
     productTable projectionTable complementTable tableOf admit namesOf namedAfter mark marks isReached buildAll settled view lighter choose consider
     loop tuples pick verdict next rounds anyBelow begin search report conclude decideOf digits pack treeBits treeStrip decLt
@@ -103,7 +103,7 @@ expected =
     ∷ is 2 (rec 2 0 1 ∷ rec 8 1 0 ∷ []) (Shown 2 4 3) (0x12 ∷ 0x98 ∷ 0x00 ∷ [])
     ∷ is 2 (rec 4 0 0 ∷ rec 2 0 1 ∷ rec 7 0 1 ∷ []) (None 6) []
     ∷ is 2 (rec 0 0 1 ∷ rec 5 0 0 ∷ rec 0 1 0 ∷ rec 5 2 0 ∷ rec 6 1 3 ∷ []) (Shown 1 4 2) (0x12 ∷ 0xA0 ∷ [])
-    ∷ is 1 (rec 1 0 0 ∷ []) (TooManyStates 0) []
+    ∷ is 1 (rec 1 0 0 ∷ []) (Refused (TooManyStates 0)) []
     ∷ is 1 (rec 1 0 0 ∷ []) (Shown 1 3 2) (0x11 ∷ 0xC0 ∷ [])
     ∷ is 1 (rec 1 0 0 ∷ []) (Larger 3) []
     ∷ is 1 (rec 1 0 0 ∷ []) (Shown 1 3 2) (0x11 ∷ 0xC0 ∷ [])

@@ -4,7 +4,8 @@ use Prim.Native.Nat.{ℕ}
 use mathlib.Core.Path.{_≡_, refl}
 use mathlib.Core.List.{List, [], _∷_, map}
 use Rattle.decide.specs.declared.Verdict.{Verdict}
-use Rattle.decide.specs.declared.Verdict.the-variants.{Shown, TooManyStates}
+use Rattle.decide.specs.declared.Verdict.the-variants.{Shown, Refused}
+use Rattle.refusals.specs.declared.Refusal.the-variants.{TooManyStates}
 use Rattle.examples.proofs.Decided.{answer, with}
 
 -- record 0 is Sing(X0), left over: 1 is X0 ⊆ X0; and the same with 2, exists X0: 1, whose variable has record 0's number.
@@ -19,7 +20,7 @@ rules =
     ∷ []
 
 pub verdicts : List Verdict
-verdicts = Shown 0 1 2 ∷ Shown 0 1 2 ∷ TooManyStates 0 ∷ TooManyStates 1 ∷ TooManyStates 1 ∷ []
+verdicts = Shown 0 1 2 ∷ Shown 0 1 2 ∷ Refused (TooManyStates 0) ∷ Refused (TooManyStates 1) ∷ Refused (TooManyStates 1) ∷ []
 
 pub leftovers-told : map (λ s. answer (with 2 255 s) .verdict) rules ≡ verdicts
 unfolding answer rules verdicts

@@ -3,9 +3,10 @@ use Prim.Native.Nat.{ℕ}
 use mathlib.Core.Path.{_≡_, refl}
 use mathlib.Core.List.{List, [], _∷_, map}
 use Rattle.decide.specs.declared.Verdict.{Verdict}
-use Rattle.decide.specs.declared.Verdict.the-variants.{Shown, None, Larger, RefusedAt, Refused, TooManyStates}
+use Rattle.decide.specs.declared.Verdict.the-variants.{Shown, None, Larger, Refused}
+use Rattle.refusals.specs.declared.Refusal.the-variants.{Placed, Plain, TooManyStates}
 use Rattle.report.specs.Text.{decimal, hex}
-use Rattle.report.specs.Line.{lineOf}
+use Rattle.report.specs.Line.{refusedLine, lineOf}
 use Rattle.program.specs.Program.{verdictLine}
 use Rattle.examples.proofs.Decided.{answer}
 
@@ -45,12 +46,12 @@ outputs =
 
 -- `answer` is named for all that it unfolds
 pub outputs-right : map verdictLine inputs ≡ outputs
-unfolding answer verdictLine inputs outputs lineOf decimal hex
+unfolding answer verdictLine inputs outputs lineOf refusedLine decimal hex
 outputs-right = refl
 
 -- one verdict of each kind, over a buffer with a byte after the strip
 pub kinds : List Verdict
-kinds = Shown 2 4 3 ∷ None 6 ∷ Larger 3 ∷ RefusedAt 10 2313 ∷ Refused 12 ∷ TooManyStates 107 ∷ []
+kinds = Shown 2 4 3 ∷ None 6 ∷ Larger 3 ∷ Refused (Placed 10 2313) ∷ Refused (Plain 12) ∷ Refused (TooManyStates 107) ∷ []
 
 -- `shown 2 4 12B800`, `none 6`, `larger 3`, `refused 10 2313`, `refused 12`, `refused 14 107`
 pub texts : List (List ℕ)
@@ -64,5 +65,5 @@ texts =
     ∷ []
 
 pub texts-right : map (λ v. lineOf v (0x12 ∷ 0xB8 ∷ 0x00 ∷ 0xFF ∷ [])) kinds ≡ texts
-unfolding kinds texts lineOf decimal hex
+unfolding kinds texts lineOf refusedLine decimal hex
 texts-right = refl

@@ -4,7 +4,9 @@ use mathlib.Core.List.{List, [], _∷_, _++_}
 use lib.ListN.{take}
 use Rattle.report.specs.Text.{decimal, hex}
 use Rattle.decide.specs.declared.Verdict.{Verdict}
-use Rattle.decide.specs.declared.Verdict.the-variants.{Shown, None, Larger, RefusedAt, Refused, TooManyStates}
+use Rattle.decide.specs.declared.Verdict.the-variants.{Shown, None, Larger, Refused}
+use Rattle.refusals.specs.declared.Refusal.{Refusal}
+use Rattle.refusals.specs.declared.Refusal.the-variants.{Nothing, Placed, Plain, TooManyStates}
 
 -- `shown `
 abbrev pub shownWord : List ℕ
@@ -40,12 +42,17 @@ counted word n = word ++ decimal 20 n
 abbrev pub shownLine : ℕ → ℕ → List ℕ → List ℕ
 shownLine positions states strip = counted shownWord positions ++ (counted space states ++ (space ++ (hex strip ++ lineEnd)))
 
--- "`shown positions states HEX`, `none states`, `larger states`, `refused number`, or `refused 14 record`", and the line's end; of a
--- strip's refusal also the place: "the verdict program prints it last on its line". out: the buffer whose front holds the tree strip
+-- "`refused number`, or `refused 14 record`", and of a strip's refusal also the place: "the verdict program prints it last on its line"
+unfoldable pub refusedLine : Refusal → List ℕ
+refusedLine Nothing = counted refusedWord 0 ++ lineEnd
+refusedLine (Placed number place) = counted refusedWord number ++ (counted space place ++ lineEnd)
+refusedLine (Plain number) = counted refusedWord number ++ lineEnd
+refusedLine (TooManyStates number) = counted refused14Word number ++ lineEnd
+
+-- "`shown positions states HEX`, `none states`, `larger states`" or the line of a refusal, and the line's end. out: the buffer whose front
+-- holds the tree strip
 unfoldable pub lineOf : Verdict → List ℕ → List ℕ
 lineOf (Shown positions states size) out = shownLine positions states (take size out)
 lineOf (None states) out = counted noneWord states ++ lineEnd
 lineOf (Larger states) out = counted largerWord states ++ lineEnd
-lineOf (RefusedAt number place) out = counted refusedWord number ++ (counted space place ++ lineEnd)
-lineOf (Refused number) out = counted refusedWord number ++ lineEnd
-lineOf (TooManyStates number) out = counted refused14Word number ++ lineEnd
+lineOf (Refused r) out = refusedLine r

@@ -3,11 +3,12 @@ ghost use mathlib.Core.List.{_++_};
 ghost use Prim.Native.Nat.{_+_, _*_, _≤_};
 ghost use lib.ListN.{length, take};
 ghost use Rattle.report.specs.Text.{Put};
-ghost use Rattle.report.specs.Line.{counted, space, shownLine, lineOf, lineEnd};
+ghost use Rattle.report.specs.Line.{counted, space, shownLine, refusedLine, lineOf, lineEnd};
 use crate::text::put_bytes;
 use crate::text::put_decimal;
 use crate::text::put_hex;
 use decide::Verdict;
+use refusals::Refusal;
 
 // A word with a number after it.
 fn put_counted(line: &mut [u8], at: usize, word: &[u8], n: u64) -> usize
@@ -62,6 +63,19 @@ fn put_front(line: &mut [u8], positions: u64, states: u64, out: &[u8], size: u64
     put_shown(line, positions, states, out)
 }
 
+// The line of a refusal.
+fn put_refusal(line: &mut [u8], r: Refusal) -> usize
+    requires { ⌜ 50 ≤ length (now line) ⌝ }
+    ensures { λ n. ⌜ Put (now (line .entry)) 0 (refusedLine r) n (now (line .exit)) ⌝ }
+{
+    match r {
+        Refusal::Nothing => put_count(line, b"refused ", 0),
+        Refusal::Placed { number, place } => put_counts(line, b"refused ", number, place),
+        Refusal::Plain(number) => put_count(line, b"refused ", number),
+        Refusal::TooManyStates(record) => put_count(line, b"refused 14 ", record),
+    }
+}
+
 // The line of a verdict stands at the front of `line`; out is the buffer that decide wrote to.
 pub fn write_line(v: Verdict, out: &[u8], line: &mut [u8]) -> usize
     requires { ⌜ 50 + 2 * length (now out) ≤ length (now line) ⌝ }
@@ -75,8 +89,6 @@ pub fn write_line(v: Verdict, out: &[u8], line: &mut [u8]) -> usize
         } => put_front(line, positions, states, out, length),
         Verdict::None(states) => put_count(line, b"none ", states),
         Verdict::Larger(states) => put_count(line, b"larger ", states),
-        Verdict::RefusedAt { number, place } => put_counts(line, b"refused ", number, place),
-        Verdict::Refused(number) => put_count(line, b"refused ", number),
-        Verdict::TooManyStates(record) => put_count(line, b"refused 14 ", record),
+        Verdict::Refused(r) => put_refusal(line, r),
     }
 }

@@ -3,8 +3,8 @@ ghost use mathlib.Core.Path.{_≡_};
 ghost use lib.ListN.{length, drop};
 ghost use Rattle.rules.specs.Building.{BuiltRule};
 ghost use Rattle.rules.specs.Room.{roomOf, cleared, Workable};
-use building::Ending;
 use crate::decode::decode;
+use building::Ending;
 use records::Summary;
 
 // How building ended: at the first record with too many states, by its number, or with what is kept of the last record's machine.

@@ -40,7 +40,6 @@ out-refusal-requires c κs =
     let s = b .before .before .before .before in
     (s .pre .1, places-free (s .args .p) (sym (b .before .places-refusal .ensures) ∙ b .if2 .left))
 
-
 -- the last test is all that is left
 abbrev Rest : tie.After-out-refusal → Type 0
 Rest c =
@@ -53,8 +52,15 @@ rest c =
     let d = c .before in
     let b = d .before .before in
     let a = b .before .before in
-    rw (← a .before .ceiling-refusal .ensures, a .if1 .left, ← b .before .places-refusal .ensures, b .if2 .left,
-    ← d .before .workspace-refusal .ensures, d .if3 .left, ← c .out-refusal .ensures) refl
+    rw (
+      ← a .before .ceiling-refusal .ensures,
+      a .if1 .left,
+      ← b .before .places-refusal .ensures,
+      b .if2 .left,
+      ← d .before .workspace-refusal .ensures,
+      d .if3 .left,
+      ← c .out-refusal .ensures,
+    ) refl
 
 pub room-refusal-spec : {M : Type 1} → statement M
 room-refusal-spec =

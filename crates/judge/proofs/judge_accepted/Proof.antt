@@ -39,7 +39,6 @@ ruled c =
     rule-judged (s .pre .0) (s .pre .1) (ready b) _
     (rw (c .before .before .before .shape-for .ensures, v .variables-of .ensures, c .before .count-of .ensures) at (c .accepted .ensures))
 
-
 returns : tie.Need-returns
 unfolding rulingJudgement say
 returns c = (rw (← ruled (c .before), c .if1 .taken) refl, c .before .before .before .before .before .before .before .before .before .before .before .build-rule .ensures .1)

@@ -18,22 +18,12 @@ returns-3 c = rw (c .before .before .before .before .before .before .v3 .given .
 
 returns-4 : tie.Need-returns-4
 unfolding lineOf
-returns-4 c = rw (c .before .before .before .before .before .before .v4 .given .1) (c .before .before .put-counts .ensures)
-
-returns-5 : tie.Need-returns-5
-unfolding lineOf
-returns-5 c = rw (c .before .before .before .before .before .before .v5 .given .1) (c .before .before .put-count3 .ensures)
-
-returns-6 : tie.Need-returns-6
-unfolding lineOf
-returns-6 c = rw (c .before .before .before .before .before .before .v6 .given .1) (c .before .before .put-count4 .ensures)
+returns-4 c = rw (c .before .before .before .before .before .v4 .given .1) (c .before .before .put-refusal .ensures)
 
 pub write-line-spec : {M : Type 1} → statement M
 write-line-spec =
     tie.close
     (tie.spec
     (λ c. search needs) (λ c κs. search needs) (λ c. search needs) (λ c. search needs) (λ c κs. search needs) (λ c. search needs)
-    (λ c. search needs) (λ c κs. search needs) (λ c. search needs) (λ c. search needs) (λ c κs. search needs) (λ c. search needs)
-    (λ c. search needs) (λ c κs. search needs) (λ c. search needs) (λ c. search needs) (λ c κs. search needs) (λ c. search needs) returns
-    (λ c. search needs) returns-2 (λ c. search needs) returns-3 (λ c. search needs) returns-4 (λ c. search needs) returns-5
-    (λ c. search needs) returns-6)
+    (λ c. search needs) (λ c κs. search needs) (λ c. search needs) (λ c κs. search needs)
+    (λ c. search needs) returns (λ c. search needs) returns-2 (λ c. search needs) returns-3 (λ c. search needs) returns-4)

@@ -10,9 +10,13 @@ use Rattle.rules.proofs.build.clear_work.Tie as tie
 needed-requires : tie.Need-needed-requires
 needed-requires c κs =
     let w = c .before .before .before .before .before .pre in
-    let z = rule-sizes w in
-    (omega (arith, c .before .before .variables-of .ensures), omega (arith, c .before .before .variables-of .ensures),
-    omega (arith, c .before .count-of .ensures), w .some-state, w .few-states)
+    let z = rule-sizes w in (
+      omega (arith, c .before .before .variables-of .ensures),
+      omega (arith, c .before .before .variables-of .ensures),
+      omega (arith, c .before .count-of .ensures),
+      w .some-state,
+      w .few-states,
+    )
 
 -- what is cleared is what 12 asks for
 room : (c : tie.After-needed)
