@@ -23,7 +23,7 @@ pub enum Atom {
 }
 
 // One record more; the count after it. Past 128 records only the count tells of more, and it stays at 129.
-pub fn put(words: &mut [u64; 128], count: usize, op: u64, first: usize, second: usize) -> usize
+pub fn put(words: &mut [u64; 128], count: usize, op: usize, first: usize, second: usize) -> usize
     requires { ⌜ op < 16 ⌝ }
     requires { ⌜ (count < 128 → (first < 128) × (second < 128)) ⌝ }
     ensures { λ r. ⌜ r ≡ min (count + 1) 129 ⌝ }
@@ -32,7 +32,7 @@ pub fn put(words: &mut [u64; 128], count: usize, op: u64, first: usize, second: 
     if 128 <= count {
         return 129;
     }
-    words[count] = op * 16384 + (first as u64) * 128 + second as u64;
+    words[count] = rule_strip::write::record_word(op, first, second);
     count + 1
 }
 
