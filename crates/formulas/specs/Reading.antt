@@ -9,7 +9,7 @@ use lib.Dec.{eqb, leb}
 use lib.ListN.{length, getD}
 use Rattle.logic.specs.Rule.{Record}
 use Rattle.bits.specs.Bits.{between}
-use Rattle.text.specs.Token.{Token, spells}
+use Rattle.text.specs.Token.{Token, spells, ex1Kind, ex2Kind, all1Kind, all2Kind, openingKind, closingKind, notKind, andKind}
 use Rattle.text.specs.Syntax.{Name, Order, first, second, Sentence, both, either, alike, forSome, forEvery, Scope}
 use Rattle.text.specs.Grammar.{Read, got, next, rest, accept, or23, Reader, Part, joined, andThen, reader, operandAt, consequentAt}
 use Rattle.text.specs.Grammar.{refused as leaves}
@@ -35,21 +35,21 @@ levelAt d (suc (suc (suc (suc k)))) = operandAt d (deeperAt d)
 
 -- "a level opening at its bracket, `~`, quantifier word": the kinds of tokens that open one before an operand
 unfoldable pub opensBy : ℕ → Bool
-opensBy kind = between 3 6 kind || (eqb kind 13 || eqb kind 15)
+opensBy kind = between ex1Kind all2Kind kind || (eqb kind openingKind || eqb kind notKind)
 
 -- a formula and its closing bracket, behind the opening one, which stands next
 unfoldable pub bracketAt : ℕ → Reader
 bracketAt d sc ts = andThen (levelAt d 0 sc (rest ts)) (λ f us. accept (or23 (spells ")" (next us))) us (λ _ vs. got f vs))
 
--- the order of what a quantifier word of that kind binds, and the sentence that it makes: 3 `ex1`, 4 `ex2`, 5 `all1`, 6 `all2`
+-- the order of what a quantifier word of that kind binds, and the sentence that it makes
 abbrev pub placeBy : ℕ → Bool
-placeBy kind = eqb kind 3 || eqb kind 5
+placeBy kind = eqb kind ex1Kind || eqb kind all1Kind
 
 abbrev pub orderBy : ℕ → Order
 orderBy kind = cond (placeBy kind) first second
 
 abbrev pub quantifierBy : ℕ → Order → Name → Sentence → Sentence
-quantifierBy kind = cond (leb kind 4) forSome forEvery
+quantifierBy kind = cond (leb kind ex2Kind) forSome forEvery
 
 -- the name, the colon and the formula behind a quantifier word, which stands next
 unfoldable pub quantifiedAt : ℕ → ℕ → Reader
@@ -132,9 +132,10 @@ Leads part whole s sc ws h q ws′ h′ r = (vs i : List ℕ) → Reads part s s
 
 -- the records that a construct of that kind puts behind those of its last part, beside: the count after its left side, or the track it binds
 pub record Owns (ws : List ℕ) (kind beside c : ℕ) (ws′ : List ℕ) (c′ : ℕ) : Type 0 where
-  pub denies : kind ≡ 15 → (rs : List Record) → Drafted ws c rs → Drafted ws′ c′ (putNot rs)
-  pub joins : 16 ≤ kind → (fs gs : List Record) → beside ≡ min (length fs) 129 → length fs ≤ length gs → Drafted ws c gs → Drafted ws′ c′ (putJoined kind fs gs)
-  pub binds : kind ≤ 6 → (rs : List Record) → Drafted ws c rs → Drafted ws′ c′ (putQuantified kind beside rs)
+  pub denies : kind ≡ notKind → (rs : List Record) → Drafted ws c rs → Drafted ws′ c′ (putNot rs)
+  pub joins : andKind ≤ kind → (fs gs : List Record) → beside ≡ min (length fs) 129 → length fs ≤ length gs → Drafted ws c gs
+      → Drafted ws′ c′ (putJoined kind fs gs)
+  pub binds : kind ≤ all2Kind → (rs : List Record) → Drafted ws c rs → Drafted ws′ c′ (putQuantified kind beside rs)
 
 -- another count stands in the array; the rest stays
 pub record Counted (h : List ℕ) (c : ℕ) (h′ : List ℕ) : Type 0 where
@@ -150,6 +151,6 @@ pub data Finishes (ws : List ℕ) (kind beside : ℕ) (ws′ h h′ : List ℕ) 
 
 -- a formula was read, and then its closing bracket, or not
 pub data Closes (s h h′ : List ℕ) (inner r : Reading) : Type 0 where
-  closes : inner ≡ Got → r ≡ Got → kindAt h ≡ 14 → Looks s (stopAt h) h h′ → Closes s h h′ inner r
-  lacks-closing : inner ≡ Got → r ≡ refusedHere h → (kindAt h ≡ 14 → ⊥) → h′ ≡ h → Closes s h h′ inner r
+  closes : inner ≡ Got → r ≡ Got → kindAt h ≡ closingKind → Looks s (stopAt h) h h′ → Closes s h h′ inner r
+  lacks-closing : inner ≡ Got → r ≡ refusedHere h → (kindAt h ≡ closingKind → ⊥) → h′ ≡ h → Closes s h h′ inner r
   closes-refused : (k b e : ℕ) → inner ≡ Refused k b e → r ≡ Refused k b e → h′ ≡ h → Closes s h h′ inner r

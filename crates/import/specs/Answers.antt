@@ -6,7 +6,7 @@ use mathlib.Core.List.{List, []}
 use lib.Dec.{leb, eqb}
 use lib.ListN.{length, take}
 use Rattle.logic.specs.Rule.{Record}
-use Rattle.text.specs.Token.{Token, theEnd, spells}
+use Rattle.text.specs.Token.{Token, semicolonKind, theEnd, spells}
 use Rattle.text.specs.Syntax.{Text}
 use Rattle.text.specs.Grammar.{Read, got, next, accept, or23, andThen, declarations, reader, formula}
 use Rattle.text.specs.Grammar.{refused as leaves}
@@ -60,9 +60,9 @@ pub data HeadingTold (s : List ℕ) (r : Mark) : Type 0 where
 
 -- the semicolon and the end stand behind the formula that was read, or not. h and h′: the readers' array before and after
 pub data Ends (s h h′ : List ℕ) (inner r : Reading) : Type 0 where
-  ends : inner ≡ Got → r ≡ Got → kindAt h ≡ 10 → Looks s (stopAt h) h h′ → kindAt h′ ≡ theEnd → Ends s h h′ inner r
-  no-semicolon : inner ≡ Got → r ≡ refusedHere h → (kindAt h ≡ 10 → ⊥) → Ends s h h′ inner r
-  no-end : inner ≡ Got → r ≡ refusedHere h′ → kindAt h ≡ 10 → Looks s (stopAt h) h h′ → (kindAt h′ ≡ theEnd → ⊥) → Ends s h h′ inner r
+  ends : inner ≡ Got → r ≡ Got → kindAt h ≡ semicolonKind → Looks s (stopAt h) h h′ → kindAt h′ ≡ theEnd → Ends s h h′ inner r
+  no-semicolon : inner ≡ Got → r ≡ refusedHere h → (kindAt h ≡ semicolonKind → ⊥) → Ends s h h′ inner r
+  no-end : inner ≡ Got → r ≡ refusedHere h′ → kindAt h ≡ semicolonKind → Looks s (stopAt h) h h′ → (kindAt h′ ≡ theEnd → ⊥) → Ends s h h′ inner r
   ends-refused : (k b e : ℕ) → inner ≡ Unread k b e → r ≡ Unread k b e → Ends s h h′ inner r
 
 -- "each free first-order variable two more": of the first n names

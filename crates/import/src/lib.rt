@@ -8,6 +8,7 @@ ghost use Rattle.tokens.specs.Tokens.{tokensAt};
 ghost use Rattle.formulas.specs.Reading.{readingOf};
 ghost use Rattle.import.specs.Answers.{HeadingTold, Ends, FreePut, bodyOf, Blank, TextTold, importedOf, faultOf, Claimed};
 use phrases::Mark;
+use text::kinds;
 
 // What import answers: the variables and records of the rule and the length of its strip in bytes; or a refusal's number.
 pub enum Import {
@@ -26,11 +27,6 @@ pub struct TextFault {
     pub length: usize,
 }
 
-// The kinds of the tokens that are looked for here: their places among all words and marks.
-const HEADING: usize = 0;
-
-const SEMICOLON: usize = 10;
-
 // "nest at most 32 deep"
 const DEPTH: usize = 32;
 
@@ -38,8 +34,8 @@ const DEPTH: usize = 32;
 fn read_heading(text: &[u8]) -> Mark
     ensures { λ r. ⌜ HeadingTold (now (text .entry)) r ⌝ }
 {
-    match phrases::read_mark(text, HEADING, 0) {
-        Mark::Stands { next } => phrases::read_mark(text, SEMICOLON, next),
+    match phrases::read_mark(text, kinds::WS2S, 0) {
+        Mark::Stands { next } => phrases::read_mark(text, kinds::SEMICOLON, next),
         Mark::Refused {
             number,
             start,
@@ -61,12 +57,12 @@ fn end(text: &[u8], here: &mut [usize; 5], sentence: u64) -> u64
     if sentence != 0 {
         return sentence;
     }
-    if here[formulas::KIND] != SEMICOLON {
+    if here[formulas::KIND] != kinds::SEMICOLON {
         return 23;
     }
     let behind = here[formulas::STOP];
     formulas::look(text, here, behind);
-    if here[formulas::KIND] != tokens::END {
+    if here[formulas::KIND] != kinds::END {
         return 23;
     }
     0

@@ -5,7 +5,7 @@ use mathlib.Core.Bool.{false, cond}
 use mathlib.Core.List.{List}
 use lib.Dec.{eqb}
 use lib.ListN.{length}
-use Rattle.text.specs.Token.{Token as TextToken, spells}
+use Rattle.text.specs.Token.{Token as TextToken, spells, subKind}
 use Rattle.text.specs.Syntax.{Name, second, Spot, Atom, sub, member, equal, Sentence, atom, Scope}
 use Rattle.text.specs.Grammar.{Read, got, refused, next, rest, andThen, accept, or23, newRefusal, used, branchOf, spotOf, related, relationOf}
 use Rattle.text.specs.Records.{trackOf}
@@ -96,7 +96,7 @@ pub data AtomTold (s : List ℕ) (sc : Scope) (at : ℕ) (R : Read Sentence) : A
 
 -- the right side of `sub` or, of any other kind, `in`, from place `at` on, behind a name of that track
 abbrev pub sided : ℕ → Name → Name → Atom
-sided kind x y = cond (eqb kind 7) (sub x y) (member x y)
+sided kind x y = cond (eqb kind subKind) (sub x y) (member x y)
 
 abbrev pub RightTold : List ℕ → Scope → ℕ → ℕ → ℕ → AtomRead → Type 0
 RightTold s sc track kind at r = (x : Name) → trackOf sc x ≡ track

@@ -30,7 +30,65 @@ words = "ws2s" ∷ "var1" ∷ "var2" ∷ "ex1" ∷ "ex2" ∷ "all1" ∷ "all2" �
 unfoldable pub marks : List String
 marks = ";" ∷ "," ∷ ":" ∷ "(" ∷ ")" ∷ "~" ∷ "&" ∷ "|" ∷ "=>" ∷ "<=>" ∷ "=" ∷ ".0" ∷ ".1" ∷ []
 
--- kinds: 0 to 9 the words, 10 to 22 the marks, each in the order above; then a name, a byte that starts no token, and the end of the text
+-- kinds: 0 to 9 the words, 10 to 22 the marks, each in the order above; those that definitions name
+abbrev pub ex1Kind : ℕ
+ex1Kind = 3
+
+abbrev pub ex2Kind : ℕ
+ex2Kind = 4
+
+abbrev pub all1Kind : ℕ
+all1Kind = 5
+
+abbrev pub all2Kind : ℕ
+all2Kind = 6
+
+abbrev pub subKind : ℕ
+subKind = 7
+
+abbrev pub inKind : ℕ
+inKind = 8
+
+abbrev pub semicolonKind : ℕ
+semicolonKind = 10
+
+abbrev pub commaKind : ℕ
+commaKind = 11
+
+abbrev pub colonKind : ℕ
+colonKind = 12
+
+abbrev pub openingKind : ℕ
+openingKind = 13
+
+abbrev pub closingKind : ℕ
+closingKind = 14
+
+abbrev pub notKind : ℕ
+notKind = 15
+
+abbrev pub andKind : ℕ
+andKind = 16
+
+abbrev pub orKind : ℕ
+orKind = 17
+
+abbrev pub impliesKind : ℕ
+impliesKind = 18
+
+abbrev pub alikeKind : ℕ
+alikeKind = 19
+
+abbrev pub equalsKind : ℕ
+equalsKind = 20
+
+abbrev pub branch1Kind : ℕ
+branch1Kind = 21
+
+abbrev pub branch2Kind : ℕ
+branch2Kind = 22
+
+-- then a name, a byte that starts no token, and the end of the text
 abbrev pub aName : ℕ
 aName = 23
 
