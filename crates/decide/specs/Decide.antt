@@ -8,7 +8,7 @@ use Rattle.logic.specs.Tree.{Tree, positions}
 use Rattle.logic.specs.Claims.{Outcome, refused14, shown, none, larger, statesAt, Answers, Shallow}
 use Rattle.logic.specs.Decide.{decideOf}
 use Rattle.rule_strip.specs.RuleStrip.{variablesOf, countOf, recordsOf, ruleFault}
-use Rattle.rule_strip.specs.RulePlaces.{Offends}
+use Rattle.rule_strip.specs.RulePlaces.{RuleOffends}
 use Rattle.tree_strip.specs.TreeStrip.{treeStrip, treeBytes, readTree, parsed}
 use Rattle.rules.specs.Refusal.{Refusal, nothing, placed, plain, checked, tested, unlessRefused}
 use Rattle.rules.specs.Room.{roomFor, cleared, roomRefusal}
@@ -70,7 +70,7 @@ pub record Claim (rule : List ℕ) (c P room outRoom : ℕ) (v : Verdict) (out :
   pub told : (e : earlyRefusal rule c P room outRoom ≡ nothing) → v ≡ tell (variablesOf rule) (outcome e)
   pub shows : (e : earlyRefusal rule c P room outRoom ≡ nothing) → (places states : ℕ) (t : Tree 2) → outcome e ≡ shown places states t
       → take (length (treeStrip (variablesOf rule) t)) out ≡ treeStrip (variablesOf rule) t
-  pub names : (k p : ℕ) → v ≡ RefusedAt k p → Offends rule k p
+  pub names : (k p : ℕ) → v ≡ RefusedAt k p → RuleOffends rule k p
 
 -- the strip is read as a tree of so many positions, and no downward path of the tree has as many as there are states, so that a stack of as
 -- many entries is enough to walk it; by refusals 14 and 11 they are at most c, and c at most 64

@@ -12,7 +12,7 @@ use Rattle.logic.specs.Claims.{Judgement as Ruled, unbuilt, yes, no, Judges}
 use Rattle.logic.specs.Decide.{judgeOf}
 use Rattle.bits.specs.Bits.{field}
 use Rattle.rule_strip.specs.RuleStrip.{variablesOf, countOf, recordsOf, ruleFault}
-use Rattle.rule_strip.specs.RulePlaces.{Offends}
+use Rattle.rule_strip.specs.RulePlaces.{RuleOffends}
 use Rattle.tree_strip.specs.TreePlaces.{OffendsAt}
 use Rattle.tree_strip.specs.TreeStrip.{Parsed, parsed, refused, readTree, treeFault}
 use Rattle.rules.specs.Refusal.{Refusal, nothing, placed, plain, checked, tested, unlessRefused}
@@ -84,4 +84,4 @@ pub record JudgedTree (rule : List ℕ) (c : ℕ) (strip : List ℕ) (v : Judgem
 -- place that v names is one where the rule strip or the tree strip offends
 pub record JudgeClaim (rule : List ℕ) (c room : ℕ) (strip : List ℕ) (v : Judgement) : Type 0 where
   pub judged : refusalBefore rule c room strip ≡ nothing → JudgedTree rule c strip v
-  pub names : (k p : ℕ) → v ≡ RefusedAt k p → Offends rule k p ⊎ OffendsAt strip k p
+  pub names : (k p : ℕ) → v ≡ RefusedAt k p → RuleOffends rule k p ⊎ OffendsAt strip k p

@@ -15,8 +15,8 @@ use Rattle.bits.specs.Faults.{orElse}
 use Rattle.bits.specs.declared.Fault.{Fault}
 use Rattle.bits.specs.declared.Fault.the-variants.{Sound, At}
 use Rattle.rule_strip.specs.RuleStrip.{variablesOf, countOf, recordAt, recordsFrom, recordsOf, ruleBytes, firstUse, secondUse, recordFault}
-use Rattle.rule_strip.specs.RuleStrip.{recordsFault, recordsEnd, padding, headFault, ruleFault, AcceptedRule}
-use Rattle.rule_strip.specs.RuleAnswers.{useRefusal, limitOf, fieldFault, answered, checkedRule}
+use Rattle.rule_strip.specs.RuleStrip.{recordsFault, recordsEnd, rulePadding, headFault, ruleFault, AcceptedRule}
+use Rattle.rule_strip.specs.RuleAnswers.{useRefusal, limitOf, fieldFault, ruleAnswer, checkedRule}
 use Rattle.rule_strip.specs.RulePlaces.{Keeps}
 use Rattle.rule_strip.specs.declared.Use.{Use}
 use Rattle.rule_strip.specs.declared.Use.the-variants.{Variable, Earlier, Unused}
@@ -169,7 +169,7 @@ module _ (s : List ℕ) (e : ruleFault s ≡ Sound) where
   unfolding ruleFault
   parts =
       let w = or-passed (headFault s) _ e in
-      (w .0, test-passed (anySet (padding s)) 6 (recordsEnd s + firstSet (padding s)) _ (w .1) .1)
+      (w .0, test-passed (anySet (rulePadding s)) 6 (recordsEnd s + firstSet (rulePadding s)) _ (w .1) .1)
 
   records-count : length (recordsOf s) ≡ countOf s
   unfolding recordsOf
@@ -195,7 +195,7 @@ module _ (s : List ℕ) where
   unfolding checkedRule
   checked-accepted n m e = go (ruleFault s) refl e
     where
-      go : (f : Fault) → ruleFault s ≡ f → answered s f ≡ accepted n m → AcceptedRule s n m
+      go : (f : Fault) → ruleFault s ≡ f → ruleAnswer s f ≡ accepted n m → AcceptedRule s n m
       go Sound p q = record { unrefused = p; variables = cc; count = cc }
       go (At k at) p q = absurd (let z : _≡_ {A = ℕ} 0 1 = cc in omega arith)
 
@@ -203,6 +203,6 @@ module _ (s : List ℕ) where
   unfolding checkedRule
   checked-refused k p e = go (ruleFault s) refl e
     where
-      go : (f : Fault) → ruleFault s ≡ f → answered s f ≡ turnedDown k p → ruleFault s ≡ At k p
+      go : (f : Fault) → ruleFault s ≡ f → ruleAnswer s f ≡ turnedDown k p → ruleFault s ≡ At k p
       go Sound g q = absurd (let z : _≡_ {A = ℕ} 0 1 = cc in omega arith)
       go (At l at) g q = g ∙ cc

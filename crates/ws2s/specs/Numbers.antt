@@ -12,7 +12,7 @@ use Rattle.judge.specs.declared.Judgement.{Judgement}
 use Rattle.judge.specs.declared.Judgement.the-variants as judgement
 use Rattle.decide.specs.declared.Verdict.{Verdict}
 use Rattle.decide.specs.declared.Verdict.the-variants as verdict
-use Rattle.rule_strip.specs.RulePlaces.{Offends}
+use Rattle.rule_strip.specs.RulePlaces.{RuleOffends}
 use Rattle.tree_strip.specs.TreePlaces.{OffendsAt}
 use Rattle.judge.specs.Judge.{JudgeClaim}
 use Rattle.decide.specs.Decide.{Claim, ShallowStrip}
@@ -61,7 +61,7 @@ faultNumbers f = record { refusal = f .refusal; start = f .start; length = f .le
 
 -- A1, "Say at which bit": a refusal of the check is one by which the strip offends, at that place
 abbrev pub RuleRefusedAt : List ℕ → RuleNumbers → Type 0
-RuleRefusedAt s r = (r .refusal ≡ 0 → ⊥) → Offends s (r .refusal) (r .place)
+RuleRefusedAt s r = (r .refusal ≡ 0 → ⊥) → RuleOffends s (r .refusal) (r .place)
 
 abbrev pub TreeRefusedAt : List ℕ → TreeNumbers → Type 0
 TreeRefusedAt s r = (r .refusal ≡ 0 → ⊥) → OffendsAt s (r .refusal) (r .place)
