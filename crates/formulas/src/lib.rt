@@ -10,7 +10,7 @@ ghost use Rattle.text.specs.Token.{ex1Kind, all2Kind, openingKind, notKind, ali
 ghost use Rattle.text.specs.Grammar.{atomOf};
 ghost use Rattle.tokens.specs.InUse.{orderOf, scopeOf, NamesFit};
 ghost use Rattle.formulas.specs.Reading.{levelAt, opensBy, bracketAt, placeBy, orderBy, quantifiedAt, Joining};
-ghost use Rattle.formulas.specs.Reading.{kindAt, Ready, Looks, readingOf, Reads, Left, Leads, Owns, Finishes, Closes};
+ghost use Rattle.formulas.specs.Reading.{nextKind, AtToken, Looks, readingOf, Reads, Left, Leads, Owns, Finishes, Closes};
 use text::kinds;
 use tokens::Token;
 
@@ -133,7 +133,7 @@ fn atom(
     here: &mut [usize; 5],
 ) -> u64
     requires { ⌜ NamesFit (now text) (now names) «in_use» ⌝ }
-    requires { ⌜ Ready (now text) (now here) ⌝ }
+    requires { ⌜ AtToken (now text) (now here) ⌝ }
     ensures { λ r. ⌜ Reads atomOf (now (text .entry)) (scopeOf (now (text .entry)) (now (names .entry)) «in_use») (now (words .entry)) (now (here .entry))
         (now (words .exit)) (now (here .exit)) (readingOf r (now (here .exit))) ⌝ }
 {
@@ -172,7 +172,7 @@ pub fn formula(
     strength: usize,
 ) -> u64
     requires { ⌜ NamesFit (now text) (now names) «in_use» ⌝ }
-    requires { ⌜ Ready (now text) (now here) ⌝ }
+    requires { ⌜ AtToken (now text) (now here) ⌝ }
     requires { ⌜ strength ≤ 3 ⌝ }
     ensures { λ r. ⌜ Reads (levelAt depth strength) (now (text .entry)) (scopeOf (now (text .entry)) (now (names .entry)) «in_use») (now (words .entry))
         (now (here .entry)) (now (words .exit)) (now (here .exit)) (readingOf r (now (here .exit))) ⌝ }
@@ -238,7 +238,7 @@ fn tighter(
     strength: usize,
 ) -> u64
     requires { ⌜ NamesFit (now text) (now names) «in_use» ⌝ }
-    requires { ⌜ Ready (now text) (now here) ⌝ }
+    requires { ⌜ AtToken (now text) (now here) ⌝ }
     requires { ⌜ strength ≤ 3 ⌝ }
     ensures { λ r. ⌜ Reads (levelAt depth (suc strength)) (now (text .entry)) (scopeOf (now (text .entry)) (now (names .entry)) «in_use»)
         (now (words .entry)) (now (here .entry)) (now (words .exit)) (now (here .exit)) (readingOf r (now (here .exit))) ⌝ }
@@ -292,7 +292,7 @@ fn operand(
     depth: usize,
 ) -> u64
     requires { ⌜ NamesFit (now text) (now names) «in_use» ⌝ }
-    requires { ⌜ Ready (now text) (now here) ⌝ }
+    requires { ⌜ AtToken (now text) (now here) ⌝ }
     ensures { λ r. ⌜ Reads (levelAt depth 4) (now (text .entry)) (scopeOf (now (text .entry)) (now (names .entry)) «in_use») (now (words .entry))
         (now (here .entry)) (now (words .exit)) (now (here .exit)) (readingOf r (now (here .exit))) ⌝ }
 {
@@ -328,8 +328,8 @@ fn bracket(
     depth: usize,
 ) -> u64
     requires { ⌜ NamesFit (now text) (now names) «in_use» ⌝ }
-    requires { ⌜ Ready (now text) (now here) ⌝ }
-    requires { ⌜ kindAt (now here) ≡ openingKind ⌝ }
+    requires { ⌜ AtToken (now text) (now here) ⌝ }
+    requires { ⌜ nextKind (now here) ≡ openingKind ⌝ }
     ensures { λ r. ⌜ Reads (bracketAt depth) (now (text .entry)) (scopeOf (now (text .entry)) (now (names .entry)) «in_use») (now (words .entry))
         (now (here .entry)) (now (words .exit)) (now (here .exit)) (readingOf r (now (here .exit))) ⌝ }
 {
@@ -351,10 +351,10 @@ fn quantified(
     order: usize,
 ) -> u64
     requires { ⌜ NamesFit (now text) (now names) «in_use» ⌝ }
-    requires { ⌜ Ready (now text) (now here) ⌝ }
-    requires { ⌜ (ex1Kind ≤ kindAt (now here)) × (kindAt (now here) ≤ all2Kind) ⌝ }
-    requires { ⌜ orderOf order ≡ orderBy (kindAt (now here)) ⌝ }
-    ensures { λ r. ⌜ Reads (quantifiedAt depth (kindAt (now (here .entry)))) (now (text .entry)) (scopeOf (now (text .entry)) (now (names .entry)) «in_use»)
+    requires { ⌜ AtToken (now text) (now here) ⌝ }
+    requires { ⌜ (ex1Kind ≤ nextKind (now here)) × (nextKind (now here) ≤ all2Kind) ⌝ }
+    requires { ⌜ orderOf order ≡ orderBy (nextKind (now here)) ⌝ }
+    ensures { λ r. ⌜ Reads (quantifiedAt depth (nextKind (now (here .entry)))) (now (text .entry)) (scopeOf (now (text .entry)) (now (names .entry)) «in_use»)
         (now (words .entry)) (now (here .entry)) (now (words .exit)) (now (here .exit)) (readingOf r (now (here .exit))) ⌝ }
 {
     let kind = here[KIND];

@@ -16,7 +16,7 @@ use Rattle.text.specs.Syntax.{Text}
 use Rattle.text.specs.Grammar.{Read, got, textOf}
 use Rattle.text.specs.Grammar.{refused as leaves}
 use Rattle.text.specs.Records.{variablesIn, countIn, recordsIn}
-use Rattle.text.specs.Import.{written, ruleOf, import, outAfter}
+use Rattle.text.specs.Import.{written, ruleOf, import, outAfterImport}
 use Rattle.text.specs.Import.{Import as Answer, refused as turnedDown}
 use Rattle.text.proofs.Texts.{text-right}
 use Rattle.text.proofs.Readers.{read-good}
@@ -104,10 +104,10 @@ written-room s size n m strip e = subst (Fits size) e (go (ltb size 290) refl)
     go false l = of-read (ltb-false size 290 l) (textOf s) refl
 
 abbrev pub Outcome : List ℕ → List ℕ → Import → List ℕ → Type 0
-Outcome s out r out′ = (r ≡ importedOf (import s (length out))) × ((out′ ≡ outAfter (import s (length out)) out) × Claimed s r out′)
+Outcome s out r out′ = (r ≡ importedOf (import s (length out))) × ((out′ ≡ outAfterImport (import s (length out)) out) × Claimed s r out′)
 
-claim-follows : (s out : List ℕ) (a : Answer) → import s (length out) ≡ a → Claimed s (importedOf a) (outAfter a out)
-unfolding outAfter
+claim-follows : (s out : List ℕ) (a : Answer) → import s (length out) ≡ a → Claimed s (importedOf a) (outAfterImport a out)
+unfolding outAfterImport
 claim-follows s out (written n′ m′ strip) e n m len q =
     let x : n′ ≡ n = cc in
     let y : m′ ≡ m = cc in
@@ -118,16 +118,16 @@ claim-follows s out (written n′ m′ strip) e n m len q =
 claim-follows s out (turnedDown k) e n m len q = absurd (let z : _≡_ {A = ℕ} 0 1 = cc in omega arith)
 
 outcome : (s out : List ℕ) (a : Answer) (r : Import) (out′ : List ℕ) → import s (length out) ≡ a → r ≡ importedOf a
-    → out′ ≡ outAfter a out → Outcome s out r out′
+    → out′ ≡ outAfterImport a out → Outcome s out r out′
 outcome s out a r out′ e q p =
-    (q ∙ ap importedOf (sym e), (p ∙ ap (λ (b : Answer). outAfter b out) (sym e), rw (q, p) (claim-follows s out a e)))
+    (q ∙ ap importedOf (sym e), (p ∙ ap (λ (b : Answer). outAfterImport b out) (sym e), rw (q, p) (claim-follows s out a e)))
 
-front-put : (out : List ℕ) (n m : ℕ) (strip : List ℕ) → sets out 0 strip ≡ outAfter (written n m strip) out
-unfolding outAfter
+front-put : (out : List ℕ) (n m : ℕ) (strip : List ℕ) → sets out 0 strip ≡ outAfterImport (written n m strip) out
+unfolding outAfterImport
 front-put out n m strip = refl
 
-unchanged : (out : List ℕ) (k : ℕ) → out ≡ outAfter (turnedDown k) out
-unfolding outAfter
+unchanged : (out : List ℕ) (k : ℕ) → out ≡ outAfterImport (turnedDown k) out
+unfolding outAfterImport
 unchanged out k = refl
 
 module _ (s out : List ℕ) where

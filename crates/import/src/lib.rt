@@ -3,10 +3,10 @@ ghost use mathlib.Core.Path.{_≡_};
 ghost use Prim.Native.Nat.{_-_, _≤_};
 ghost use lib.ListN.{length};
 ghost use Rattle.text.specs.Grammar.{textOf};
-ghost use Rattle.text.specs.Import.{import, outAfter};
+ghost use Rattle.text.specs.Import.{import, outAfterImport};
 ghost use Rattle.tokens.specs.Tokens.{tokensAt};
 ghost use Rattle.formulas.specs.Reading.{readingOf};
-ghost use Rattle.import.specs.Answers.{HeadingTold, Ends, FreePut, bodyOf, Blank, TextTold, importedOf, faultOf, Claimed};
+ghost use Rattle.import.specs.Answers.{HeadingTold, Ends, FreePut, bodyOf, FreshArrays, TextTold, importedOf, faultOf, Claimed};
 use phrases::Mark;
 use text::kinds;
 
@@ -86,7 +86,7 @@ fn put_free(words: &mut [u64; 128], names: &[usize; 24], in_use: usize, count: u
 
 // The declarations, the formula and the end, from a place on.
 fn read_body(text: &[u8], words: &mut [u64; 128], here: &mut [usize; 5], at: usize) -> u64
-    requires { ⌜ Blank (now words) (now here) ⌝ }
+    requires { ⌜ FreshArrays (now words) (now here) ⌝ }
     ensures { λ r. ⌜ TextTold (now (words .exit)) (now (here .exit)) (bodyOf (tokensAt (now (text .entry)) at))
         (readingOf r (now (here .exit))) ⌝ }
 {
@@ -111,7 +111,7 @@ fn read_body(text: &[u8], words: &mut [u64; 128], here: &mut [usize; 5], at: usi
 
 // A whole text: its records into the one array, how many they are and its tracks into the other.
 fn read_text(text: &[u8], words: &mut [u64; 128], here: &mut [usize; 5]) -> u64
-    requires { ⌜ Blank (now words) (now here) ⌝ }
+    requires { ⌜ FreshArrays (now words) (now here) ⌝ }
     ensures { λ r. ⌜ TextTold (now (words .exit)) (now (here .exit)) (textOf (now (text .entry))) (readingOf r (now (here .exit))) ⌝ }
 {
     match read_heading(text) {
@@ -131,7 +131,7 @@ fn read_text(text: &[u8], words: &mut [u64; 128], here: &mut [usize; 5]) -> u64
 // The rule that a text says, as a strip at the front of out.
 pub fn import_text(text: &[u8], out: &mut [u8]) -> Import
     ensures { λ r. do ⌜ r ≡ importedOf (import (now (text .entry)) (length (now (out .entry)))) ⌝ }
-    ensures { λ r. ⌜ now (out .exit) ≡ outAfter (import (now (text .entry)) (length (now (out .entry)))) (now (out .entry)) ⌝ }
+    ensures { λ r. ⌜ now (out .exit) ≡ outAfterImport (import (now (text .entry)) (length (now (out .entry)))) (now (out .entry)) ⌝ }
     ensures { λ r. ⌜ Claimed (now (text .entry)) r (now (out .exit)) ⌝ }
 {
     if out.len() < 290 {

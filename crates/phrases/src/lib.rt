@@ -7,7 +7,7 @@ ghost use lib.ListN.{length};
 ghost use Rattle.text.specs.Token.{aName};
 ghost use Rattle.text.specs.Grammar.{newRefusal, inUse, spotOf, atomOf, declarations};
 ghost use Rattle.text.specs.Grammar as grammar;
-ghost use Rattle.tokens.specs.Tokens.{part, Span, Stands, readFrom, tokensAt};
+ghost use Rattle.tokens.specs.Tokens.{part, Span, StandsNext, readFrom, tokensAt};
 ghost use Rattle.tokens.specs.InUse.{orderOf, scopeOf, NamesFit};
 ghost use Rattle.phrases.specs.Looked.{Looked, UsedAs, relationBy, goodOrder};
 ghost use Rattle.phrases.specs.Told.{MarkTold, BinderTold, SpotTold, BranchTold, AtomTold, RightTold, EqualTold, RelatedTold, DeclarationsTold};
@@ -372,7 +372,7 @@ fn read_related(
 // behind it.
 pub fn read_atom(text: &[u8], names: &[usize; 24], in_use: usize, left: Token) -> AtomRead
     requires { ⌜ NamesFit (now text) (now names) «in_use» ⌝ }
-    requires { ⌜ Stands (now text) (left .start) left ⌝ }
+    requires { ⌜ StandsNext (now text) (left .start) left ⌝ }
     ensures { λ r. ⌜ AtomTold (now (text .entry)) (scopeOf (now (text .entry)) (now (names .entry)) «in_use») (left .start)
         (atomOf (scopeOf (now (text .entry)) (now (names .entry)) «in_use») (tokensAt (now (text .entry)) (left .start))) r ⌝ }
 {

@@ -27,8 +27,8 @@ unfoldable pub words : List String
 words = "ws2s" ∷ "var1" ∷ "var2" ∷ "ex1" ∷ "ex2" ∷ "all1" ∷ "all2" ∷ "sub" ∷ "in" ∷ "root" ∷ []
 
 -- the marks of the grammar; "`.0` and `.1` are single tokens; the longest token is taken": `=>` stands before `=`, which it begins with
-unfoldable pub marks : List String
-marks = ";" ∷ "," ∷ ":" ∷ "(" ∷ ")" ∷ "~" ∷ "&" ∷ "|" ∷ "=>" ∷ "<=>" ∷ "=" ∷ ".0" ∷ ".1" ∷ []
+unfoldable pub textMarks : List String
+textMarks = ";" ∷ "," ∷ ":" ∷ "(" ∷ ")" ∷ "~" ∷ "&" ∷ "|" ∷ "=>" ∷ "<=>" ∷ "=" ∷ ".0" ∷ ".1" ∷ []
 
 -- kinds: 0 to 9 the words, 10 to 22 the marks, each in the order above; those that definitions name
 abbrev pub ex1Kind : ℕ
@@ -99,13 +99,13 @@ abbrev pub theEnd : ℕ
 theEnd = 25
 
 -- the number of a spelling in a list whose first has number i; 26, which no token has, if it is not there
-unfoldable pub placeIn : ℕ → List String → String → ℕ
-placeIn i [] w = 26
-placeIn i (v ∷ vs) w = elim (eqt v w) [ true ↦ i | false ↦ placeIn (suc i) vs w ]
+unfoldable pub numberIn : ℕ → List String → String → ℕ
+numberIn i [] w = 26
+numberIn i (v ∷ vs) w = elim (eqt v w) [ true ↦ i | false ↦ numberIn (suc i) vs w ]
 
 -- the token is this word or mark
 unfoldable pub spells : String → Token → Bool
-spells w t = eqb (t .kind) (placeIn 0 (words ++ marks) w)
+spells w t = eqb (t .kind) (numberIn 0 (words ++ textMarks) w)
 
 -- the token is a name, and no word
 abbrev pub isName : Token → Bool
@@ -137,9 +137,9 @@ abbrev pub isBlank : ℕ → Bool
 isBlank b = eqb b 32 || (eqb b 9 || (eqb b 13 || eqb b 10))
 
 -- how many letters or digits s begins with
-unfoldable pub run : List ℕ → ℕ
-run [] = 0
-run (b ∷ s) = elim (isAlnum b) [ true ↦ suc (run s) | false ↦ 0 ]
+unfoldable pub alnumRun : List ℕ → ℕ
+alnumRun [] = 0
+alnumRun (b ∷ s) = elim (isAlnum b) [ true ↦ suc (alnumRun s) | false ↦ 0 ]
 
 -- the kind of the letters and digits w: the place of w among the words numbered from i, else a name
 unfoldable pub wordKind : ℕ → List String → List ℕ → ℕ
@@ -158,7 +158,10 @@ markPiece i (m ∷ ms) s = elim (beginsWith (spell m) s) [ true ↦ record { kin
 
 -- the token that the bytes b ∷ s begin with: "A name is an ASCII letter followed by any number of ASCII letters or digits"
 unfoldable pub piece : ℕ → List ℕ → Piece
-piece b s = elim (isLetter b) [ true ↦ record { kind = wordKind 0 words (b ∷ take (run s) s); size = suc (run s) } | false ↦ markPiece 10 marks (b ∷ s) ]
+piece b s = elim (isLetter b) [
+  | true ↦ record { kind = wordKind 0 words (b ∷ take (alnumRun s) s); size = suc (alnumRun s) }
+  | false ↦ markPiece 10 textMarks (b ∷ s)
+]
 
 -- the tokens of s, whose first byte has place at; the end of the text, of no bytes, is the last. d: more than the bytes of s, so that it never runs out
 unfoldable pub tokens : ℕ → ℕ → List ℕ → List Token

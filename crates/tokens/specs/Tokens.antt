@@ -9,7 +9,7 @@ use lib.Dec.{eqb}
 use lib.ListN.{length, take, drop}
 use Rattle.text.specs.Token.{Token as TextToken, semicolonKind, commaKind, colonKind, openingKind, closingKind, notKind, andKind, orKind}
 use Rattle.text.specs.Token.{impliesKind, alikeKind, branch1Kind, branch2Kind, theEnd, aName, aStray, spell, tokens}
-use Rattle.text.specs.Grammar.{next, rest}
+use Rattle.text.specs.Grammar.{peek, rest}
 use Rattle.tokens.specs.declared.Token.{Token}
 
 -- the bytes of s from place a up to place e
@@ -30,8 +30,8 @@ abbrev pub readFrom : List ℕ → Token → TextToken
 readFrom s r = record { kind = r .kind; bytes = part s (r .start) (r .stop); start = r .start; stop = r .stop }
 
 -- r is the token that stands next at place `at` of s; the end of the text is never taken
-pub record Stands (s : List ℕ) (at : ℕ) (r : Token) : Type 0 where
-  pub stands : next (tokensAt s at) ≡ readFrom s r
+pub record StandsNext (s : List ℕ) (at : ℕ) (r : Token) : Type 0 where
+  pub stands : peek (tokensAt s at) ≡ readFrom s r
   pub goes-on : (r .kind ≡ theEnd → ⊥) → rest (tokensAt s at) ≡ tokensAt s (r .stop)
   pub onward : (r .kind ≡ theEnd → ⊥) → (at < r .stop) × (r .stop ≤ length s)
   pub ordered : r .start ≤ r .stop

@@ -3,8 +3,8 @@ ghost use mathlib.Core.Path.{_≡_};
 ghost use mathlib.Core.List.{[], _∷_};
 ghost use Prim.Native.Nat.{_+_, _<_, _≤_};
 ghost use lib.ListN.{length, drop};
-ghost use Rattle.text.specs.Token.{isBlank, isLetter, isAlnum, words, wordKind, marks, markPiece, beginsWith};
-ghost use Rattle.tokens.specs.Tokens.{part, Span, Stands, span, packed, packedKind, singleKind, markSize};
+ghost use Rattle.text.specs.Token.{isBlank, isLetter, isAlnum, words, wordKind, textMarks, markPiece, beginsWith};
+ghost use Rattle.tokens.specs.Tokens.{part, Span, StandsNext, span, packed, packedKind, singleKind, markSize};
 use text::kinds;
 
 pub mod names;
@@ -167,7 +167,7 @@ fn holds(text: &[u8], at: usize, b: u8) -> bool
 // The kind of the longest mark at a place, or of a stray byte.
 fn mark_kind(text: &[u8], at: usize) -> usize
     requires { ⌜ at < length (now text) ⌝ }
-    ensures { λ r. ⌜ r ≡ markPiece 10 marks (drop at (now (text .entry))) .kind ⌝ }
+    ensures { λ r. ⌜ r ≡ markPiece 10 textMarks (drop at (now (text .entry))) .kind ⌝ }
 {
     let b = text[at];
     if b == b'=' {
@@ -211,7 +211,7 @@ fn mark_size(kind: usize) -> usize
 
 // The token that stands next at a place; after the last one, the end.
 pub fn token_at(text: &[u8], at: usize) -> Token
-    ensures { λ r. ⌜ Stands (now (text .entry)) at r ⌝ }
+    ensures { λ r. ⌜ StandsNext (now (text .entry)) at r ⌝ }
 {
     let start = blanks_end(text, at);
     if text.len() <= start {

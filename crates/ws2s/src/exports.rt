@@ -7,7 +7,7 @@ ghost use Rattle.tree_strip.specs.TreeAnswers.{checkedTree};
 ghost use Rattle.decide.specs.Decide.{verdictOf, workspaceOf, outOf};
 ghost use Rattle.judge.specs.Judge.{judgementFor, workspaceFor};
 ghost use Rattle.text.specs.Grammar.{textOf};
-ghost use Rattle.text.specs.Import.{import, outAfter};
+ghost use Rattle.text.specs.Import.{import, outAfterImport};
 ghost use Rattle.import.specs.Answers.{importedOf, faultOf};
 ghost use Rattle.ws2s.specs.Numbers.{ruleNumbers, treeNumbers, judgementNumbers, verdictNumbers, writtenNumbers, faultNumbers};
 ghost use Rattle.ws2s.specs.Numbers.{RuleRefusedAt, TreeRefusedAt, JudgedInNumbers, DecidedInNumbers, ShallowInNumbers, ImportedInNumbers};
@@ -271,7 +271,7 @@ pub extern "C" fn ws2s_decide(
 #[no_mangle]
 pub extern "C" fn ws2s_import(text: &[u8], out: &mut [u8]) -> WrittenNumbers
     ensures { λ r. ⌜ r ≡ writtenNumbers (importedOf (import (now (text .entry)) (length (now (out .entry))))) ⌝ }
-    ensures { λ _. ⌜ now (out .exit) ≡ outAfter (import (now (text .entry)) (length (now (out .entry)))) (now (out .entry)) ⌝ }
+    ensures { λ _. ⌜ now (out .exit) ≡ outAfterImport (import (now (text .entry)) (length (now (out .entry)))) (now (out .entry)) ⌝ }
     ensures { λ r. ⌜ ImportedInNumbers (now (text .entry)) r (now (out .exit)) ⌝ }
 {
     written_numbers(import::import_text(text, out))
