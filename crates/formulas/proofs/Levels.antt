@@ -39,7 +39,7 @@ use Rattle.formulas.specs.Reading.{nextKind, startAt, stopAt, tokenOf, c
 use Rattle.formulas.specs.Reading.{Told, told-got, told-refused, Reads, Left}
 use Rattle.formulas.specs.Reading.{Owns, Counted, Finishes, finishes, passes, Closes, closes, lacks-closing, closes-refused}
 use Rattle.formulas.specs.Reading.{Reading, Got, Refused, readingOf}
-use Rattle.formulas.proofs.Strengths.{wordOf, joinOf, joining-most, tighter-within, ahead, level-starts, spells-operator}
+use Rattle.formulas.proofs.Strengths.{operatorOf, joinOf, joining-most, tighter-within, ahead, level-starts, spells-operator}
 use Rattle.formulas.proofs.Strengths.{write-join, tracks-join, then-then}
 use Rattle.formulas.proofs.Strengths.{deeper-is, implied, level-one, implied-is, operand-is, start-atomic, start-deep, quantifier-of}
 use Rattle.formulas.proofs.Strengths.{negation-is, bracket-is, quantifier-is, closing, closing-is, bracket-starts, write-quantified, tracks-quantified}
@@ -226,22 +226,22 @@ module _ (d : ℕ) {k : ℕ} (j : Joining k) {s : List ℕ} {sc : Scope} {rs : L
   -- a refusal ends the reading
   pub ahead-refused : {n b e : ℕ} → Told s sc rs h ws h′ R r → r ≡ Refused n b e → Told s sc rs h ws h′ (ahead d j sc R) r
   unfolding ahead
-  ahead-refused w q = told-up sc rs h ws h′ (λ f us. chain (length us) (wordOf j) (joinOf j) (levelAt d (suc k)) sc f us) w q
+  ahead-refused w q = told-up sc rs h ws h′ (λ f us. chain (length us) (operatorOf j) (joinOf j) (levelAt d (suc k)) sc f us) w q
 
   module _ (w : Told s sc rs h ws h′ R r) (q : r ≡ Got) (y : AtToken s h′) where
     ahead-is : (f : Sentence) → R ≡ got f (tokensAt s (startAt h′)) → (v : Bool) → eqb (nextKind h′) (19 - k) ≡ v
         → ahead d j sc R ≡ (elim v as (λ _. Read Sentence) [
           | true ↦ readThen (levelAt d (suc k) sc (rest (tokensAt s (startAt h′))))
-              (λ g us. chain (length us) (wordOf j) (joinOf j) (levelAt d (suc k)) sc (joinOf j f g) us)
+              (λ g us. chain (length us) (operatorOf j) (joinOf j) (levelAt d (suc k)) sc (joinOf j f g) us)
           | false ↦ got f (tokensAt s (startAt h′))
         ])
     unfolding ahead
     ahead-is f e v x =
         let us = tokensAt s (startAt h′) in
-        let p : spells (wordOf j) (peek us) ≡ v = spells-operator j (peek us) ∙ ap (λ (n : ℕ). eqb n (19 - k)) (kind-is y) ∙ x in
-        rw e (more-is (wordOf j) (joinOf j) (levelAt d (suc k)) (tighter-within d j) sc (no-end j) f us ∙ rw p refl)
+        let p : spells (operatorOf j) (peek us) ≡ v = spells-operator j (peek us) ∙ ap (λ (n : ℕ). eqb n (19 - k)) (kind-is y) ∙ x in
+        rw e (more-is (operatorOf j) (joinOf j) (levelAt d (suc k)) (tighter-within d j) sc (no-end j) f us ∙ rw p refl)
       where
-        no-end : {k : ℕ} (j : Joining k) → spells (wordOf j) (peek []) ≡ false
+        no-end : {k : ℕ} (j : Joining k) → spells (operatorOf j) (peek []) ≡ false
         no-end {k} j = spells-operator j (peek []) ∙ ne-eqb 25 (19 - k) (λ z. omega arith)
 
     -- no operator: all is read
@@ -263,13 +263,13 @@ module _ (d : ℕ) {k : ℕ} (j : Joining k) {s : List ℕ} {sc : Scope} {rs : L
           let X₀ = levelAt d (suc k) sc (tokensAt s (startAt m)) in
           let a = ahead-is f (i .reads) true (eq-eqb (nextKind h′) (19 - k) e) in
           let b = ap (λ (us : List Token). readThen (levelAt d (suc k) sc us)
-          (λ g us. chain (length us) (wordOf j) (joinOf j) (levelAt d (suc k)) sc (joinOf j f g) us))
+          (λ g us. chain (length us) (operatorOf j) (joinOf j) (levelAt d (suc k)) sc (joinOf j f g) us))
           (taken y (omega arith) L) in
           let tr = tracks-join j (length sc) in
           let hi : 16 ≤ 19 - k = omega arith in
           let mt = L .tracks-is in (
             readThen X₀ (λ g us. got (joinOf j f g) us),
-            a ∙ b ∙ sym (then-then X₀ (joinOf j f) (λ g us. chain (length us) (wordOf j) (joinOf j) (levelAt d (suc k)) sc g us)),
+            a ∙ b ∙ sym (then-then X₀ (joinOf j f) (λ g us. chain (length us) (operatorOf j) (joinOf j) (levelAt d (suc k)) sc g us)),
             told-finished (joinOf j f)
                 (λ g D c o. let ss = write sc f rs in rw (← write-join j sc f g rs) (o .joins hi ss (write sc g ss) (i .drafts .size) (write-longer sc g ss) D))
                 (λ g. rw (tr f g) (omega arith))
@@ -484,8 +484,7 @@ module _ (d : ℕ) {s : List ℕ} {sc : Scope} {ws h : List ℕ} (y : AtToken s 
     pub operand-quantifier : {ws′ h′ : List ℕ} {r : Reading} → 3 ≤ nextKind h → nextKind h ≤ 6 → Reads (quantifiedAt (d - 1) (nextKind h)) s sc ws h ws′ h′ r
         → Reads (levelAt d 4) s sc ws h ws′ h′ r
     operand-quantifier l g X =
-        by {read = quantifiedAt (d - 1) (nextKind h)}
-        (quantifier-is d z sc (tokensAt s (startAt h)) (nextKind h) (quantifier-of (nextKind h) l g) (kind-is y)) X
+        by {read = quantifiedAt (d - 1) (nextKind h)} (quantifier-is d z sc (tokensAt s (startAt h)) _ (quantifier-of _ l g) (kind-is y)) X
 
     pub operand-not : {m ws₂ h₂ ws₃ h₃ : List ℕ} {beside : ℕ} {inner r : Reading} → nextKind h ≡ 15 → Looks s (stopAt h) h m
         → Reads (levelAt (d - 1) 4) s sc ws m ws₂ h₂ inner → Finishes ws₂ 15 beside ws₃ h₂ h₃ inner r → Reads (levelAt d 4) s sc ws h ws₃ h₃ r
@@ -506,9 +505,7 @@ module _ (d : ℕ) {s : List ℕ} {sc : Scope} {ws h : List ℕ} (y : AtToken s 
 module _ (d : ℕ) {s : List ℕ} {sc : Scope} {ws h m ws₂ h₂ : List ℕ} {inner : Reading} (y : AtToken s h) (e : nextKind h ≡ 13) (L : Looks s (stopAt h) h m)
     (X : Reads (levelAt d 0) s sc ws m ws₂ h₂ inner) where
   starts : bracketAt d sc (tokensAt s (startAt h)) ≡ readThen (levelAt d 0 sc (tokensAt s (startAt m))) (λ f us. closing f us)
-  starts =
-      bracket-starts d sc (tokensAt s (startAt h))
-      ∙ ap (λ (us : List Token). readThen (levelAt d 0 sc us) (λ f us. closing f us)) (taken y (omega arith) L)
+  starts = bracket-starts d sc (tokensAt s (startAt h)) ∙ ap (λ (us : List Token). readThen (levelAt d 0 sc us) closing) (taken y (omega arith) L)
 
   inside : (rs : List Record) → Drafted ws (countAt h) rs → length sc ≤ tracksAt h → Told s sc rs m ws₂ h₂ (levelAt d 0 sc (tokensAt s (startAt m))) inner
   inside rs D l = let mt = L .tracks-is in X .tells rs (subst (λ (n : ℕ). Drafted ws n rs) (sym (L .count-is)) D) (omega arith)

@@ -24,10 +24,10 @@ use Rattle.formulas.specs.Reading.{Joining, joins-alike, joins-either, j
 -- ---- the readers by strength
 
 -- the operators that join any number of operands
-unfoldable pub wordOf : {k : ℕ} → Joining k → String
-wordOf joins-alike = "<=>"
-wordOf joins-either = "|"
-wordOf joins-both = "&"
+unfoldable pub operatorOf : {k : ℕ} → Joining k → String
+operatorOf joins-alike = "<=>"
+operatorOf joins-either = "|"
+operatorOf joins-both = "&"
 
 unfoldable pub joinOf : {k : ℕ} → Joining k → Sentence → Sentence → Sentence
 joinOf joins-alike = alike
@@ -53,16 +53,16 @@ tighter-within d joins-both sc ts = operandAt-within d (deeperAt d) (deeper-with
 
 -- the first operand, and then more
 unfoldable pub ahead : (d : ℕ) {k : ℕ} → Joining k → Scope → Read Sentence → Read Sentence
-ahead d {k} j sc R = readThen R (λ f us. chain (length us) (wordOf j) (joinOf j) (levelAt d (suc k)) sc f us)
+ahead d {k} j sc R = readThen R (λ f us. chain (length us) (operatorOf j) (joinOf j) (levelAt d (suc k)) sc f us)
 
 pub level-starts : (d : ℕ) {k : ℕ} (j : Joining k) (sc : Scope) (ts : List Token) → levelAt d k sc ts ≡ ahead d j sc (levelAt d (suc k) sc ts)
-unfolding levelAt joined ahead wordOf joinOf
+unfolding levelAt joined ahead operatorOf joinOf
 level-starts d joins-alike sc ts = refl
 level-starts d joins-either sc ts = refl
 level-starts d joins-both sc ts = refl
 
-pub spells-operator : {k : ℕ} (j : Joining k) (t : Token) → spells (wordOf j) t ≡ eqb (t .kind) (19 - k)
-unfolding wordOf spells numberIn words textMarks
+pub spells-operator : {k : ℕ} (j : Joining k) (t : Token) → spells (operatorOf j) t ≡ eqb (t .kind) (19 - k)
+unfolding operatorOf spells numberIn words textMarks
 spells-operator joins-alike t = refl
 spells-operator joins-either t = refl
 spells-operator joins-both t = refl

@@ -23,7 +23,7 @@ use Rattle.drafting.proofs.Drafts.{drafted-none}
 use Rattle.phrases.specs.Told.{RefusedAt, MarkStands, MarkLacks, MarkTold, stands, lacks, NamesAre}
 use Rattle.phrases.specs.declared.Mark.{Mark}
 use Rattle.phrases.specs.declared.Mark.the-variants.{Stands as Stood, Refused as Lacked}
-use Rattle.phrases.proofs.Taking.{mark-taken, mark-turned}
+use Rattle.phrases.proofs.Taking.{mark-taken, mark-turned, is-semicolon}
 use Rattle.formulas.specs.Reading.{levelAt, nextKind, startAt, stopAt, countAt, AtToken, Looks, refusedHere, Reads, Told, told-got, told-refused, Counted}
 use Rattle.formulas.specs.Reading.{Reading, Got, readingOf}
 use Rattle.formulas.specs.Reading.{Refused as Unread}
@@ -35,10 +35,6 @@ use Rattle.import.specs.Answers.{FreePut, FreshArrays, TextTold, text-go
 heading-is : numberIn 0 (words ++ textMarks) "ws2s" ≡ 0
 unfolding numberIn words textMarks
 heading-is = refl
-
-semicolon-is : numberIn 0 (words ++ textMarks) ";" ≡ 10
-unfolding numberIn words textMarks
-semicolon-is = refl
 
 -- the text that an equal reading is refused at
 refused-as : {A : Type 0} {R S : Read A} {k b e : ℕ} → R ≡ S → RefusedAt S k b e → RefusedAt R k b e
@@ -68,10 +64,10 @@ module _ {s : List ℕ} where
 
   pub heading-told : {p : ℕ} {r : Mark} → MarkStands s 0 0 p → MarkTold s 10 p r → HeadingTold s r
   unfolding behind-heading
-  heading-told st (stands {p = q} w) = heads q refl (λ go. headed-first go st ∙ mark-taken ";" semicolon-is (λ _ vs. go vs) w)
+  heading-told st (stands {p = q} w) = heads q refl (λ go. headed-first go st ∙ mark-taken ";" is-semicolon (λ _ vs. go vs) w)
   heading-told st (lacks {k = k} {b = b} {e = e} w) =
       heads-not k b e refl (λ z. let n = w .number-is in omega arith)
-      (λ go. refused-as (headed-first go st) (mark-turned ";" semicolon-is (λ _ vs. go vs) w))
+      (λ go. refused-as (headed-first go st) (mark-turned ";" is-semicolon (λ _ vs. go vs) w))
 
   pub heading-lacks : {k b e : ℕ} → MarkLacks s 0 0 k b e → HeadingTold s (Lacked k b e)
   unfolding behind-heading
@@ -180,8 +176,7 @@ module _ (s : List ℕ) (at : ℕ) where
     -- what was read, up to the end
     read-to : (q : sentence ≡ Got)
         → bodyOf (tokensAt s at) ≡ endedText (record { declared = scopeOf s ns n; sentence = told-is tells q .sentence }) (tokensAt s (startAt h₂))
-    read-to q =
-        body-is ∙ ap (λ (R : Read Sentence). readThen R (λ f xs. endedText (record { declared = scopeOf s ns n; sentence = f }) xs)) (told-is tells q .reads)
+    read-to q = body-is ∙ ap (λ (R : Read Sentence). readThen R (λ f. endedText (record { declared = scopeOf s ns n; sentence = f }))) (told-is tells q .reads)
 
     -- up to what stands behind the semicolon
     read-on : (q : sentence ≡ Got) {h₃ : List ℕ} → nextKind h₂ ≡ 10 → Looks s (stopAt h₂) h₂ h₃

@@ -19,6 +19,7 @@ use Rattle.tokens.proofs.Scopes.{no-names, none-fit, scope-length}
 use Rattle.phrases.specs.declared.Declarations.{Declarations}
 use Rattle.phrases.specs.Told.{RefusedAt, NamesAre, DeclarationsTold}
 use Rattle.phrases.proofs.Taking.{not-end, name-span, taken, turned, spelled, not-spelled, mark-stands, mark-lacks, mark-taken, mark-turned}
+use Rattle.phrases.proofs.Taking.{is-semicolon}
 
 is-var1 : numberIn 0 (words ++ textMarks) "var1" ≡ 1
 unfolding numberIn words textMarks
@@ -27,10 +28,6 @@ is-var1 = refl
 is-var2 : numberIn 0 (words ++ textMarks) "var2" ≡ 2
 unfolding numberIn words textMarks
 is-var2 = refl
-
-is-semicolon : numberIn 0 (words ++ textMarks) ";" ≡ 10
-unfolding numberIn words textMarks
-is-semicolon = refl
 
 is-comma : numberIn 0 (words ++ textMarks) "," ≡ 11
 unfolding numberIn words textMarks

@@ -91,6 +91,10 @@ is-colon : numberIn 0 (words ++ textMarks) ":" ≡ 12
 unfolding numberIn words textMarks
 is-colon = refl
 
+pub is-semicolon : numberIn 0 (words ++ textMarks) ";" ≡ 10
+unfolding numberIn words textMarks
+is-semicolon = refl
+
 -- ---- what a quantifier binds
 module _ {s : List ℕ} {at : ℕ} {t : Token} (st : StandsNext s at t) (n : ℕ) where
   pub binder-no-name : (t .kind ≡ 23 → ⊥) → (sc : Scope) → length sc ≡ n → (go : Name → List TextToken → Read Sentence)

@@ -93,11 +93,11 @@ good-is n i (suc (suc (suc (suc (suc (suc (suc (suc (suc zero))))))))) a b = ref
 good-is n i (suc (suc (suc (suc (suc (suc (suc (suc (suc (suc op)))))))))) a b =
     rw (le-ltb (suc (suc (suc (suc (suc (suc (suc (suc (suc (suc op)))))))))) 9 (omega arith)) refl
 
-abbrev one : ℕ → ℕ → Record → Bool
-one n i r = fits n i (firstUse (r .op)) (r .first)
+abbrev firstGood : ℕ → ℕ → Record → Bool
+firstGood n i r = fits n i (firstUse (r .op)) (r .first)
 
-abbrev two : ℕ → ℕ → Record → Bool
-two n i r = fits n i (secondUse (r .op)) (r .second)
+abbrev secondGood : ℕ → ℕ → Record → Bool
+secondGood n i r = fits n i (secondUse (r .op)) (r .second)
 
 -- the refusals 7 to 10 are what `good` asks
 pub good-iff : (n i at : ℕ) (r : Record) → (recordFault n i at r ≡ Sound) ↔ T (good 2 n i r)
@@ -106,14 +106,14 @@ good-iff n i at r = (forth, back)
     forth : recordFault n i at r ≡ Sound → T (good 2 n i r)
     forth e =
         let w = record-kept n i at r e in
-        let f = of-both (one n i r) (two n i r) (below-fits n i (firstUse (r .op)) (r .first) (w .first-below))
+        let f = of-both (firstGood n i r) (secondGood n i r) (below-fits n i (firstUse (r .op)) (r .first) (w .first-below))
         (below-fits n i (secondUse (r .op)) (r .second) (w .second-below)) in
-        rw (good-is n i (r .op) (r .first) (r .second)) (of-both (ltb (r .op) 9) (one n i r && two n i r) (lt→ltb (r .op) 9 (w .known)) f)
+        rw (good-is n i (r .op) (r .first) (r .second)) (of-both (ltb (r .op) 9) (firstGood n i r && secondGood n i r) (lt→ltb (r .op) 9 (w .known)) f)
 
     back : T (good 2 n i r) → recordFault n i at r ≡ Sound
     back t =
-        let w = both-of (ltb (r .op) 9) (one n i r && two n i r) (rw (good-is n i (r .op) (r .first) (r .second)) at t) in
-        let v = both-of (one n i r) (two n i r) (w .1) in
+        let w = both-of (ltb (r .op) 9) (firstGood n i r && secondGood n i r) (rw (good-is n i (r .op) (r .first) (r .second)) at t) in
+        let v = both-of (firstGood n i r) (secondGood n i r) (w .1) in
         record-unrefused n i at r
         (record {
           known = ltb→lt (r .op) 9 (w .0);

@@ -9,11 +9,9 @@ use Rattle.bits.specs.Bits.{digits, pack}
 use Rattle.logic.specs.Rule.{Record}
 use Rattle.rule_strip.specs.RuleWriting.{recordBits, ruleStrip}
 use Rattle.text.specs.Token.{Token, aName, aStray, theEnd, spell, words, textMarks, numberIn, spells, sameBytes, beginsWith, alnumRun, wordKind}
-use Rattle.text.specs.Token.{markPiece}
-use Rattle.text.specs.Token.{piece, tokens, tokensOf}
-use Rattle.text.specs.Grammar.{got, accept, hasOrder, inUse, used, relationOf, leftGood, branchOf, spotOf, related, atomOf, chain, joined}
-use Rattle.text.specs.Grammar.{opening, operandStart, operandOf, impliedBy, operandAt, consequentAt, partAt, reader, names, declarations, textFrom}
-use Rattle.text.specs.Grammar.{textOf}
+use Rattle.text.specs.Token.{markPiece, piece, tokens, tokensOf}
+use Rattle.text.specs.Grammar.{got, accept, hasOrder, inUse, used, relationOf, leftGood, branchOf, spotOf, related, atomOf, chain, joined, opening}
+use Rattle.text.specs.Grammar.{operandStart, operandOf, impliedBy, operandAt, consequentAt, partAt, reader, names, declarations, textFrom, textOf}
 use Rattle.text.specs.Grammar.{refused as leaves}
 use Rattle.text.specs.Records.{trackOf, tracks, variablesIn, count, freeCount, countIn, writeAtom, write, writeFree, recordsIn}
 use Rattle.text.specs.Import.{Import, written, refused, ruleOf, import}

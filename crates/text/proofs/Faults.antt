@@ -325,16 +325,16 @@ reader-local (suc d) p sc ts =
 
 -- ---- declarations
 module _ (o : Order) where
-  abbrev namesOf : Scope → List Token → Read Scope
-  namesOf sc us = names (length us) o sc us
+  abbrev namesFrom : Scope → List Token → Read Scope
+  namesFrom sc us = names (length us) o sc us
 
-  names-local : (d : ℕ) (sc : Scope) (ts : List Token) → length ts < d → Local Unit (namesOf sc) ts
+  names-local : (d : ℕ) (sc : Scope) (ts : List Token) → length ts < d → Local Unit (namesFrom sc) ts
   unfolding spells numberIn words textMarks
   names-local zero sc ts h = absurd (omega arith)
   names-local (suc d) sc ts h =
-      local-as (namesBy namesOf o sc) ts (λ us p. names-is o sc us)
+      local-as (namesBy namesFrom o sc) ts (λ us p. names-is o sc us)
       (local-accept (λ t. newRefusal (inUse sc (t .bytes)) sc t) go ts (new-guards (λ t. inUse sc (t .bytes)) sc) (λ us l.
-      local-word "," refl (namesOf (with (peek ts .bytes))) (last (peek ts .bytes)) us (λ vs k. names-local d (with (peek ts .bytes)) vs (omega arith))
+      local-word "," refl (namesFrom (with (peek ts .bytes))) (last (peek ts .bytes)) us (λ vs k. names-local d (with (peek ts .bytes)) vs (omega arith))
       (local-accept-word ";" refl (λ vs. got (with (peek ts .bytes)) vs) us (λ vs k. local-got (with (peek ts .bytes)) vs))))
     where
       with : Name → Scope
@@ -344,15 +344,15 @@ module _ (o : Order) where
       last x us = accept (or23 (spells ";" (peek us))) us (λ _ vs. got (with x) vs)
 
       go : Name → List Token → Read Scope
-      go x us = elim (spells "," (peek us)) as (λ _. Read Scope) [ true ↦ namesOf (with x) (rest us) | false ↦ last x us ]
+      go x us = elim (spells "," (peek us)) as (λ _. Read Scope) [ true ↦ namesFrom (with x) (rest us) | false ↦ last x us ]
 
 declarations-local : (d : ℕ) (sc : Scope) (ts : List Token) → length ts < d → Local Unit (λ us. declarations (length us) sc us) ts
 unfolding spells numberIn words textMarks
 declarations-local zero sc ts h = absurd (omega arith)
 declarations-local (suc d) sc ts h =
     let further : (o : Order) (us : List Token) → length us < length ts
-    → Local Unit (λ vs. readThen (namesOf o sc vs) (λ sd ws. declarations (length ws) sd ws)) us =
-    (λ o us l. local-then (namesOf o sc) _ us (names-local o (suc (length us)) sc us (omega arith)) (λ sd vs k. declarations-local d sd vs (omega arith))) in
+    → Local Unit (λ vs. readThen (namesFrom o sc vs) (λ sd ws. declarations (length ws) sd ws)) us =
+    (λ o us l. local-then (namesFrom o sc) _ us (names-local o (suc (length us)) sc us (omega arith)) (λ sd vs k. declarations-local d sd vs (omega arith))) in
     local-as (declarationsBy (λ o sd us. names (length us) o sd us) (λ sd us. declarations (length us) sd us) sc) ts (λ us p. declarations-is sc us)
     (local-word "var1" refl _ _ ts (further first) (local-word "var2" refl _ (λ us. got sc us) ts (further second) (local-got sc ts)))
 

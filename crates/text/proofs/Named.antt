@@ -20,20 +20,20 @@ use Rattle.text.specs.Import.{Import, written, ruleOf, import}
 use Rattle.text.specs.Import.{refused as refuses}
 
 -- the numbers by which a token is refused: it leaves the grammar, its name may not stand there, or it needs a ninth track
-data Refusal : ℕ → Type 0 where
-  grammar : Refusal 23
-  name : Refusal 24
-  track : Refusal 25
+data TokenRefusal : ℕ → Type 0 where
+  grammar : TokenRefusal 23
+  name : TokenRefusal 24
+  track : TokenRefusal 25
 
 -- the numbers by which the next token is judged; 0 takes it
-data Judgement : ℕ → Type 0 where
-  taken : Judgement 0
-  fault : {k : ℕ} → Refusal k → Judgement k
+data TokenJudged : ℕ → Type 0 where
+  taken : TokenJudged 0
+  fault : {k : ℕ} → TokenRefusal k → TokenJudged k
 
 -- a reading that is refused, if at all, by one of these numbers
 data Named {A : Type 0} : Read A → Type 0 where
   fine : {a : A} {ts : List Token} → Named (got a ts)
-  named : {k : ℕ} {t : Token} → Refusal k → Named (refused k t)
+  named : {k : ℕ} {t : Token} → TokenRefusal k → Named (refused k t)
 
 named-then : {A B : Type 0} (r : Read A) (go : A → List Token → Read B) → Named r → ((a : A) (ts : List Token) → Named (go a ts)) → Named (readThen r go)
 named-then (got a ts) go h k = k a ts
@@ -43,29 +43,29 @@ named-test : {A : Type 0} (b : Bool) {x y : Read A} → Named x → Named y → 
 named-test true h k = h
 named-test false h k = k
 
-named-accept : {A : Type 0} (r : ℕ) (ts : List Token) (go : Name → List Token → Read A) → Judgement r → ((x : Name) (us : List Token) → Named (go x us))
+named-accept : {A : Type 0} (r : ℕ) (ts : List Token) (go : Name → List Token → Read A) → TokenJudged r → ((x : Name) (us : List Token) → Named (go x us))
     → Named (accept r ts go)
 unfolding accept
 named-accept _ ts go taken h = h (peek ts .bytes) (rest ts)
 named-accept r ts go (fault x) h = named-test (eqb r 0) (h (peek ts .bytes) (rest ts)) (named x)
 
 -- ---- what `accept` is given
-or23-judges : (b : Bool) → Judgement (or23 b)
+or23-judges : (b : Bool) → TokenJudged (or23 b)
 or23-judges true = taken
 or23-judges false = fault grammar
 
-used-judges : (good : Bool) (t : Token) → Judgement (usedRefusal good t)
+used-judges : (good : Bool) (t : Token) → TokenJudged (usedRefusal good t)
 used-judges good t = go (isName t) good
   where
-    go : (a b : Bool) → Judgement (cond (not a) 23 (cond (not b) 24 0))
+    go : (a b : Bool) → TokenJudged (cond (not a) 23 (cond (not b) 24 0))
     go false b = fault grammar
     go true false = fault name
     go true true = taken
 
-new-judges : (twice : Bool) (sc : Scope) (t : Token) → Judgement (newRefusal twice sc t)
+new-judges : (twice : Bool) (sc : Scope) (t : Token) → TokenJudged (newRefusal twice sc t)
 new-judges twice sc t = go (isName t) twice (leb 8 (length sc))
   where
-    go : (a b c : Bool) → Judgement (cond (not a) 23 (cond b 24 (cond c 25 0)))
+    go : (a b c : Bool) → TokenJudged (cond (not a) 23 (cond b 24 (cond c 25 0)))
     go false b c = fault grammar
     go true true c = fault name
     go true false true = fault track

@@ -58,7 +58,7 @@ new-passed true false false e = (tt, refl)
 new-passed false twice full e = absurd (false≢true e)
 
 -- a sentence is in order where the names sc are in use
-pub record InOrder (sc : Scope) (f : Sentence) : Type 0 where
+pub record WellScoped (sc : Scope) (f : Sentence) : Type 0 where
   pub names-are : T (scoped sc f)
   pub few : tracks (length sc) f ≤ 8
 
@@ -85,11 +85,11 @@ module _ (sc : Scope) (x : Name) (t : T (hasOrder sc first x)) where
   spot-good ts = by-test (spells "root" (peek ts)) (λ e. fine t) (λ e. after-used first sc ts branchOf branch-good)
 
 module _ (sc : Scope) (l : length sc ≤ 8) where
-  atom-fine : {a : Atom} {ts : List Token} → T (scopedAtom sc a) → After (InOrder sc) (got (atom a) ts)
+  atom-fine : {a : Atom} {ts : List Token} → T (scopedAtom sc a) → After (WellScoped sc) (got (atom a) ts)
   unfolding scoped tracks
   atom-fine t = fine (record { names-are = t; few = l })
 
-  related-good : (r : Relation) (x : Name) (us : List Token) → T (leftGood r sc x) → After (InOrder sc) (related r sc x us)
+  related-good : (r : Relation) (x : Name) (us : List Token) → T (leftGood r sc x) → After (WellScoped sc) (related r sc x us)
   unfolding leftGood related scopedAtom
   related-good inclusion x us t =
       after-used second sc (rest us) (λ y vs. got (atom (sub x y)) vs)
@@ -101,7 +101,7 @@ module _ (sc : Scope) (l : length sc ≤ 8) where
       after-then (spotOf sc (rest us)) (λ p vs. got (atom (equal x p)) vs) (spot-good sc x t (rest us)) (λ p vs u. atom-fine {a = equal x p} u)
   related-good other x us t = nothing
 
-  atom-good : (ts : List Token) → After (InOrder sc) (atomOf sc ts)
+  atom-good : (ts : List Token) → After (WellScoped sc) (atomOf sc ts)
   unfolding atomOf
   atom-good ts =
       let r = relationOf (peek (rest ts)) in
@@ -110,49 +110,49 @@ module _ (sc : Scope) (l : length sc ≤ 8) where
       (λ e us. related-good r x us (used-passed (isName (peek ts)) (leftGood r sc x) e))
 
   -- joining keeps sentences in order
-  module _ (join : Sentence → Sentence → Sentence) (keeps : (f g : Sentence) → InOrder sc f → InOrder sc g → InOrder sc (join f g)) (read : Reader)
-      (good : (ts : List Token) → After (InOrder sc) (read sc ts)) (w : String) where
-    more-good : (d : ℕ) (f : Sentence) (ts : List Token) → InOrder sc f → After (InOrder sc) (chain d w join read sc f ts)
+  module _ (join : Sentence → Sentence → Sentence) (keeps : (f g : Sentence) → WellScoped sc f → WellScoped sc g → WellScoped sc (join f g)) (read : Reader)
+      (good : (ts : List Token) → After (WellScoped sc) (read sc ts)) (w : String) where
+    more-good : (d : ℕ) (f : Sentence) (ts : List Token) → WellScoped sc f → After (WellScoped sc) (chain d w join read sc f ts)
     unfolding chain
     more-good zero f ts h = fine h
     more-good (suc d) f ts h =
         by-test (spells w (peek ts)) (λ e. after-then (read sc (rest ts)) (λ g us. chain d w join read sc (join f g) us) (good (rest ts))
         (λ g us k. more-good d (join f g) us (keeps f g h k))) (λ e. fine h)
 
-    joined-good : (ts : List Token) → After (InOrder sc) (joined w join read sc ts)
+    joined-good : (ts : List Token) → After (WellScoped sc) (joined w join read sc ts)
     unfolding joined
     joined-good ts = after-then (read sc ts) (λ f us. chain (length us) w join read sc f us) (good ts) (λ f us h. more-good (length us) f us h)
 
   two-keep : (f g h : Sentence) → scoped sc h ≡ (scoped sc f && scoped sc g) → tracks (length sc) h ≡ max (tracks (length sc) f) (tracks (length sc) g)
-      → InOrder sc f → InOrder sc g → InOrder sc h
+      → WellScoped sc f → WellScoped sc g → WellScoped sc h
   two-keep f g h e d a b =
       let p = a .few in
       let q = b .few in
       record { names-are = rw e (and-true (scoped sc f) (scoped sc g) (a .names-are) (b .names-are)); few = omega arith }
 
-  both-keep : (f g : Sentence) → InOrder sc f → InOrder sc g → InOrder sc (both f g)
+  both-keep : (f g : Sentence) → WellScoped sc f → WellScoped sc g → WellScoped sc (both f g)
   unfolding scoped tracks
   both-keep f g = two-keep f g (both f g) refl refl
 
-  either-keep : (f g : Sentence) → InOrder sc f → InOrder sc g → InOrder sc (either f g)
+  either-keep : (f g : Sentence) → WellScoped sc f → WellScoped sc g → WellScoped sc (either f g)
   unfolding scoped tracks
   either-keep f g = two-keep f g (either f g) refl refl
 
-  implies-keep : (f g : Sentence) → InOrder sc f → InOrder sc g → InOrder sc (implies f g)
+  implies-keep : (f g : Sentence) → WellScoped sc f → WellScoped sc g → WellScoped sc (implies f g)
   unfolding scoped tracks
   implies-keep f g = two-keep f g (implies f g) refl refl
 
-  alike-keep : (f g : Sentence) → InOrder sc f → InOrder sc g → InOrder sc (alike f g)
+  alike-keep : (f g : Sentence) → WellScoped sc f → WellScoped sc g → WellScoped sc (alike f g)
   unfolding scoped tracks
   alike-keep f g = two-keep f g (alike f g) refl refl
 
-  denied-keep : (f : Sentence) → InOrder sc f → InOrder sc (denied f)
+  denied-keep : (f : Sentence) → WellScoped sc f → WellScoped sc (denied f)
   unfolding scoped tracks
   denied-keep f h = record { names-are = h .names-are; few = h .few }
 
 -- what a quantifier makes
 abbrev Binds : (Order → Name → Sentence → Sentence) → Type 0
-Binds make = (o : Order) (x : Name) (f : Sentence) (sc : Scope) → InOrder (record { name = x; order = o } ∷ sc) f → InOrder sc (make o x f)
+Binds make = (o : Order) (x : Name) (f : Sentence) (sc : Scope) → WellScoped (record { name = x; order = o } ∷ sc) f → WellScoped sc (make o x f)
 
 some-binds : Binds forSome
 unfolding scoped tracks
@@ -191,7 +191,7 @@ start-good d t =
 
 -- a reader whose sentences are in order
 abbrev Good : Reader → Type 0
-Good read = (sc : Scope) → length sc ≤ 8 → (ts : List Token) → After (InOrder sc) (read sc ts)
+Good read = (sc : Scope) → length sc ≤ 8 → (ts : List Token) → After (WellScoped sc) (read sc ts)
 
 module _ (d : ℕ) (deeper : Part → Reader) (good : (p : Part) → Good (deeper p)) where
   operandOf-good : (s : Start) → StartGood s → Good (operandOf deeper s)
@@ -214,7 +214,7 @@ module _ (d : ℕ) (deeper : Part → Reader) (good : (p : Part) → Good (deepe
   unfolding operandAt
   operandAt-good sc l ts = operandOf-good (operandStart d (peek ts)) (start-good d (peek ts)) sc l ts
 
-  implied-good : (sc : Scope) → length sc ≤ 8 → (f : Sentence) (ts : List Token) → InOrder sc f → After (InOrder sc) (impliedBy d deeper sc f ts)
+  implied-good : (sc : Scope) → length sc ≤ 8 → (f : Sentence) (ts : List Token) → WellScoped sc f → After (WellScoped sc) (impliedBy d deeper sc f ts)
   unfolding impliedBy
   implied-good sc l f ts h =
       by-test (spells "=>" (peek ts)) (λ e. by-test (eqb d 0) (λ e. nothing) (λ e.
