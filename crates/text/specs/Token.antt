@@ -30,7 +30,7 @@ words = "ws2s" ∷ "var1" ∷ "var2" ∷ "ex1" ∷ "ex2" ∷ "all1" ∷ "all2" �
 unfoldable pub textMarks : List String
 textMarks = ";" ∷ "," ∷ ":" ∷ "(" ∷ ")" ∷ "~" ∷ "&" ∷ "|" ∷ "=>" ∷ "<=>" ∷ "=" ∷ ".0" ∷ ".1" ∷ []
 
--- kinds: 0 to 9 the words, 10 to 22 the marks, each in the order above; those that definitions name
+-- kinds: 0 to 9 the words, 10 to 22 the marks, each in the order above. Of the words, those that definitions name
 abbrev pub ex1Kind : ℕ
 ex1Kind = 3
 
@@ -49,6 +49,7 @@ subKind = 7
 abbrev pub inKind : ℕ
 inKind = 8
 
+-- the marks, in that order
 abbrev pub semicolonKind : ℕ
 semicolonKind = 10
 
