@@ -8,7 +8,7 @@ use Rattle.logic.specs.Tree.{Tree, positions}
 use Rattle.logic.specs.Claims.{Outcome, refused14, shown, none, larger, statesAt, Answers, Shallow}
 use Rattle.logic.specs.Decide.{decideOf}
 use Rattle.rule_strip.specs.RuleStrip.{variablesOf, countOf, recordsOf, ruleFault}
-use Rattle.rule_strip.specs.RulePlaces.{Offends}
+use Rattle.rule_strip.specs.RulePlaces.{RuleOffends}
 use Rattle.tree_strip.specs.TreeStrip.{treeStrip, treeBytes, readTree, parsed}
 use Rattle.refusals.specs.Refusal.{checked, tested, unlessRefused, answerUnless}
 use Rattle.refusals.specs.declared.Refusal.{Refusal}
@@ -72,7 +72,7 @@ pub record DecidedRule (rule : List ℕ) (c P : ℕ) (v : Verdict) (out : List �
 -- which bit": a place that v names is one where the strip offends
 pub record DecideClaim (rule : List ℕ) (c P room outRoom : ℕ) (v : Verdict) (out : List ℕ) : Type 0 where
   pub decided : decideRefusal rule c P room outRoom ≡ Nothing → DecidedRule rule c P v out
-  pub names : (k p : ℕ) → v ≡ Refused (Placed k p) → Offends rule k p
+  pub names : (k p : ℕ) → v ≡ Refused (Placed k p) → RuleOffends rule k p
 
 -- the strip is read as a tree of so many positions, and no downward path of the tree has as many as there are states, so that a stack of as
 -- many entries is enough to walk it; by refusals 14 and 11 they are at most c, and c at most 64

@@ -1,5 +1,5 @@
 -- What is put into an array that stands for records. Assumes nothing.
-use Prim.Native.Nat.{ℕ, suc, _+_, _*_, _-_, _<_, _≤_, min}
+use Prim.Native.Nat.{ℕ, suc, _+_, _-_, _<_, _≤_, min}
 use mathlib.Core.Path.{_≡_, refl, sym, _∙_, ap}
 use mathlib.Core.List.{List, [], _∷_, _++_}
 use native.Mathlib.Decide.{decLt}
@@ -33,15 +33,13 @@ module _ (op a b : ℕ) {ws : List ℕ} {c : ℕ} {rs : List Record} (d : Drafte
       record { room = d .room; size = omega arith; each = λ i p j. kept i (omega arith) j }
 
   -- room: the record's word, at the place of its number
-  pub drafted-one : c < 128 → Drafted (set ws c (op * 16384 + a * 128 + b)) (c + 1) (put op a b rs)
-  unfolding recordWord
-  drafted-one h =
+  pub drafted-one : {w : ℕ} → w ≡ recordWord (record { op = op; first = a; second = b }) → c < 128 → Drafted (set ws c w) (c + 1) (put op a b rs)
+  drafted-one {w} g h =
       let s = d .size in
       let l = put-length op a b rs in
       record { room = length-set ws c _ ∙ d .room; size = omega arith; each = λ i p j. at-each i (omega arith) j (decLt i c) }
     where
-      at-each : (i : ℕ) → i < length rs + 1 → i < 128 → Dec (i < c)
-          → getD (set ws c (op * 16384 + a * 128 + b)) i 0 ≡ recordWord (getD (put op a b rs) i noRecord)
+      at-each : (i : ℕ) → i < length rs + 1 → i < 128 → Dec (i < c) → getD (set ws c w) i 0 ≡ recordWord (getD (put op a b rs) i noRecord)
       at-each i p j (yes k) = let s = d .size in getD-set-other ws c i _ 0 (λ e. omega arith) ∙ kept i (omega arith) j
       at-each i p j (no k) =
           let s = d .size in
@@ -49,7 +47,7 @@ module _ (op a b : ℕ) {ws : List ℕ} {c : ℕ} {rs : List Record} (d : Drafte
           let e : i ≡ length rs = omega arith in
           let f : c ≡ length rs = omega arith in
           let q : Record = record { op = op; first = a; second = b } in
-          rw (e, f) (getD-set-same ws (length rs) _ 0 (omega arith) ∙ ap recordWord (sym (getD-append-seam rs q [] noRecord)))
+          rw (e, f) (getD-set-same ws (length rs) _ 0 (omega arith) ∙ g ∙ ap recordWord (sym (getD-append-seam rs q [] noRecord)))
 
 -- what `last` gives of the count l of the first records fs, while there is room behind all of them, gs
 last-is : (fs gs : List Record) (l x c : ℕ) → l ≡ min (length fs) 129 → length fs ≤ length gs → c ≡ min (length gs) 129 → (l ≤ 128 → x ≡ l - 1)

@@ -128,27 +128,27 @@ module _ {ws ws₁ : List ℕ} {l c c₁ k : ℕ} where
   or-is n₁₆ n₁₉ p fs gs s m d = rw (ne-eqb k 16 n₁₆, ne-eqb k 19 n₁₉) (p fs gs s m d)
 
 -- an atom's record, as the code holds the atom
-abbrev pub opOf : AtomCode → ℕ
-opOf (Sub x y) = 0
-opOf (Member x y) = 0
-opOf (Equal x (Variable y)) = 0
-opOf (Equal x (Branch n y)) = 2 + n
-opOf (Equal x Root) = 4
+abbrev pub atomOp : AtomCode → ℕ
+atomOp (Sub x y) = 0
+atomOp (Member x y) = 0
+atomOp (Equal x (Variable y)) = 0
+atomOp (Equal x (Branch n y)) = 2 + n
+atomOp (Equal x Root) = 4
 
-abbrev pub firstOf : AtomCode → ℕ
-firstOf (Sub x y) = x
-firstOf (Member x y) = x
-firstOf (Equal x p) = x
+abbrev pub atomFirst : AtomCode → ℕ
+atomFirst (Sub x y) = x
+atomFirst (Member x y) = x
+atomFirst (Equal x p) = x
 
-abbrev pub secondOf : AtomCode → ℕ
-secondOf (Sub x y) = y
-secondOf (Member x y) = y
-secondOf (Equal x (Variable y)) = y
-secondOf (Equal x (Branch n y)) = y
-secondOf (Equal x Root) = 0
+abbrev pub atomSecond : AtomCode → ℕ
+atomSecond (Sub x y) = y
+atomSecond (Member x y) = y
+atomSecond (Equal x (Variable y)) = y
+atomSecond (Equal x (Branch n y)) = y
+atomSecond (Equal x Root) = 0
 
 write-coded : (sc : Scope) (a : Atom) (rs : List Record)
-    → writeAtom sc a rs ≡ put (opOf (codedAtom sc a)) (firstOf (codedAtom sc a)) (secondOf (codedAtom sc a)) rs
+    → writeAtom sc a rs ≡ put (atomOp (codedAtom sc a)) (atomFirst (codedAtom sc a)) (atomSecond (codedAtom sc a)) rs
 unfolding writeAtom
 write-coded sc (sub x y) rs = refl
 write-coded sc (member x y) rs = refl
@@ -174,11 +174,11 @@ atom-below n m (Equal x p) h b = (omega arith, spot-below n m p h (b .1))
 pub below-is : {k : AtomCode} (m : AtomCode) → k ≡ m → AtomBelow 128 k → AtomBelow 128 m
 below-is m g h = subst (AtomBelow 128) g h
 
-made : {ws ws₁ : List ℕ} {c c₁ op : ℕ} (m : AtomCode) → op ≡ opOf m → Puts ws c op (firstOf m) (secondOf m) ws₁ c₁
-    → Drafts ws c ws₁ c₁ (put (opOf m) (firstOf m) (secondOf m))
-made m o p rs d = rw (← o) (p rs (firstOf m) (secondOf m) d (λ _. refl) (λ _. refl))
+made : {ws ws₁ : List ℕ} {c c₁ op : ℕ} (m : AtomCode) → op ≡ atomOp m → Puts ws c op (atomFirst m) (atomSecond m) ws₁ c₁
+    → Drafts ws c ws₁ c₁ (put (atomOp m) (atomFirst m) (atomSecond m))
+made m o p rs d = rw (← o) (p rs (atomFirst m) (atomSecond m) d (λ _. refl) (λ _. refl))
 
-pub atom-is : {ws ws₁ : List ℕ} {c c₁ op : ℕ} {k : AtomCode} (m : AtomCode) → k ≡ m → op ≡ opOf m → Puts ws c op (firstOf m) (secondOf m) ws₁ c₁
+pub atom-is : {ws ws₁ : List ℕ} {c c₁ op : ℕ} {k : AtomCode} (m : AtomCode) → k ≡ m → op ≡ atomOp m → Puts ws c op (atomFirst m) (atomSecond m) ws₁ c₁
     → (sc : Scope) (a : Atom) → k ≡ codedAtom sc a → Drafts ws c ws₁ c₁ (writeAtom sc a)
 atom-is {ws} {ws₁} {c} {c₁} m g o p sc a e rs d =
-    rw write-coded (subst (λ (n : AtomCode). Drafted ws₁ c₁ (put (opOf n) (firstOf n) (secondOf n) rs)) (sym g ∙ e) (made m o p rs d))
+    rw write-coded (subst (λ (n : AtomCode). Drafted ws₁ c₁ (put (atomOp n) (atomFirst n) (atomSecond n) rs)) (sym g ∙ e) (made m o p rs d))

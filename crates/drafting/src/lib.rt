@@ -1,12 +1,14 @@
 // The records of a text, put into an array while the text is read: document 01, "How trainers type a rule".
 ghost use mathlib.Core.Path.{_≡_};
 ghost use Prim.Native.Nat.{_+_, _-_, _<_, _≤_, min};
+ghost use Rattle.text.specs.Token.{ex1Kind, all2Kind, andKind, alikeKind};
 ghost use Rattle.text.specs.Syntax.{Scope};
 ghost use Rattle.text.specs.Syntax as syntax;
 ghost use Rattle.text.specs.Records.{putNot, putSingle, putExists, putAlike, writeAtom};
 ghost use Rattle.drafting.specs.Draft.{Drafts, Puts, Joins};
 ghost use Rattle.drafting.specs.Coded.{codedAtom, AtomBelow};
 ghost use Rattle.drafting.specs.Joined.{putQuantified, putJoined};
+use text::kinds;
 
 // A place that an atom names: a variable's, its branch 1 (number 0) or 2 (number 1), or the root.
 pub enum Spot {
@@ -23,7 +25,7 @@ pub enum Atom {
 }
 
 // One record more; the count after it. Past 128 records only the count tells of more, and it stays at 129.
-pub fn put(words: &mut [u64; 128], count: usize, op: u64, first: usize, second: usize) -> usize
+pub fn put(words: &mut [u64; 128], count: usize, op: usize, first: usize, second: usize) -> usize
     requires { ⌜ op < 16 ⌝ }
     requires { ⌜ (count < 128 → (first < 128) × (second < 128)) ⌝ }
     ensures { λ r. ⌜ r ≡ min (count + 1) 129 ⌝ }
@@ -32,7 +34,7 @@ pub fn put(words: &mut [u64; 128], count: usize, op: u64, first: usize, second: 
     if 128 <= count {
         return 129;
     }
-    words[count] = op * 16384 + (first as u64) * 128 + second as u64;
+    words[count] = rule_strip::write::record_word(op, first, second);
     count + 1
 }
 
@@ -76,19 +78,19 @@ pub fn put_exists(words: &mut [u64; 128], count: usize, track: usize) -> usize
 
 // What was put last, under a quantifier word of that kind that binds a variable.
 pub fn put_quantified(words: &mut [u64; 128], kind: usize, track: usize, count: usize) -> usize
-    requires { ⌜ (3 ≤ kind) × (kind ≤ 6) ⌝ }
+    requires { ⌜ (ex1Kind ≤ kind) × (kind ≤ all2Kind) ⌝ }
     requires { ⌜ track < 128 ⌝ }
     ensures { λ r. ⌜ Drafts (now (words .entry)) count (now (words .exit)) r (putQuantified kind track) ⌝ }
 {
-    if kind == 3 {
+    if kind == kinds::EX1 {
         let single = put_single(words, count, track);
         return put_exists(words, single, track);
     }
-    if kind == 4 {
+    if kind == kinds::EX2 {
         return put_exists(words, count, track);
     }
     let denied = put_not(words, count);
-    if kind == 5 {
+    if kind == kinds::ALL1 {
         let single = put_single(words, denied, track);
         let some = put_exists(words, single, track);
         return put_not(words, some);
@@ -112,13 +114,13 @@ fn put_alike(words: &mut [u64; 128], left: usize, count: usize) -> usize
 
 // Two sides, joined by a mark of that kind; `left` is the count after the left side, which for `=>` ends in its denial.
 pub fn put_joined(words: &mut [u64; 128], kind: usize, left: usize, count: usize) -> usize
-    requires { ⌜ (16 ≤ kind) × (kind ≤ 19) ⌝ }
+    requires { ⌜ (andKind ≤ kind) × (kind ≤ alikeKind) ⌝ }
     ensures { λ r. ⌜ Joins (now (words .entry)) left count (now (words .exit)) r (putJoined kind) ⌝ }
 {
-    if kind == 19 {
+    if kind == kinds::ALIKE {
         return put_alike(words, left, count);
     }
-    if kind == 16 {
+    if kind == kinds::AND {
         return put(words, count, 7, last(left), last(count));
     }
     put(words, count, 6, last(left), last(count))

@@ -9,10 +9,10 @@ use borrow.Author.Tests.{ne-eqb, leb-true, eqb-false}
 use lib.Dec.{eqb, leb}
 use lib.ListN.{length}
 use Rattle.logic.specs.Rule.{Record}
-use Rattle.text.specs.Token.{Token, spells, placeIn, words, marks}
+use Rattle.text.specs.Token.{Token, spells, numberIn, words, textMarks}
 use Rattle.text.specs.Syntax.{Name, Sentence, denied, both, either, implies, alike, Order, first, second, forSome, forEvery, Scope}
-use Rattle.text.specs.Grammar.{Read, got, next, rest, accept, or23, Reader, andThen, joined, more, reader, partAt, operandAt, consequentAt, impliedBy}
-use Rattle.text.specs.Grammar.{Part, operand, consequent, formula, operandOf, Start, negation, bracket, atomic, tooDeep, quantifier, opening, startOf}
+use Rattle.text.specs.Grammar.{Read, got, peek, rest, accept, or23, Reader, readThen, joined, chain, reader, partAt, operandAt, consequentAt, impliedBy}
+use Rattle.text.specs.Grammar.{Part, operand, consequent, formula, operandOf, Start, negation, bracket, atomic, tooDeep, quantifier, opening, operandStart}
 use Rattle.text.specs.Grammar.{refused as leaves}
 use Rattle.text.specs.Records.{tracks, write}
 use Rattle.text.proofs.Steps.{Bounded, nothing, reader-within, joined-within, operandAt-within, consequentAt-within}
@@ -24,10 +24,10 @@ use Rattle.formulas.specs.Reading.{Joining, joins-alike, joins-either, j
 -- ---- the readers by strength
 
 -- the operators that join any number of operands
-unfoldable pub wordOf : {k : ℕ} → Joining k → String
-wordOf joins-alike = "<=>"
-wordOf joins-either = "|"
-wordOf joins-both = "&"
+unfoldable pub operatorOf : {k : ℕ} → Joining k → String
+operatorOf joins-alike = "<=>"
+operatorOf joins-either = "|"
+operatorOf joins-both = "&"
 
 unfoldable pub joinOf : {k : ℕ} → Joining k → Sentence → Sentence → Sentence
 joinOf joins-alike = alike
@@ -53,16 +53,16 @@ tighter-within d joins-both sc ts = operandAt-within d (deeperAt d) (deeper-with
 
 -- the first operand, and then more
 unfoldable pub ahead : (d : ℕ) {k : ℕ} → Joining k → Scope → Read Sentence → Read Sentence
-ahead d {k} j sc R = andThen R (λ f us. more (length us) (wordOf j) (joinOf j) (levelAt d (suc k)) sc f us)
+ahead d {k} j sc R = readThen R (λ f us. chain (length us) (operatorOf j) (joinOf j) (levelAt d (suc k)) sc f us)
 
 pub level-starts : (d : ℕ) {k : ℕ} (j : Joining k) (sc : Scope) (ts : List Token) → levelAt d k sc ts ≡ ahead d j sc (levelAt d (suc k) sc ts)
-unfolding levelAt joined ahead wordOf joinOf
+unfolding levelAt joined ahead operatorOf joinOf
 level-starts d joins-alike sc ts = refl
 level-starts d joins-either sc ts = refl
 level-starts d joins-both sc ts = refl
 
-pub spells-operator : {k : ℕ} (j : Joining k) (t : Token) → spells (wordOf j) t ≡ eqb (t .kind) (19 - k)
-unfolding wordOf spells placeIn words marks
+pub spells-operator : {k : ℕ} (j : Joining k) (t : Token) → spells (operatorOf j) t ≡ eqb (t .kind) (19 - k)
+unfolding operatorOf spells numberIn words textMarks
 spells-operator joins-alike t = refl
 spells-operator joins-either t = refl
 spells-operator joins-both t = refl
@@ -83,7 +83,7 @@ tracks-join joins-both i f g = refl
 
 -- reading on after a change of what was read
 pub then-then : (X : Read Sentence) (h : Sentence → Sentence) (go : Sentence → List Token → Read Sentence)
-    → andThen (andThen X (λ g us. got (h g) us)) go ≡ andThen X (λ g us. go (h g) us)
+    → readThen (readThen X (λ g us. got (h g) us)) go ≡ readThen X (λ g us. go (h g) us)
 then-then (got g us) h go = refl
 then-then (leaves k t) h go = refl
 
@@ -114,22 +114,22 @@ deeper-is (suc d) z = let e : suc d - 1 ≡ d = omega arith in rw e (deeper-suc 
 abbrev pub implied : ℕ → Scope → Sentence → List Token → Read Sentence
 implied d sc f us = impliedBy d (deeperAt d) sc f us
 
-pub level-one : (d : ℕ) (sc : Scope) (ts : List Token) → levelAt d 1 sc ts ≡ andThen (levelAt d 2 sc ts) (λ f us. implied d sc f us)
+pub level-one : (d : ℕ) (sc : Scope) (ts : List Token) → levelAt d 1 sc ts ≡ readThen (levelAt d 2 sc ts) (λ f us. implied d sc f us)
 unfolding levelAt consequentAt
 level-one d sc ts = refl
 
-pub implied-is : (d : ℕ) (sc : Scope) (f : Sentence) (us : List Token) (v : Bool) → eqb (next us .kind) 18 ≡ v → (deep : Bool) → eqb d 0 ≡ deep
+pub implied-is : (d : ℕ) (sc : Scope) (f : Sentence) (us : List Token) (v : Bool) → eqb (peek us .kind) 18 ≡ v → (deep : Bool) → eqb d 0 ≡ deep
     → implied d sc f us ≡ (elim v as (λ _. Read Sentence) [
       | true ↦ elim deep as (λ _. Read Sentence) [
-        | true ↦ leaves 23 (next us)
-        | false ↦ andThen (deeperAt d consequent sc (rest us)) (λ g us. got (implies f g) us)
+        | true ↦ leaves 23 (peek us)
+        | false ↦ readThen (deeperAt d consequent sc (rest us)) (λ g us. got (implies f g) us)
       ]
       | false ↦ got f us
     ])
-unfolding impliedBy spells placeIn words marks
+unfolding impliedBy spells numberIn words textMarks
 implied-is d sc f us v e deep h =
-    let right = andThen (deeperAt d consequent sc (rest us)) (λ g us. got (implies f g) us) in
-    let sides : Bool → Read Sentence = (λ b. elim b as (λ _. Read Sentence) [ true ↦ leaves 23 (next us) | false ↦ right ]) in
+    let right = readThen (deeperAt d consequent sc (rest us)) (λ g us. got (implies f g) us) in
+    let sides : Bool → Read Sentence = (λ b. elim b as (λ _. Read Sentence) [ true ↦ leaves 23 (peek us) | false ↦ right ]) in
     ap (λ (b : Bool). elim b as (λ _. Read Sentence) [ true ↦ sides (eqb d 0) | false ↦ got f us ]) e
     ∙ ap (λ (b : Bool). elim v as (λ _. Read Sentence) [ true ↦ sides b | false ↦ got f us ]) h
 
@@ -144,8 +144,8 @@ startBy d n =
     (cond (eqb n 4) (opening d (quantifier forSome second))
     (cond (eqb n 5) (opening d (quantifier forEvery first)) (cond (eqb n 6) (opening d (quantifier forEvery second)) atomic)))))
 
-pub operand-is : (d : ℕ) (sc : Scope) (ts : List Token) (n : ℕ) → next ts .kind ≡ n → levelAt d 4 sc ts ≡ operandOf (deeperAt d) (startBy d n) sc ts
-unfolding levelAt operandAt startOf spells placeIn words marks
+pub operand-is : (d : ℕ) (sc : Scope) (ts : List Token) (n : ℕ) → peek ts .kind ≡ n → levelAt d 4 sc ts ≡ operandOf (deeperAt d) (startBy d n) sc ts
+unfolding levelAt operandAt operandStart spells numberIn words textMarks
 operand-is d sc ts n e = ap (λ (m : ℕ). operandOf (deeperAt d) (startBy d m) sc ts) e
 
 pub other-kind : (n k : ℕ) → opensBy n ≡ false → opensBy k ≡ true → n ≡ k → ⊥
@@ -210,27 +210,27 @@ module _ (d : ℕ) (z : d ≡ 0 → ⊥) (sc : Scope) (ts : List Token) where
       go zero z = absurd (z refl)
       go (suc d) z = refl
 
-  pub negation-is : next ts .kind ≡ 15 → levelAt d 4 sc ts ≡ andThen (levelAt (d - 1) 4 sc (rest ts)) (λ f us. got (denied f) us)
+  pub negation-is : peek ts .kind ≡ 15 → levelAt d 4 sc ts ≡ readThen (levelAt (d - 1) 4 sc (rest ts)) (λ f us. got (denied f) us)
   unfolding operandOf
   negation-is e =
       operand-is d sc ts 15 e ∙ ap (λ (s : Start). operandOf (deeperAt d) s sc ts) (opened negation)
-      ∙ ap (λ (rd : Reader). andThen (rd sc (rest ts)) (λ f us. got (denied f) us)) (deeper-is d z .to-operand)
+      ∙ ap (λ (rd : Reader). readThen (rd sc (rest ts)) (λ f us. got (denied f) us)) (deeper-is d z .to-operand)
 
-  pub bracket-is : next ts .kind ≡ 13 → levelAt d 4 sc ts ≡ bracketAt (d - 1) sc ts
+  pub bracket-is : peek ts .kind ≡ 13 → levelAt d 4 sc ts ≡ bracketAt (d - 1) sc ts
   unfolding operandOf bracketAt
   bracket-is e =
       operand-is d sc ts 13 e ∙ ap (λ (s : Start). operandOf (deeperAt d) s sc ts) (opened bracket)
-      ∙ ap (λ (rd : Reader). andThen (rd sc (rest ts)) (λ f us. accept (or23 (spells ")" (next us))) us (λ _ vs. got f vs))) (deeper-is d z .to-formula)
+      ∙ ap (λ (rd : Reader). readThen (rd sc (rest ts)) (λ f us. accept (or23 (spells ")" (peek us))) us (λ _ vs. got f vs))) (deeper-is d z .to-formula)
 
-  pub quantifier-is : (n : ℕ) → Quantifier n → next ts .kind ≡ n → levelAt d 4 sc ts ≡ quantifiedAt (d - 1) n sc ts
+  pub quantifier-is : (n : ℕ) → Quantifier n → peek ts .kind ≡ n → levelAt d 4 sc ts ≡ quantifiedAt (d - 1) n sc ts
   unfolding operandOf quantifiedAt
   quantifier-is n q e = operand-is d sc ts n e ∙ by q
     where
       bound : (make : Order → Name → Sentence → Sentence) (o : Order) → operandOf (deeperAt d) (opening d (quantifier make o)) sc ts
-          ≡ binderOf sc (rest ts) (λ x vs. andThen (levelAt (d - 1) 0 (record { name = x; order = o } ∷ sc) vs) (λ f us. got (make o x f) us))
+          ≡ binderOf sc (rest ts) (λ x vs. readThen (levelAt (d - 1) 0 (record { name = x; order = o } ∷ sc) vs) (λ f us. got (make o x f) us))
       bound make o =
           ap (λ (s : Start). operandOf (deeperAt d) s sc ts) (opened (quantifier make o))
-          ∙ ap (λ (rd : Reader). binderOf sc (rest ts) (λ x vs. andThen (rd (record { name = x; order = o } ∷ sc) vs) (λ f us. got (make o x f) us)))
+          ∙ ap (λ (rd : Reader). binderOf sc (rest ts) (λ x vs. readThen (rd (record { name = x; order = o } ∷ sc) vs) (λ f us. got (make o x f) us)))
           (deeper-is d z .to-formula)
 
       by : {m : ℕ} → Quantifier m → operandOf (deeperAt d) (startBy d m) sc ts ≡ quantifiedAt (d - 1) m sc ts
@@ -241,15 +241,15 @@ module _ (d : ℕ) (z : d ≡ 0 → ⊥) (sc : Scope) (ts : List Token) where
 
 -- the closing bracket, or 23 at what stands there
 unfoldable pub closing : Sentence → List Token → Read Sentence
-closing f us = accept (or23 (spells ")" (next us))) us (λ _ vs. got f vs)
+closing f us = accept (or23 (spells ")" (peek us))) us (λ _ vs. got f vs)
 
-pub closing-is : (f : Sentence) (us : List Token) (v : Bool) → eqb (next us .kind) 14 ≡ v
-    → closing f us ≡ (elim v as (λ _. Read Sentence) [ true ↦ got f (rest us) | false ↦ leaves 23 (next us) ])
-unfolding closing accept spells placeIn words marks
+pub closing-is : (f : Sentence) (us : List Token) (v : Bool) → eqb (peek us .kind) 14 ≡ v
+    → closing f us ≡ (elim v as (λ _. Read Sentence) [ true ↦ got f (rest us) | false ↦ leaves 23 (peek us) ])
+unfolding closing accept spells numberIn words textMarks
 closing-is f us true e = rw e refl
 closing-is f us false e = rw e refl
 
-pub bracket-starts : (d : ℕ) (sc : Scope) (ts : List Token) → bracketAt d sc ts ≡ andThen (levelAt d 0 sc (rest ts)) (λ f us. closing f us)
+pub bracket-starts : (d : ℕ) (sc : Scope) (ts : List Token) → bracketAt d sc ts ≡ readThen (levelAt d 0 sc (rest ts)) (λ f us. closing f us)
 unfolding bracketAt closing
 bracket-starts d sc ts = refl
 

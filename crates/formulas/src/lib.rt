@@ -6,10 +6,12 @@
 ghost use mathlib.Core.Path.{_≡_};
 ghost use Prim.Native.Nat.{suc, _<_, _≤_, max};
 ghost use lib.ListN.{length};
+ghost use Rattle.text.specs.Token.{ex1Kind, all2Kind, openingKind, notKind, alikeKind};
 ghost use Rattle.text.specs.Grammar.{atomOf};
 ghost use Rattle.tokens.specs.InUse.{orderOf, scopeOf, NamesFit};
 ghost use Rattle.formulas.specs.Reading.{levelAt, opensBy, bracketAt, placeBy, orderBy, quantifiedAt, Joining};
-ghost use Rattle.formulas.specs.Reading.{kindAt, Ready, Looks, readingOf, Reads, Left, Leads, Owns, Finishes, Closes};
+ghost use Rattle.formulas.specs.Reading.{nextKind, AtToken, Looks, readingOf, Reads, Left, Leads, Owns, Finishes, Closes};
+use text::kinds;
 use tokens::Token;
 
 // The places of that array. Those of a token are apart: side by side they would be moved in pairs, which a processor does slower than one by one.
@@ -22,17 +24,6 @@ pub const START: usize = 2;
 pub const TRACKS: usize = 3;
 
 pub const STOP: usize = 4;
-
-// The kinds of the tokens that are looked for here: their places among all words and marks.
-const OPENING: usize = 13;
-
-const CLOSING: usize = 14;
-
-const NOT: usize = 15;
-
-const IMPLIES: usize = 18;
-
-const ALIKE: usize = 19;
 
 // The token that stands next from a place on.
 pub fn look(text: &[u8], here: &mut [usize; 5], at: usize)
@@ -49,26 +40,26 @@ pub fn look(text: &[u8], here: &mut [usize; 5], at: usize)
 fn opens(kind: usize) -> bool
     ensures { λ r. ⌜ r ≡ opensBy kind ⌝ }
 {
-    if kind < 3 {
+    if kind < kinds::EX1 {
         return false;
     }
-    if kind <= 6 {
+    if kind <= kinds::ALL2 {
         return true;
     }
-    if kind == OPENING {
+    if kind == kinds::OPENING {
         return true;
     }
-    kind == NOT
+    kind == kinds::NOT
 }
 
 // Whether a quantifier word of that kind binds a place, as `ex1` and `all1` do, or else a set.
 fn binds_place(kind: usize) -> bool
     ensures { λ r. ⌜ r ≡ placeBy kind ⌝ }
 {
-    if kind == 3 {
+    if kind == kinds::EX1 {
         return true;
     }
-    kind == 5
+    kind == kinds::ALL1
 }
 
 fn greater(a: usize, b: usize) -> usize
@@ -82,14 +73,14 @@ fn greater(a: usize, b: usize) -> usize
 
 // The records that a construct puts behind those of its last part. Beside it stands the count after its left side, or the track that it binds.
 fn own_records(words: &mut [u64; 128], kind: usize, beside: usize, count: usize) -> usize
-    requires { ⌜ (3 ≤ kind) × (kind ≤ 19) ⌝ }
-    requires { ⌜ (kind < 15 → (kind ≤ 6) × (beside < 128)) ⌝ }
+    requires { ⌜ (ex1Kind ≤ kind) × (kind ≤ alikeKind) ⌝ }
+    requires { ⌜ (kind < notKind → (kind ≤ all2Kind) × (beside < 128)) ⌝ }
     ensures { λ r. ⌜ Owns (now (words .entry)) kind beside count (now (words .exit)) r ⌝ }
 {
-    if kind == NOT {
+    if kind == kinds::NOT {
         return drafting::put_not(words, count);
     }
-    if kind < NOT {
+    if kind < kinds::NOT {
         return drafting::put_quantified(words, kind, beside, count);
     }
     drafting::put_joined(words, kind, beside, count)
@@ -104,8 +95,8 @@ fn finish(
     inner: u64,
 ) -> u64
     requires { ⌜ length (now here) ≡ 5 ⌝ }
-    requires { ⌜ (3 ≤ kind) × (kind ≤ 19) ⌝ }
-    requires { ⌜ (kind < 15 → (kind ≤ 6) × (beside < 128)) ⌝ }
+    requires { ⌜ (ex1Kind ≤ kind) × (kind ≤ alikeKind) ⌝ }
+    requires { ⌜ (kind < notKind → (kind ≤ all2Kind) × (beside < 128)) ⌝ }
     ensures { λ r. ⌜ Finishes (now (words .entry)) kind beside (now (words .exit)) (now (here .entry)) (now (here .exit))
         (readingOf inner (now (here .entry))) (readingOf r (now (here .exit))) ⌝ }
 {
@@ -125,7 +116,7 @@ fn close(text: &[u8], here: &mut [usize; 5], inner: u64) -> u64
     if inner != 0 {
         return inner;
     }
-    if here[KIND] != CLOSING {
+    if here[KIND] != kinds::CLOSING {
         return 23;
     }
     let behind = here[STOP];
@@ -142,7 +133,7 @@ fn atom(
     here: &mut [usize; 5],
 ) -> u64
     requires { ⌜ NamesFit (now text) (now names) «in_use» ⌝ }
-    requires { ⌜ Ready (now text) (now here) ⌝ }
+    requires { ⌜ AtToken (now text) (now here) ⌝ }
     ensures { λ r. ⌜ Reads atomOf (now (text .entry)) (scopeOf (now (text .entry)) (now (names .entry)) «in_use») (now (words .entry)) (now (here .entry))
         (now (words .exit)) (now (here .exit)) (readingOf r (now (here .exit))) ⌝ }
 {
@@ -181,7 +172,7 @@ pub fn formula(
     strength: usize,
 ) -> u64
     requires { ⌜ NamesFit (now text) (now names) «in_use» ⌝ }
-    requires { ⌜ Ready (now text) (now here) ⌝ }
+    requires { ⌜ AtToken (now text) (now here) ⌝ }
     requires { ⌜ strength ≤ 3 ⌝ }
     ensures { λ r. ⌜ Reads (levelAt depth strength) (now (text .entry)) (scopeOf (now (text .entry)) (now (names .entry)) «in_use») (now (words .entry))
         (now (here .entry)) (now (words .exit)) (now (here .exit)) (readingOf r (now (here .exit))) ⌝ }
@@ -225,14 +216,14 @@ fn more(
         if reading != 0 {
             return reading;
         }
-        if here[KIND] != ALIKE - strength {
+        if here[KIND] != kinds::ALIKE - strength {
             return 0;
         }
         let left = here[COUNT];
         let behind = here[STOP];
         look(text, here, behind);
         let right = tighter(text, names, in_use, words, here, depth, strength);
-        reading = finish(words, here, ALIKE - strength, left, right);
+        reading = finish(words, here, kinds::ALIKE - strength, left, right);
     }
 }
 
@@ -247,7 +238,7 @@ fn tighter(
     strength: usize,
 ) -> u64
     requires { ⌜ NamesFit (now text) (now names) «in_use» ⌝ }
-    requires { ⌜ Ready (now text) (now here) ⌝ }
+    requires { ⌜ AtToken (now text) (now here) ⌝ }
     requires { ⌜ strength ≤ 3 ⌝ }
     ensures { λ r. ⌜ Reads (levelAt depth (suc strength)) (now (text .entry)) (scopeOf (now (text .entry)) (now (names .entry)) «in_use»)
         (now (words .entry)) (now (here .entry)) (now (words .exit)) (now (here .exit)) (readingOf r (now (here .exit))) ⌝ }
@@ -277,7 +268,7 @@ fn arrow(
     if left != 0 {
         return left;
     }
-    if here[KIND] != IMPLIES {
+    if here[KIND] != kinds::IMPLIES {
         return 0;
     }
     if depth == 0 {
@@ -288,7 +279,7 @@ fn arrow(
     here[COUNT] = denied;
     look(text, here, behind);
     let right = formula(text, names, in_use, words, here, depth - 1, 1);
-    finish(words, here, IMPLIES, denied, right)
+    finish(words, here, kinds::IMPLIES, denied, right)
 }
 
 // What `~` denies: an atom, or what stands behind a token that opens a level.
@@ -301,7 +292,7 @@ fn operand(
     depth: usize,
 ) -> u64
     requires { ⌜ NamesFit (now text) (now names) «in_use» ⌝ }
-    requires { ⌜ Ready (now text) (now here) ⌝ }
+    requires { ⌜ AtToken (now text) (now here) ⌝ }
     ensures { λ r. ⌜ Reads (levelAt depth 4) (now (text .entry)) (scopeOf (now (text .entry)) (now (names .entry)) «in_use») (now (words .entry))
         (now (here .entry)) (now (words .exit)) (now (here .exit)) (readingOf r (now (here .exit))) ⌝ }
 {
@@ -312,14 +303,14 @@ fn operand(
     if depth == 0 {
         return 23;
     }
-    if kind == OPENING {
+    if kind == kinds::OPENING {
         return bracket(text, names, in_use, words, here, depth - 1);
     }
-    if kind == NOT {
+    if kind == kinds::NOT {
         let behind = here[STOP];
         look(text, here, behind);
         let inner = operand(text, names, in_use, words, here, depth - 1);
-        return finish(words, here, NOT, 0, inner);
+        return finish(words, here, kinds::NOT, 0, inner);
     }
     if binds_place(kind) {
         return quantified(text, names, in_use, words, here, depth - 1, 1);
@@ -337,8 +328,8 @@ fn bracket(
     depth: usize,
 ) -> u64
     requires { ⌜ NamesFit (now text) (now names) «in_use» ⌝ }
-    requires { ⌜ Ready (now text) (now here) ⌝ }
-    requires { ⌜ kindAt (now here) ≡ 13 ⌝ }
+    requires { ⌜ AtToken (now text) (now here) ⌝ }
+    requires { ⌜ nextKind (now here) ≡ openingKind ⌝ }
     ensures { λ r. ⌜ Reads (bracketAt depth) (now (text .entry)) (scopeOf (now (text .entry)) (now (names .entry)) «in_use») (now (words .entry))
         (now (here .entry)) (now (words .exit)) (now (here .exit)) (readingOf r (now (here .exit))) ⌝ }
 {
@@ -360,10 +351,10 @@ fn quantified(
     order: usize,
 ) -> u64
     requires { ⌜ NamesFit (now text) (now names) «in_use» ⌝ }
-    requires { ⌜ Ready (now text) (now here) ⌝ }
-    requires { ⌜ (3 ≤ kindAt (now here)) × (kindAt (now here) ≤ 6) ⌝ }
-    requires { ⌜ orderOf order ≡ orderBy (kindAt (now here)) ⌝ }
-    ensures { λ r. ⌜ Reads (quantifiedAt depth (kindAt (now (here .entry)))) (now (text .entry)) (scopeOf (now (text .entry)) (now (names .entry)) «in_use»)
+    requires { ⌜ AtToken (now text) (now here) ⌝ }
+    requires { ⌜ (ex1Kind ≤ nextKind (now here)) × (nextKind (now here) ≤ all2Kind) ⌝ }
+    requires { ⌜ orderOf order ≡ orderBy (nextKind (now here)) ⌝ }
+    ensures { λ r. ⌜ Reads (quantifiedAt depth (nextKind (now (here .entry)))) (now (text .entry)) (scopeOf (now (text .entry)) (now (names .entry)) «in_use»)
         (now (words .entry)) (now (here .entry)) (now (words .exit)) (now (here .exit)) (readingOf r (now (here .exit))) ⌝ }
 {
     let kind = here[KIND];

@@ -16,7 +16,7 @@ use Rattle.text.specs.Syntax.{Text}
 use Rattle.text.specs.Grammar.{Read, got, textOf}
 use Rattle.text.specs.Grammar.{refused as leaves}
 use Rattle.text.specs.Records.{variablesIn, countIn, recordsIn}
-use Rattle.text.specs.Import.{written, ruleOf, import, outAfter}
+use Rattle.text.specs.Import.{written, ruleOf, import, outAfterImport}
 use Rattle.text.specs.Import.{Import as Answer, refused as turnedDown}
 use Rattle.text.proofs.Texts.{text-right}
 use Rattle.text.proofs.Readers.{read-good}
@@ -81,33 +81,33 @@ strip-size : (s : List ℕ) (t : Text) (ts : List Token) → textOf s ≡ got t 
 strip-size s t ts e l = claimed s 290 (variablesIn t) (countIn t) _ (import-roomy s 290 (omega arith) ∙ ap ruleOf e ∙ rule-written t ts l) .size
 
 -- what is written, if anything, has at most that many bytes
-abbrev Fits : ℕ → Answer → Type 0
-Fits size (written n m strip) = length strip ≤ size
-Fits size (turnedDown k) = Unit
+abbrev WrittenFits : ℕ → Answer → Type 0
+WrittenFits size (written n m strip) = length strip ≤ size
+WrittenFits size (turnedDown k) = Unit
 
 written-room : (s : List ℕ) (size n m : ℕ) (strip : List ℕ) → import s size ≡ written n m strip → length strip ≤ size
 unfolding import
-written-room s size n m strip e = subst (Fits size) e (go (ltb size 290) refl)
+written-room s size n m strip e = subst (WrittenFits size) e (go (ltb size 290) refl)
   where
-    of-count : (t : Text) (ts : List Token) → textOf s ≡ got t ts → 290 ≤ size → (b : Bool) → leb (countIn t) 128 ≡ b → Fits size (ruleOf (got t ts))
+    of-count : (t : Text) (ts : List Token) → textOf s ≡ got t ts → 290 ≤ size → (b : Bool) → leb (countIn t) 128 ≡ b → WrittenFits size (ruleOf (got t ts))
     of-count t ts q h true l =
         let c = leb-true (countIn t) 128 l in
-        subst (Fits size) (sym (rule-written t ts c)) (let z = strip-size s t ts q c in omega arith)
-    of-count t ts q h false l = subst (Fits size) (sym (rule-many t ts (leb-false (countIn t) 128 l))) tt
+        subst (WrittenFits size) (sym (rule-written t ts c)) (let z = strip-size s t ts q c in omega arith)
+    of-count t ts q h false l = subst (WrittenFits size) (sym (rule-many t ts (leb-false (countIn t) 128 l))) tt
 
-    of-read : 290 ≤ size → (r : Read Text) → textOf s ≡ r → Fits size (ruleOf r)
-    of-read h (leaves k t) q = subst (Fits size) (sym (rule-refused k t)) tt
+    of-read : 290 ≤ size → (r : Read Text) → textOf s ≡ r → WrittenFits size (ruleOf r)
+    of-read h (leaves k t) q = subst (WrittenFits size) (sym (rule-refused k t)) tt
     of-read h (got t ts) q = of-count t ts q h (leb (countIn t) 128) refl
 
-    go : (b : Bool) → ltb size 290 ≡ b → Fits size (elim b as (λ _. Answer) [ true ↦ turnedDown 27 | false ↦ ruleOf (textOf s) ])
+    go : (b : Bool) → ltb size 290 ≡ b → WrittenFits size (elim b as (λ _. Answer) [ true ↦ turnedDown 27 | false ↦ ruleOf (textOf s) ])
     go true l = tt
     go false l = of-read (ltb-false size 290 l) (textOf s) refl
 
-abbrev pub Outcome : List ℕ → List ℕ → Import → List ℕ → Type 0
-Outcome s out r out′ = (r ≡ importedOf (import s (length out))) × ((out′ ≡ outAfter (import s (length out)) out) × Claimed s r out′)
+abbrev pub ImportOutcome : List ℕ → List ℕ → Import → List ℕ → Type 0
+ImportOutcome s out r out′ = (r ≡ importedOf (import s (length out))) × ((out′ ≡ outAfterImport (import s (length out)) out) × Claimed s r out′)
 
-claim-follows : (s out : List ℕ) (a : Answer) → import s (length out) ≡ a → Claimed s (importedOf a) (outAfter a out)
-unfolding outAfter
+claim-follows : (s out : List ℕ) (a : Answer) → import s (length out) ≡ a → Claimed s (importedOf a) (outAfterImport a out)
+unfolding outAfterImport
 claim-follows s out (written n′ m′ strip) e n m len q =
     let x : n′ ≡ n = cc in
     let y : m′ ≡ m = cc in
@@ -118,31 +118,31 @@ claim-follows s out (written n′ m′ strip) e n m len q =
 claim-follows s out (turnedDown k) e n m len q = absurd (let z : _≡_ {A = ℕ} 0 1 = cc in omega arith)
 
 outcome : (s out : List ℕ) (a : Answer) (r : Import) (out′ : List ℕ) → import s (length out) ≡ a → r ≡ importedOf a
-    → out′ ≡ outAfter a out → Outcome s out r out′
+    → out′ ≡ outAfterImport a out → ImportOutcome s out r out′
 outcome s out a r out′ e q p =
-    (q ∙ ap importedOf (sym e), (p ∙ ap (λ (b : Answer). outAfter b out) (sym e), rw (q, p) (claim-follows s out a e)))
+    (q ∙ ap importedOf (sym e), (p ∙ ap (λ (b : Answer). outAfterImport b out) (sym e), rw (q, p) (claim-follows s out a e)))
 
-front-put : (out : List ℕ) (n m : ℕ) (strip : List ℕ) → sets out 0 strip ≡ outAfter (written n m strip) out
-unfolding outAfter
+front-put : (out : List ℕ) (n m : ℕ) (strip : List ℕ) → sets out 0 strip ≡ outAfterImport (written n m strip) out
+unfolding outAfterImport
 front-put out n m strip = refl
 
-unchanged : (out : List ℕ) (k : ℕ) → out ≡ outAfter (turnedDown k) out
-unfolding outAfter
+unchanged : (out : List ℕ) (k : ℕ) → out ≡ outAfterImport (turnedDown k) out
+unfolding outAfterImport
 unchanged out k = refl
 
 module _ (s out : List ℕ) where
-  pub outcome-small : length out < 290 → Outcome s out (Refused 27) out
+  pub outcome-small : length out < 290 → ImportOutcome s out (Refused 27) out
   outcome-small h = outcome s out (turnedDown 27) (Refused 27) out (import-small s (length out) h) refl (unchanged out 27)
 
   module _ {ws h : List ℕ} {r : Reading} (roomy : 290 ≤ length out) where
-    pub outcome-refused : {k b e : ℕ} → TextTold ws h (textOf s) r → r ≡ Unread k b e → Outcome s out (Refused k) out
+    pub outcome-refused : {k b e : ℕ} → TextTold ws h (textOf s) r → r ≡ Unread k b e → ImportOutcome s out (Refused k) out
     outcome-refused {k} (text-got t us e q m D) p = absurd (got-refused (sym q ∙ p))
     outcome-refused {k} (text-refused k′ t e q) p =
         let x : k′ ≡ k = cc in
         outcome s out (turnedDown k) (Refused k) out
         (import-roomy s (length out) roomy ∙ ap ruleOf e ∙ rule-refused k′ t ∙ ap turnedDown x) refl (unchanged out k)
 
-    pub outcome-many : TextTold ws h (textOf s) r → r ≡ Got → 128 < countAt h → Outcome s out (Refused 26) out
+    pub outcome-many : TextTold ws h (textOf s) r → r ≡ Got → 128 < countAt h → ImportOutcome s out (Refused 26) out
     outcome-many (text-got t us e q m D) p l =
         let c = text-sound s t us e .counted in
         let d = D .size in
@@ -151,7 +151,7 @@ module _ (s out : List ℕ) where
 
     pub outcome-written : {out′ : List ℕ} → TextTold ws h (textOf s) r → r ≡ Got → countAt h ≤ 128
         → out′ ≡ sets out 0 (ruleStrip (tracksAt h) (recordsOfWords (countAt h) ws))
-        → Outcome s out (Written (tracksAt h) (countAt h) ((16 + 18 * countAt h + 7) / 8)) out′
+        → ImportOutcome s out (Written (tracksAt h) (countAt h) ((16 + 18 * countAt h + 7) / 8)) out′
     outcome-written {out′} (text-got t us e q m D) p l w =
         let S = text-sound s t us e in
         let k : countAt h ≡ countIn t = drafted-count D l ∙ S .counted in

@@ -8,9 +8,9 @@ use borrow.Author.Tests.{ne-eqb}
 use lib.Dec.{eqb}
 use lib.ListN.{length, getD, set}
 use Rattle.logic.specs.Rule.{Record}
-use Rattle.text.specs.Token.{Token, theEnd, spells, placeIn, words, marks}
+use Rattle.text.specs.Token.{Token, theEnd, spells, numberIn, words, textMarks}
 use Rattle.text.specs.Syntax.{Name, Sentence, Scope, Text}
-use Rattle.text.specs.Grammar.{Read, got, next, rest, accept, or23, andThen, declarations, reader, formula, textFrom, textOf}
+use Rattle.text.specs.Grammar.{Read, got, peek, rest, accept, or23, readThen, declarations, reader, formula, textFrom, textOf}
 use Rattle.text.specs.Grammar.{refused as leaves}
 use Rattle.text.specs.Records.{write, writeFree, putSingle, variablesIn, recordsIn}
 use Rattle.text.proofs.Written.{tracks-least}
@@ -23,22 +23,18 @@ use Rattle.drafting.proofs.Drafts.{drafted-none}
 use Rattle.phrases.specs.Told.{RefusedAt, MarkStands, MarkLacks, MarkTold, stands, lacks, NamesAre}
 use Rattle.phrases.specs.declared.Mark.{Mark}
 use Rattle.phrases.specs.declared.Mark.the-variants.{Stands as Stood, Refused as Lacked}
-use Rattle.phrases.proofs.Taking.{mark-taken, mark-turned}
-use Rattle.formulas.specs.Reading.{levelAt, kindAt, startAt, stopAt, countAt, Ready, Looks, refusedHere, Reads, Told, told-got, told-refused, Counted}
+use Rattle.phrases.proofs.Taking.{mark-taken, mark-turned, is-semicolon}
+use Rattle.formulas.specs.Reading.{levelAt, nextKind, startAt, stopAt, countAt, AtToken, Looks, refusedHere, Reads, Told, told-got, told-refused, Counted}
 use Rattle.formulas.specs.Reading.{Reading, Got, readingOf}
 use Rattle.formulas.specs.Reading.{Refused as Unread}
 use Rattle.formulas.proofs.Strengths.{reader-formula}
 use Rattle.formulas.proofs.Levels.{Tracked, looks-ready, kind-is, taken, got-refused, refused-put, told-is}
-use Rattle.import.specs.Answers.{headed, ended, bodyOf, HeadingTold, heads, heads-not, Ends, ends, no-semicolon, no-end, ends-refused}
-use Rattle.import.specs.Answers.{FreePut, Blank, TextTold, text-got, text-refused}
+use Rattle.import.specs.Answers.{headed, endedText, bodyOf, HeadingTold, heads, heads-not, Ends, ends, no-semicolon, no-end, ends-refused}
+use Rattle.import.specs.Answers.{FreePut, FreshArrays, TextTold, text-got, text-refused}
 
-heading-is : placeIn 0 (words ++ marks) "ws2s" ≡ 0
-unfolding placeIn words marks
+heading-is : numberIn 0 (words ++ textMarks) "ws2s" ≡ 0
+unfolding numberIn words textMarks
 heading-is = refl
-
-semicolon-is : placeIn 0 (words ++ marks) ";" ≡ 10
-unfolding placeIn words marks
-semicolon-is = refl
 
 -- the text that an equal reading is refused at
 refused-as : {A : Type 0} {R S : Read A} {k b e : ℕ} → R ≡ S → RefusedAt S k b e → RefusedAt R k b e
@@ -59,7 +55,7 @@ mark-lacks {s} {kind} {at} {k} {b} {e} (lacks {k = k′} {b = b′} {e = e′} w
 -- ---- the heading
 
 behind-heading : (go : List Token → Read Text) → Name → List Token → Read Text
-behind-heading go _ us = accept (or23 (spells ";" (next us))) us (λ _ vs. go vs)
+behind-heading go _ us = accept (or23 (spells ";" (peek us))) us (λ _ vs. go vs)
 
 module _ {s : List ℕ} where
   headed-first : (go : List Token → Read Text) {p : ℕ} → MarkStands s 0 0 p → headed (tokensAt s 0) go ≡ behind-heading go [] (tokensAt s p)
@@ -68,10 +64,10 @@ module _ {s : List ℕ} where
 
   pub heading-told : {p : ℕ} {r : Mark} → MarkStands s 0 0 p → MarkTold s 10 p r → HeadingTold s r
   unfolding behind-heading
-  heading-told st (stands {p = q} w) = heads q refl (λ go. headed-first go st ∙ mark-taken ";" semicolon-is (λ _ vs. go vs) w)
+  heading-told st (stands {p = q} w) = heads q refl (λ go. headed-first go st ∙ mark-taken ";" is-semicolon (λ _ vs. go vs) w)
   heading-told st (lacks {k = k} {b = b} {e = e} w) =
       heads-not k b e refl (λ z. let n = w .number-is in omega arith)
-      (λ go. refused-as (headed-first go st) (mark-turned ";" semicolon-is (λ _ vs. go vs) w))
+      (λ go. refused-as (headed-first go st) (mark-turned ";" is-semicolon (λ _ vs. go vs) w))
 
   pub heading-lacks : {k b e : ℕ} → MarkLacks s 0 0 k b e → HeadingTold s (Lacked k b e)
   unfolding behind-heading
@@ -81,24 +77,24 @@ module _ {s : List ℕ} where
 
 -- behind the semicolon
 last : Text → List Token → Read Text
-last t ys = accept (or23 (eqb (next ys .kind) theEnd)) ys (λ _ zs. got t zs)
+last t ys = accept (or23 (eqb (peek ys .kind) theEnd)) ys (λ _ zs. got t zs)
 
-last-there : (t : Text) (ys : List Token) → next ys .kind ≡ theEnd → last t ys ≡ got t (rest ys)
+last-there : (t : Text) (ys : List Token) → peek ys .kind ≡ theEnd → last t ys ≡ got t (rest ys)
 unfolding last accept
 last-there t ys e = rw e refl
 
-last-not : (t : Text) (ys : List Token) → (next ys .kind ≡ theEnd → ⊥) → last t ys ≡ leaves 23 (next ys)
+last-not : (t : Text) (ys : List Token) → (peek ys .kind ≡ theEnd → ⊥) → last t ys ≡ leaves 23 (peek ys)
 unfolding last accept
-last-not t ys z = rw (ne-eqb (next ys .kind) 25 z) refl
+last-not t ys z = rw (ne-eqb (peek ys .kind) 25 z) refl
 
 -- the semicolon
-semicolon-there : (t : Text) (xs : List Token) → next xs .kind ≡ 10 → ended t xs ≡ last t (rest xs)
-unfolding last accept spells placeIn words marks
+semicolon-there : (t : Text) (xs : List Token) → peek xs .kind ≡ 10 → endedText t xs ≡ last t (rest xs)
+unfolding last accept spells numberIn words textMarks
 semicolon-there t xs e = rw e refl
 
-semicolon-not : (t : Text) (xs : List Token) → (next xs .kind ≡ 10 → ⊥) → ended t xs ≡ leaves 23 (next xs)
-unfolding accept spells placeIn words marks
-semicolon-not t xs z = rw (ne-eqb (next xs .kind) 10 z) refl
+semicolon-not : (t : Text) (xs : List Token) → (peek xs .kind ≡ 10 → ⊥) → endedText t xs ≡ leaves 23 (peek xs)
+unfolding accept spells numberIn words textMarks
+semicolon-not t xs z = rw (ne-eqb (peek xs .kind) 10 z) refl
 
 -- ---- the records of the free variables
 
@@ -138,15 +134,15 @@ freed-all {ns} {ws₀} {c₀} {n} {ws} {c} {i} F l = let u = F .upto in let e : 
 
 -- the formula and the end, where the names sc are declared
 abbrev sentenced : Scope → List Token → Read Text
-sentenced sc ws = andThen (reader 32 formula sc ws) (λ f xs. ended (record { declared = sc; sentence = f }) xs)
+sentenced sc ws = readThen (reader 32 formula sc ws) (λ f xs. endedText (record { declared = sc; sentence = f }) xs)
 
 -- a token that stands next, told as a refusal
-told-there : {s h ws h′ : List ℕ} {R : Read Text} {r : Reading} → Ready s h → R ≡ leaves 23 (next (tokensAt s (startAt h))) → r ≡ refusedHere h
+told-there : {s h ws h′ : List ℕ} {R : Read Text} {r : Reading} → AtToken s h → R ≡ leaves 23 (peek (tokensAt s (startAt h))) → r ≡ refusedHere h
     → TextTold ws h′ R r
 told-there {s} {h} y e q =
     let a = ap (λ (u : Token). u .start) (y .stands .stands) in
     let b = ap (λ (u : Token). u .stop) (y .stands .stands) in
-    text-refused 23 (next (tokensAt s (startAt h))) e (q ∙ rw (a, b) refl)
+    text-refused 23 (peek (tokensAt s (startAt h))) e (q ∙ rw (a, b) refl)
 
 module _ (s : List ℕ) (at : ℕ) where
   pub body-undeclared : {ws : List ℕ} (h : List ℕ) {k b e : ℕ} → length h ≡ 5 → (k ≡ 0 → ⊥)
@@ -155,20 +151,20 @@ module _ (s : List ℕ) (at : ℕ) where
   unfolding bodyOf
   body-undeclared {ws} h {k} {b} {e} l z w =
       let p = refused-put k b e h z l in
-      text-refused _ (w .token) (ap (λ (R : Read Scope). andThen R sentenced) (w .refuses)) (p .0 ∙ rw (w .start-is, w .stop-is) refl)
+      text-refused _ (w .token) (ap (λ (R : Read Scope). readThen R sentenced) (w .refuses)) (p .0 ∙ rw (w .start-is, w .stop-is) refl)
 
   module _ {ns : List ℕ} {n p : ℕ} (N : NamesAre s at (declarations (length (tokensAt s at)) [] (tokensAt s at)) ns n p)
       {ws h m k ws₂ h₂ : List ℕ} {sentence : Reading}
-      (B : Blank ws h) (T : Tracked h n m) (L : Looks s p m k) (X : Reads (levelAt 32 0) s (scopeOf s ns n) ws k ws₂ h₂ sentence) where
+      (B : FreshArrays ws h) (T : Tracked h n m) (L : Looks s p m k) (X : Reads (levelAt 32 0) s (scopeOf s ns n) ws k ws₂ h₂ sentence) where
     -- the formula, and then the end
     body-is : bodyOf (tokensAt s at)
-        ≡ andThen (levelAt 32 0 (scopeOf s ns n) (tokensAt s (startAt k))) (λ f xs. ended (record { declared = scopeOf s ns n; sentence = f }) xs)
+        ≡ readThen (levelAt 32 0 (scopeOf s ns n) (tokensAt s (startAt k))) (λ f xs. endedText (record { declared = scopeOf s ns n; sentence = f }) xs)
     unfolding bodyOf
     body-is =
         let sc = scopeOf s ns n in
-        ap (λ (R : Read Scope). andThen R sentenced) (N .reads)
-        ∙ ap (λ (R : Read Sentence). andThen R (λ f xs. ended (record { declared = sc; sentence = f }) xs)) (reader-formula 32 sc (tokensAt s p))
-        ∙ ap (λ (us : List Token). andThen (levelAt 32 0 sc us) (λ f xs. ended (record { declared = sc; sentence = f }) xs)) (L .stands .skips)
+        ap (λ (R : Read Scope). readThen R sentenced) (N .reads)
+        ∙ ap (λ (R : Read Sentence). readThen R (λ f xs. endedText (record { declared = sc; sentence = f }) xs)) (reader-formula 32 sc (tokensAt s p))
+        ∙ ap (λ (us : List Token). readThen (levelAt 32 0 sc us) (λ f xs. endedText (record { declared = sc; sentence = f }) xs)) (L .stands .skips)
 
     tells : Told s (scopeOf s ns n) [] k ws₂ h₂ (levelAt 32 0 (scopeOf s ns n) (tokensAt s (startAt k))) sentence
     tells =
@@ -179,11 +175,11 @@ module _ (s : List ℕ) (at : ℕ) where
 
     -- what was read, up to the end
     read-to : (q : sentence ≡ Got)
-        → bodyOf (tokensAt s at) ≡ ended (record { declared = scopeOf s ns n; sentence = told-is tells q .sentence }) (tokensAt s (startAt h₂))
-    read-to q = body-is ∙ ap (λ (R : Read Sentence). andThen R (λ f xs. ended (record { declared = scopeOf s ns n; sentence = f }) xs)) (told-is tells q .reads)
+        → bodyOf (tokensAt s at) ≡ endedText (record { declared = scopeOf s ns n; sentence = told-is tells q .sentence }) (tokensAt s (startAt h₂))
+    read-to q = body-is ∙ ap (λ (R : Read Sentence). readThen R (λ f. endedText (record { declared = scopeOf s ns n; sentence = f }))) (told-is tells q .reads)
 
     -- up to what stands behind the semicolon
-    read-on : (q : sentence ≡ Got) {h₃ : List ℕ} → kindAt h₂ ≡ 10 → Looks s (stopAt h₂) h₂ h₃
+    read-on : (q : sentence ≡ Got) {h₃ : List ℕ} → nextKind h₂ ≡ 10 → Looks s (stopAt h₂) h₂ h₃
         → bodyOf (tokensAt s at) ≡ last (record { declared = scopeOf s ns n; sentence = told-is tells q .sentence }) (tokensAt s (startAt h₃))
     read-on q e M =
         let y = X .ready q in
@@ -205,7 +201,7 @@ module _ (s : List ℕ) (at : ℕ) where
             → sentence ≡ Unread i b e → whole ≡ Unread i b e → TextTold ws₂ h₄ (bodyOf (tokensAt s at)) whole
         up (told-got f e q d m) x z = absurd (got-refused (sym q ∙ x))
         up (told-refused i t e q) x z =
-            text-refused i t (body-is ∙ ap (λ (R : Read Sentence). andThen R (λ f xs. ended (record { declared = scopeOf s ns n; sentence = f }) xs)) e)
+            text-refused i t (body-is ∙ ap (λ (R : Read Sentence). readThen R (λ f xs. endedText (record { declared = scopeOf s ns n; sentence = f }) xs)) e)
             (z ∙ sym x ∙ q)
 
     pub body-read : {h₃ ws₃ h₄ : List ℕ} {whole : Reading} {c : ℕ} → Ends s h₂ h₃ sentence whole → whole ≡ Got

@@ -6,9 +6,9 @@ use mathlib.Core.List.{List, []}
 use lib.Dec.{leb, eqb}
 use lib.ListN.{length, take}
 use Rattle.logic.specs.Rule.{Record}
-use Rattle.text.specs.Token.{Token, theEnd, spells}
+use Rattle.text.specs.Token.{Token, semicolonKind, theEnd, spells}
 use Rattle.text.specs.Syntax.{Text}
-use Rattle.text.specs.Grammar.{Read, got, next, accept, or23, andThen, declarations, reader, formula}
+use Rattle.text.specs.Grammar.{Read, got, peek, accept, or23, readThen, declarations, reader, formula}
 use Rattle.text.specs.Grammar.{refused as leaves}
 use Rattle.text.specs.Records.{variablesIn, countIn, recordsIn, writeFree}
 use Rattle.text.specs.Import.{written}
@@ -20,7 +20,7 @@ use Rattle.drafting.specs.Draft.{Drafted}
 use Rattle.phrases.specs.Told.{RefusedAt}
 use Rattle.phrases.specs.declared.Mark.{Mark}
 use Rattle.phrases.specs.declared.Mark.the-variants.{Stands as Stood, Refused as Lacked}
-use Rattle.formulas.specs.Reading.{kindAt, stopAt, countAt, tracksAt, Looks, refusedHere}
+use Rattle.formulas.specs.Reading.{nextKind, stopAt, countAt, tracksAt, Looks, refusedHere}
 use Rattle.formulas.specs.Reading.{Reading, Got}
 use Rattle.formulas.specs.Reading.{Refused as Unread}
 use Rattle.import.specs.declared.Import.{Import}
@@ -43,15 +43,17 @@ Claimed s r out = (n m len : ℕ) → r ≡ Written n m len → Imported s n m (
 
 -- "the heading `ws2s;`", and then what is read by go
 abbrev pub headed : List Token → (List Token → Read Text) → Read Text
-headed ts go = accept (or23 (spells "ws2s" (next ts))) ts (λ _ us. accept (or23 (spells ";" (next us))) us (λ _ vs. go vs))
+headed ts go = accept (or23 (spells "ws2s" (peek ts))) ts (λ _ us. accept (or23 (spells ";" (peek us))) us (λ _ vs. go vs))
 
 -- "ended by a semicolon": the text t was read, if nothing stands behind it
-abbrev pub ended : Text → List Token → Read Text
-ended t xs = accept (or23 (spells ";" (next xs))) xs (λ _ ys. accept (or23 (eqb (next ys .kind) theEnd)) ys (λ _ zs. got t zs))
+abbrev pub endedText : Text → List Token → Read Text
+endedText t xs = accept (or23 (spells ";" (peek xs))) xs (λ _ ys. accept (or23 (eqb (peek ys .kind) theEnd)) ys (λ _ zs. got t zs))
 
 -- "any number of `var1` and `var2` declarations, then one formula", and the end
 unfoldable pub bodyOf : List Token → Read Text
-bodyOf vs = andThen (declarations (length vs) [] vs) (λ sc ws. andThen (reader 32 formula sc ws) (λ f xs. ended (record { declared = sc; sentence = f }) xs))
+bodyOf vs =
+    readThen (declarations (length vs) [] vs) (λ sc ws.
+    readThen (reader 32 formula sc ws) (λ f xs. endedText (record { declared = sc; sentence = f }) xs))
 
 -- the heading stands, and the next token is looked for from place p on
 pub data HeadingTold (s : List ℕ) (r : Mark) : Type 0 where
@@ -60,9 +62,9 @@ pub data HeadingTold (s : List ℕ) (r : Mark) : Type 0 where
 
 -- the semicolon and the end stand behind the formula that was read, or not. h and h′: the readers' array before and after
 pub data Ends (s h h′ : List ℕ) (inner r : Reading) : Type 0 where
-  ends : inner ≡ Got → r ≡ Got → kindAt h ≡ 10 → Looks s (stopAt h) h h′ → kindAt h′ ≡ theEnd → Ends s h h′ inner r
-  no-semicolon : inner ≡ Got → r ≡ refusedHere h → (kindAt h ≡ 10 → ⊥) → Ends s h h′ inner r
-  no-end : inner ≡ Got → r ≡ refusedHere h′ → kindAt h ≡ 10 → Looks s (stopAt h) h h′ → (kindAt h′ ≡ theEnd → ⊥) → Ends s h h′ inner r
+  ends : inner ≡ Got → r ≡ Got → nextKind h ≡ semicolonKind → Looks s (stopAt h) h h′ → nextKind h′ ≡ theEnd → Ends s h h′ inner r
+  no-semicolon : inner ≡ Got → r ≡ refusedHere h → (nextKind h ≡ semicolonKind → ⊥) → Ends s h h′ inner r
+  no-end : inner ≡ Got → r ≡ refusedHere h′ → nextKind h ≡ semicolonKind → Looks s (stopAt h) h h′ → (nextKind h′ ≡ theEnd → ⊥) → Ends s h h′ inner r
   ends-refused : (k b e : ℕ) → inner ≡ Unread k b e → r ≡ Unread k b e → Ends s h h′ inner r
 
 -- "each free first-order variable two more": of the first n names
@@ -76,7 +78,7 @@ pub data TextTold (ws h : List ℕ) (R : Read Text) (r : Reading) : Type 0 where
   text-refused : (k : ℕ) (t : Token) → R ≡ leaves k t → r ≡ Unread k (t .start) (t .stop) → TextTold ws h R r
 
 -- the arrays that a reading starts with
-pub record Blank (ws h : List ℕ) : Type 0 where
+pub record FreshArrays (ws h : List ℕ) : Type 0 where
   pub room : length ws ≡ 128
   pub size : length h ≡ 5
   pub none : countAt h ≡ 0

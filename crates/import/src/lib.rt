@@ -3,11 +3,12 @@ ghost use mathlib.Core.Path.{_≡_};
 ghost use Prim.Native.Nat.{_-_, _≤_};
 ghost use lib.ListN.{length};
 ghost use Rattle.text.specs.Grammar.{textOf};
-ghost use Rattle.text.specs.Import.{import, outAfter};
+ghost use Rattle.text.specs.Import.{import, outAfterImport};
 ghost use Rattle.tokens.specs.Tokens.{tokensAt};
 ghost use Rattle.formulas.specs.Reading.{readingOf};
-ghost use Rattle.import.specs.Answers.{HeadingTold, Ends, FreePut, bodyOf, Blank, TextTold, importedOf, faultOf, Claimed};
+ghost use Rattle.import.specs.Answers.{HeadingTold, Ends, FreePut, bodyOf, FreshArrays, TextTold, importedOf, faultOf, Claimed};
 use phrases::Mark;
+use text::kinds;
 
 pub mod numbers; // what C is told
 
@@ -28,11 +29,6 @@ pub struct TextFault {
     pub length: usize,
 }
 
-// The kinds of the tokens that are looked for here: their places among all words and marks.
-const HEADING: usize = 0;
-
-const SEMICOLON: usize = 10;
-
 // "nest at most 32 deep"
 const DEPTH: usize = 32;
 
@@ -40,8 +36,8 @@ const DEPTH: usize = 32;
 fn read_heading(text: &[u8]) -> Mark
     ensures { λ r. ⌜ HeadingTold (now (text .entry)) r ⌝ }
 {
-    match phrases::read_mark(text, HEADING, 0) {
-        Mark::Stands { next } => phrases::read_mark(text, SEMICOLON, next),
+    match phrases::read_mark(text, kinds::WS2S, 0) {
+        Mark::Stands { next } => phrases::read_mark(text, kinds::SEMICOLON, next),
         Mark::Refused {
             number,
             start,
@@ -63,12 +59,12 @@ fn end(text: &[u8], here: &mut [usize; 5], sentence: u64) -> u64
     if sentence != 0 {
         return sentence;
     }
-    if here[formulas::KIND] != SEMICOLON {
+    if here[formulas::KIND] != kinds::SEMICOLON {
         return 23;
     }
     let behind = here[formulas::STOP];
     formulas::look(text, here, behind);
-    if here[formulas::KIND] != tokens::END {
+    if here[formulas::KIND] != kinds::END {
         return 23;
     }
     0
@@ -92,7 +88,7 @@ fn put_free(words: &mut [u64; 128], names: &[usize; 24], in_use: usize, count: u
 
 // The declarations, the formula and the end, from a place on.
 fn read_body(text: &[u8], words: &mut [u64; 128], here: &mut [usize; 5], at: usize) -> u64
-    requires { ⌜ Blank (now words) (now here) ⌝ }
+    requires { ⌜ FreshArrays (now words) (now here) ⌝ }
     ensures { λ r. ⌜ TextTold (now (words .exit)) (now (here .exit)) (bodyOf (tokensAt (now (text .entry)) at))
         (readingOf r (now (here .exit))) ⌝ }
 {
@@ -117,7 +113,7 @@ fn read_body(text: &[u8], words: &mut [u64; 128], here: &mut [usize; 5], at: usi
 
 // A whole text: its records into the one array, how many they are and its tracks into the other.
 fn read_text(text: &[u8], words: &mut [u64; 128], here: &mut [usize; 5]) -> u64
-    requires { ⌜ Blank (now words) (now here) ⌝ }
+    requires { ⌜ FreshArrays (now words) (now here) ⌝ }
     ensures { λ r. ⌜ TextTold (now (words .exit)) (now (here .exit)) (textOf (now (text .entry))) (readingOf r (now (here .exit))) ⌝ }
 {
     match read_heading(text) {
@@ -137,7 +133,7 @@ fn read_text(text: &[u8], words: &mut [u64; 128], here: &mut [usize; 5]) -> u64
 // The rule that a text says, as a strip at the front of out.
 pub fn import_text(text: &[u8], out: &mut [u8]) -> Import
     ensures { λ r. do ⌜ r ≡ importedOf (import (now (text .entry)) (length (now (out .entry)))) ⌝ }
-    ensures { λ r. ⌜ now (out .exit) ≡ outAfter (import (now (text .entry)) (length (now (out .entry)))) (now (out .entry)) ⌝ }
+    ensures { λ r. ⌜ now (out .exit) ≡ outAfterImport (import (now (text .entry)) (length (now (out .entry)))) (now (out .entry)) ⌝ }
     ensures { λ r. ⌜ Claimed (now (text .entry)) r (now (out .exit)) ⌝ }
 {
     if out.len() < 290 {

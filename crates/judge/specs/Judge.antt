@@ -9,7 +9,7 @@ use Rattle.logic.specs.Tree.{Tree, empty, TreeOf}
 use Rattle.logic.specs.Claims.{Judgement as Ruled, unbuilt, yes, no, Judges}
 use Rattle.logic.specs.Decide.{judgeOf}
 use Rattle.rule_strip.specs.RuleStrip.{variablesOf, countOf, recordsOf, ruleFault}
-use Rattle.rule_strip.specs.RulePlaces.{Offends}
+use Rattle.rule_strip.specs.RulePlaces.{RuleOffends}
 use Rattle.tree_strip.specs.TreePlaces.{OffendsAt}
 use Rattle.tree_strip.specs.TreeStrip.{Parsed, parsed, refused, readTree}
 use Rattle.refusals.specs.Refusal.{checked, tested, unlessRefused, answerUnless}
@@ -63,4 +63,4 @@ pub record JudgedTree (rule : List ℕ) (c : ℕ) (strip : List ℕ) (v : Judgem
 -- place that v names is one where the rule strip or the tree strip offends
 pub record JudgeClaim (rule : List ℕ) (c room : ℕ) (strip : List ℕ) (v : Judgement) : Type 0 where
   pub judged : judgeRefusal rule c room strip ≡ Nothing → JudgedTree rule c strip v
-  pub names : (k p : ℕ) → v ≡ Refused (Placed k p) → Offends rule k p ⊎ OffendsAt strip k p
+  pub names : (k p : ℕ) → v ≡ Refused (Placed k p) → RuleOffends rule k p ⊎ OffendsAt strip k p

@@ -7,12 +7,12 @@ use native.Mathlib.Omega.{arith}
 use borrow.Author.Tests.{ne-eqb, eqb-true, eqb-false, not-true}
 use lib.Dec.{eqb}
 use Rattle.logic.specs.Two.{one, two}
-use Rattle.text.specs.Token.{Token as TextToken, words, marks, placeIn}
+use Rattle.text.specs.Token.{Token as TextToken, words, textMarks, numberIn}
 use Rattle.text.specs.Syntax.{Name, Order, first, second, Spot, variable, branch, root, sub, member, equal, Sentence, Scope}
-use Rattle.text.specs.Grammar.{Read, next, rest, usedRefusal, used, hasOrder, leftGood, branchOf, spotOf, related, atomOf}
+use Rattle.text.specs.Grammar.{Read, peek, rest, usedRefusal, used, hasOrder, leftGood, branchOf, spotOf, related, atomOf}
 use Rattle.text.specs.Grammar.{Relation, inclusion, membership, equality, other, relationOf}
 use Rattle.tokens.specs.declared.Token.{Token}
-use Rattle.tokens.specs.Tokens.{part, tokensAt, readFrom, Stands}
+use Rattle.tokens.specs.Tokens.{part, tokensAt, readFrom, StandsNext}
 use Rattle.drafting.specs.declared.Spot.the-variants.{Variable, Branch, Root}
 use Rattle.drafting.specs.declared.Spot.{Spot as SpotCode}
 use Rattle.drafting.specs.declared.Atom.the-variants.{Sub, Member, Equal}
@@ -27,20 +27,20 @@ use Rattle.phrases.specs.Told.{RefusedAt, SpotTold, AtomTold, reads, ref
 use Rattle.phrases.proofs.Taking.{not-end, taken, turned, spelled, not-spelled}
 use Rattle.phrases.proofs.Looking.{relation-is, left-is}
 
-is-root : placeIn 0 (words ++ marks) "root" ≡ 9
-unfolding placeIn words marks
+is-root : numberIn 0 (words ++ textMarks) "root" ≡ 9
+unfolding numberIn words textMarks
 is-root = refl
 
-is-one : placeIn 0 (words ++ marks) ".0" ≡ 21
-unfolding placeIn words marks
+is-one : numberIn 0 (words ++ textMarks) ".0" ≡ 21
+unfolding numberIn words textMarks
 is-one = refl
 
-is-two : placeIn 0 (words ++ marks) ".1" ≡ 22
-unfolding placeIn words marks
+is-two : numberIn 0 (words ++ textMarks) ".1" ≡ 22
+unfolding numberIn words textMarks
 is-two = refl
 
 -- ---- the branch of a variable
-module _ {s : List ℕ} {at : ℕ} {t : Token} (st : Stands s at t) (track : ℕ) (l : track < 8) where
+module _ {s : List ℕ} {at : ℕ} {t : Token} (st : StandsNext s at t) (track : ℕ) (l : track < 8) where
   pub branch-one : t .kind ≡ 21 → BranchTold s track at (spotRead (Branch 0 track) (t .stop))
   unfolding branchOf
   branch-one e sc y h =
@@ -85,7 +85,7 @@ name-test false w e = absurd (omega arith)
 use-name : {s : List ℕ} {sc : Scope} {o : Order} {t : Token} {u : Use} → UsedAs s sc o t u → u .refusal ≡ 0 → t .kind ≡ 23
 use-name {s} {sc} {o} {t} k e = eqb-true _ 23 (name-test (eqb (t .kind) 23) (hasOrder sc o (part s (t .start) (t .stop))) (sym e ∙ k .refusal-is))
 
-module _ {A : Type 0} {s : List ℕ} {sc : Scope} {o : Order} {at : ℕ} {t : Token} (st : Stands s at t) {u : Use} (k : UsedAs s sc o t u)
+module _ {A : Type 0} {s : List ℕ} {sc : Scope} {o : Order} {at : ℕ} {t : Token} (st : StandsNext s at t) {u : Use} (k : UsedAs s sc o t u)
     (go : Name → List TextToken → Read A) where
   pub used-turned : (u .refusal ≡ 0 → ⊥) → RefusedAt (used o sc (tokensAt s at) go) (u .refusal) (t .start) (t .stop)
   unfolding used
@@ -100,7 +100,7 @@ spot-wider : {s : List ℕ} {sc : Scope} {at p : ℕ} {R Q : Read Spot} {r : Spo
 spot-wider h e (reads i) = reads (record { spot = i .spot; code-is = i .code-is; reads = e ∙ i .reads; below = i .below; onward = omega (arith, i .onward) })
 spot-wider h e (refuses f) = refuses (record { token = f .token; refuses = e ∙ f .refuses; start-is = f .start-is; stop-is = f .stop-is })
 
-module _ {s : List ℕ} (sc : Scope) {at : ℕ} {t : Token} (st : Stands s at t) where
+module _ {s : List ℕ} (sc : Scope) {at : ℕ} {t : Token} (st : StandsNext s at t) where
   pub spot-root : t .kind ≡ 9 → SpotTold s sc at (spotOf sc (tokensAt s at)) (spotRead Root (t .stop))
   unfolding spotOf
   spot-root e =
@@ -145,7 +145,7 @@ module _ {s : List ℕ} {sc : Scope} {track at : ℕ} where
   equal-refused {k} {b} {e} (refuses f) x h =
       refuses {k = k} {b = b} {e = e} (record { token = f .token; refuses = rw (f .refuses) refl; start-is = f .start-is; stop-is = f .stop-is })
 
-  module _ {t : Token} (st : Stands s at t) {u : Use} (k : UsedAs s sc second t u) (kind : ℕ) where
+  module _ {t : Token} (st : StandsNext s at t) {u : Use} (k : UsedAs s sc second t u) (kind : ℕ) where
     pub right-turned : (u .refusal ≡ 0 → ⊥) → RightTold s sc track kind at (atomRefused (u .refusal) (t .start) (t .stop))
     right-turned z x h = refuses (used-turned st k _ z)
 
@@ -177,7 +177,7 @@ atom-wider h e (reads i) = reads (record { said = i .said; code-is = i .code-is;
 atom-wider h e (refuses f) = refuses (record { token = f .token; refuses = e ∙ f .refuses; start-is = f .start-is; stop-is = f .stop-is })
 
 -- the token behind the left name, by its kind
-relation-of : {s : List ℕ} {at : ℕ} {t : Token} → Stands s at t → relationOf (next (tokensAt s at)) ≡ relationBy (t .kind)
+relation-of : {s : List ℕ} {at : ℕ} {t : Token} → StandsNext s at t → relationOf (peek (tokensAt s at)) ≡ relationBy (t .kind)
 relation-of st = relation-is _ ∙ rw (st .stands) refl
 
 module _ {s : List ℕ} {sc : Scope} {track : ℕ} {t : Token} where
@@ -220,28 +220,28 @@ good-some membership o e z = let d = eqb-true o 1 e in omega arith
 good-some equality o e z = let d = eqb-true o 1 e in omega arith
 good-some other o e z = eqb-false o 0 (not-true _ e) z
 
-module _ {s : List ℕ} (sc : Scope) {at : ℕ} {t : Token} (st : Stands s at t) where
+module _ {s : List ℕ} (sc : Scope) {at : ℕ} {t : Token} (st : StandsNext s at t) where
   pub atom-no-name : (t .kind ≡ 23 → ⊥) → AtomTold s sc at (atomOf sc (tokensAt s at)) (atomRefused 23 (t .start) (t .stop))
   unfolding atomOf
   atom-no-name z =
-      let r = relationOf (next (rest (tokensAt s at))) in
+      let r = relationOf (peek (rest (tokensAt s at))) in
       refuses (turned st (λ v. usedRefusal (leftGood r sc (v .bytes)) v) (λ x us. related r sc x us) 23 (rw (ne-eqb _ 23 z) refl) (λ e. omega arith))
 
-  module _ (e : t .kind ≡ 23) {h : Holder} (k : Looked sc (part s (t .start) (t .stop)) h) {u : Token} (su : Stands s (t .stop) u) where
-    left-of : leftGood (relationOf (next (rest (tokensAt s at)))) sc (part s (t .start) (t .stop)) ≡ goodOrder (relationBy (u .kind)) (h .order)
+  module _ (e : t .kind ≡ 23) {h : Holder} (k : Looked sc (part s (t .start) (t .stop)) h) {u : Token} (su : StandsNext s (t .stop) u) where
+    left-of : leftGood (relationOf (peek (rest (tokensAt s at)))) sc (part s (t .start) (t .stop)) ≡ goodOrder (relationBy (u .kind)) (h .order)
     left-of = rw (st .goes-on (not-end e (omega arith)), relation-of su) (left-is k _)
 
     pub atom-wrong : goodOrder (relationBy (u .kind)) (h .order) ≡ false → AtomTold s sc at (atomOf sc (tokensAt s at)) (atomRefused 24 (t .start) (t .stop))
     unfolding atomOf
     atom-wrong b =
-        let r = relationOf (next (rest (tokensAt s at))) in
+        let r = relationOf (peek (rest (tokensAt s at))) in
         refuses (turned st (λ v. usedRefusal (leftGood r sc (v .bytes)) v) (λ x us. related r sc x us) 24 (rw (e, left-of, b) refl) (λ z. omega arith))
 
     pub atom-goes : goodOrder (relationBy (u .kind)) (h .order) ≡ true → {r : AtomRead} → RelatedTold s sc (h .track) u r
         → AtomTold s sc at (atomOf sc (tokensAt s at)) r
     unfolding atomOf
     atom-goes b q =
-        let r = relationOf (next (rest (tokensAt s at))) in
+        let r = relationOf (peek (rest (tokensAt s at))) in
         let z = not-end e (omega arith) in
         let o = st .onward z in
         let x = part s (t .start) (t .stop) in

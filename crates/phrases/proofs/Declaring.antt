@@ -8,32 +8,29 @@ use native.Mathlib.Numerals.{add-one}
 use borrow.Author.Tests.{eqb-true, leb-false}
 use lib.Dec.{eqb, leb}
 use lib.ListN.{length}
-use Rattle.text.specs.Token.{Token as TextToken, words, marks, placeIn, spells}
+use Rattle.text.specs.Token.{Token as TextToken, words, textMarks, numberIn, spells}
 use Rattle.text.specs.Syntax.{Order, Scope}
-use Rattle.text.specs.Grammar.{Read, got, andThen, next, rest, accept, or23, newRefusal, inUse, names, declarations}
+use Rattle.text.specs.Grammar.{Read, got, readThen, peek, rest, accept, or23, newRefusal, inUse, names, declarations}
 use Rattle.text.proofs.Steps.{names-is, declarationsBy, declarations-is}
 use Rattle.tokens.specs.declared.Token.{Token}
-use Rattle.tokens.specs.Tokens.{part, tokensAt, readFrom, Stands}
+use Rattle.tokens.specs.Tokens.{part, tokensAt, readFrom, StandsNext}
 use Rattle.tokens.specs.InUse.{orderOf, scopeOf, NamesFit, Bound}
 use Rattle.tokens.proofs.Scopes.{no-names, none-fit, scope-length}
 use Rattle.phrases.specs.declared.Declarations.{Declarations}
 use Rattle.phrases.specs.Told.{RefusedAt, NamesAre, DeclarationsTold}
 use Rattle.phrases.proofs.Taking.{not-end, name-span, taken, turned, spelled, not-spelled, mark-stands, mark-lacks, mark-taken, mark-turned}
+use Rattle.phrases.proofs.Taking.{is-semicolon}
 
-is-var1 : placeIn 0 (words ++ marks) "var1" ≡ 1
-unfolding placeIn words marks
+is-var1 : numberIn 0 (words ++ textMarks) "var1" ≡ 1
+unfolding numberIn words textMarks
 is-var1 = refl
 
-is-var2 : placeIn 0 (words ++ marks) "var2" ≡ 2
-unfolding placeIn words marks
+is-var2 : numberIn 0 (words ++ textMarks) "var2" ≡ 2
+unfolding numberIn words textMarks
 is-var2 = refl
 
-is-semicolon : placeIn 0 (words ++ marks) ";" ≡ 10
-unfolding placeIn words marks
-is-semicolon = refl
-
-is-comma : placeIn 0 (words ++ marks) "," ≡ 11
-unfolding placeIn words marks
+is-comma : numberIn 0 (words ++ textMarks) "," ≡ 11
+unfolding numberIn words textMarks
 is-comma = refl
 
 -- ---- what is answered
@@ -67,7 +64,7 @@ module _ (s : List ℕ) (sc : Scope) (t : Token) (e : 0 ≡ newRefusal (inUse sc
   new-room = leb-false 8 _ (new-parts .1)
 
 -- ---- the names of one declaration: the token t stands next
-module _ {s : List ℕ} (o : Order) (sc : Scope) {at : ℕ} {t : Token} (st : Stands s at t) where
+module _ {s : List ℕ} (o : Order) (sc : Scope) {at : ℕ} {t : Token} (st : StandsNext s at t) where
   names-turned : {k : ℕ} → k ≡ newRefusal (inUse sc (part s (t .start) (t .stop))) sc (readFrom s t) → (k ≡ 0 → ⊥)
       → RefusedAt (names (length (tokensAt s at)) o sc (tokensAt s at)) k (t .start) (t .stop)
   names-turned {k} e z = rw (names-is o sc (tokensAt s at)) (turned st (λ v. newRefusal (inUse sc (v .bytes)) sc v) _ k (sym e) z)
@@ -79,9 +76,9 @@ module _ {s : List ℕ} (o : Order) (sc : Scope) {at : ℕ} {t : Token} (st : St
 
     -- what follows the name
     abbrev after : List TextToken → Read Scope
-    after us = elim (spells "," (next us)) as (λ _. Read Scope) [
+    after us = elim (spells "," (peek us)) as (λ _. Read Scope) [
       | true ↦ names (length (rest us)) o grown (rest us)
-      | false ↦ accept (or23 (spells ";" (next us))) us (λ _ vs. got grown vs)
+      | false ↦ accept (or23 (spells ";" (peek us))) us (λ _ vs. got grown vs)
     ]
 
     names-taken : names (length (tokensAt s at)) o sc (tokensAt s at) ≡ after (tokensAt s (t .stop))
@@ -89,13 +86,13 @@ module _ {s : List ℕ} (o : Order) (sc : Scope) {at : ℕ} {t : Token} (st : St
         names-is o sc (tokensAt s at)
         ∙ taken st (λ v. newRefusal (inUse sc (v .bytes)) sc v) _ (not-end (new-name s sc t e) (omega arith)) (sym e)
 
-    module _ {u : Token} (su : Stands s (t .stop) u) where
+    module _ {u : Token} (su : StandsNext s (t .stop) u) where
       names-more : u .kind ≡ 11 → names (length (tokensAt s at)) o sc (tokensAt s at) ≡ names (length (tokensAt s (u .stop))) o grown (tokensAt s (u .stop))
       names-more d = names-taken ∙ rw (spelled su "," is-comma d, after) (rw (su .goes-on (not-end d (omega arith))) refl)
 
       module _ (z : u .kind ≡ 11 → ⊥) where
         names-ended : names (length (tokensAt s at)) o sc (tokensAt s at)
-            ≡ accept (or23 (spells ";" (next (tokensAt s (t .stop))))) (tokensAt s (t .stop)) (λ _ vs. got grown vs)
+            ≡ accept (or23 (spells ";" (peek (tokensAt s (t .stop))))) (tokensAt s (t .stop)) (λ _ vs. got grown vs)
         names-ended = names-taken ∙ rw (not-spelled su "," is-comma z, after) refl
 
         names-lack : (u .kind ≡ 10 → ⊥) → RefusedAt (names (length (tokensAt s at)) o sc (tokensAt s at)) 23 (u .start) (u .stop)
@@ -114,7 +111,7 @@ pub record Listed (s : List ℕ) (o : ℕ) (ns₀ : List ℕ) (n₀ at₀ : ℕ)
 pub listed-none : (s : List ℕ) (o : ℕ) (ns : List ℕ) (n at : ℕ) → NamesFit s ns n → Listed s o ns n at ns n at
 listed-none s o ns n at f = record { same = refl; fit = f; onward = omega arith }
 
-module _ {s : List ℕ} {o : ℕ} {ns₀ : List ℕ} {n₀ at₀ : ℕ} {ns : List ℕ} {n p : ℕ} (l : Listed s o ns₀ n₀ at₀ ns n p) {t : Token} (st : Stands s p t) where
+module _ {s : List ℕ} {o : ℕ} {ns₀ : List ℕ} {n₀ at₀ : ℕ} {ns : List ℕ} {n p : ℕ} (l : Listed s o ns₀ n₀ at₀ ns n p) {t : Token} (st : StandsNext s p t) where
   pub listed-turned : {k : ℕ} → k ≡ newRefusal (inUse (scopeOf s ns n) (part s (t .start) (t .stop))) (scopeOf s ns n) (readFrom s t) → (k ≡ 0 → ⊥)
       → RefusedAt (names (length (tokensAt s at₀)) (orderOf o) (scopeOf s ns₀ n₀) (tokensAt s at₀)) k (t .start) (t .stop)
   listed-turned e z = rw (l .same) (names-turned (orderOf o) (scopeOf s ns n) st e z)
@@ -129,7 +126,7 @@ module _ {s : List ℕ} {o : ℕ} {ns₀ : List ℕ} {n₀ at₀ : ℕ} {ns : Li
     pub listed-room : n < 8
     listed-room = rw scope-length at (new-room s (scopeOf s ns n) t e)
 
-    module _ {ms : List ℕ} (b : Bound ns n (t .start) (t .stop) o ms) {u : Token} (su : Stands s (t .stop) u) where
+    module _ {ms : List ℕ} (b : Bound ns n (t .start) (t .stop) o ms) {u : Token} (su : StandsNext s (t .stop) u) where
       pub listed-more : u .kind ≡ 11 → Listed s o ns₀ n₀ at₀ ms (n + 1) (u .stop)
       listed-more d =
           let h = st .onward (not-end listed-name (omega arith)) in
@@ -156,12 +153,12 @@ module _ {s : List ℕ} {o : ℕ} {ns₀ : List ℕ} {n₀ at₀ : ℕ} {ns : Li
           }
 
 -- ---- all declarations: the token t stands next
-module _ {s : List ℕ} (sc : Scope) {at : ℕ} {t : Token} (st : Stands s at t) where
+module _ {s : List ℕ} (sc : Scope) {at : ℕ} {t : Token} (st : StandsNext s at t) where
   all-read : (t .kind ≡ 1 → ⊥) → (t .kind ≡ 2 → ⊥) → declarations (length (tokensAt s at)) sc (tokensAt s at) ≡ got sc (tokensAt s at)
   all-read y z = declarations-is sc (tokensAt s at) ∙ rw (not-spelled st "var1" is-var1 y, declarationsBy) (rw (not-spelled st "var2" is-var2 z) refl)
 
   abbrev one-more : ℕ → Read Scope
-  one-more o = andThen (names (length (tokensAt s (t .stop))) (orderOf o) sc (tokensAt s (t .stop))) (λ sd us. declarations (length us) sd us)
+  one-more o = readThen (names (length (tokensAt s (t .stop))) (orderOf o) sc (tokensAt s (t .stop))) (λ sd us. declarations (length us) sd us)
 
   one-read : (o : ℕ) → t .kind ≡ o → 1 ≤ o → o ≤ 2 → declarations (length (tokensAt s at)) sc (tokensAt s at) ≡ one-more o
   one-read zero e h l = absurd (omega arith)
@@ -183,7 +180,7 @@ pub record Reached (s : List ℕ) (at₀ : ℕ) (ns : List ℕ) (n p : ℕ) : Ty
 pub reached-none : (s : List ℕ) (at : ℕ) (ns : List ℕ) → Reached s at ns 0 at
 reached-none s at ns = record { same = rw no-names refl; fit = none-fit s ns; onward = omega arith }
 
-module _ {s : List ℕ} {at₀ : ℕ} {ns : List ℕ} {n p : ℕ} (l : Reached s at₀ ns n p) {t : Token} (st : Stands s p t) where
+module _ {s : List ℕ} {at₀ : ℕ} {ns : List ℕ} {n p : ℕ} (l : Reached s at₀ ns n p) {t : Token} (st : StandsNext s p t) where
   pub reached-last : (t .kind ≡ 1 → ⊥) → (t .kind ≡ 2 → ⊥) → NamesAre s at₀ (declarations (length (tokensAt s at₀)) [] (tokensAt s at₀)) ns n p
   reached-last y z = record { reads = l .same ∙ all-read (scopeOf s ns n) st y z; fit = l .fit; onward = l .onward }
 

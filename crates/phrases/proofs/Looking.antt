@@ -6,7 +6,7 @@ use native.Mathlib.Omega.{arith}
 use borrow.Author.Tests.{eq-eqb, ne-eqb, le-leb, lt-leb}
 use lib.Dec.{eqb}
 use lib.ListN.{length, getD}
-use Rattle.text.specs.Token.{Token as TextToken, words, marks, placeIn, spells}
+use Rattle.text.specs.Token.{Token as TextToken, words, textMarks, numberIn, spells}
 use Rattle.text.specs.Syntax.{Name, Order, first, second, Scope}
 use Rattle.text.specs.Grammar.{hasOrder, inUse, newRefusal, relationOf, Relation, inclusion, membership, equality, other, leftGood}
 use Rattle.tokens.specs.declared.Token.{Token}
@@ -84,7 +84,7 @@ module _ (s : List ℕ) (sc : Scope) (t : Token) where
 
 -- ---- the token behind an atom's left name
 pub relation-is : (t : TextToken) → relationOf t ≡ relationBy (t .kind)
-unfolding relationOf relationBy spells placeIn words marks
+unfolding relationOf relationBy spells numberIn words textMarks
 relation-is t = refl
 
 pub left-is : {sc : Scope} {x : Name} {h : Holder} → Looked sc x h → (r : Relation) → leftGood r sc x ≡ goodOrder r (h .order)

@@ -4,6 +4,7 @@ use mathlib.Core.Path.{_≡_}
 use mathlib.Core.Bool.{Bool, not, cond}
 use mathlib.Core.List.{List}
 use lib.Dec.{eqb}
+use Rattle.text.specs.Token.{subKind, inKind, equalsKind}
 use Rattle.text.specs.Syntax.{Name, Order, first, second, Scope}
 use Rattle.text.specs.Grammar.{hasOrder, inUse, usedRefusal, Relation, inclusion, membership, equality, other}
 use Rattle.text.specs.Records.{trackOf}
@@ -26,9 +27,9 @@ pub record UsedAs (s : List ℕ) (sc : Scope) (o : Order) (t : Token) (r : Use) 
   pub track-is : r .refusal ≡ 0 → trackOf sc (part s (t .start) (t .stop)) ≡ r .track
   pub few : r .refusal ≡ 0 → r .track < 8
 
--- the word or mark between the two sides of an atom, by its kind: 7 is `sub`, 8 `in`, 20 `=`
+-- the word or mark between the two sides of an atom, by its kind
 unfoldable pub relationBy : ℕ → Relation
-relationBy k = cond (eqb k 7) inclusion (cond (eqb k 8) membership (cond (eqb k 20) equality other))
+relationBy k = cond (eqb k subKind) inclusion (cond (eqb k inKind) membership (cond (eqb k equalsKind) equality other))
 
 -- whether a name of that order, 0 for none, may stand before it
 unfoldable pub goodOrder : Relation → ℕ → Bool

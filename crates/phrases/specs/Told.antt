@@ -5,12 +5,12 @@ use mathlib.Core.Bool.{false, cond}
 use mathlib.Core.List.{List}
 use lib.Dec.{eqb}
 use lib.ListN.{length}
-use Rattle.text.specs.Token.{Token as TextToken, spells}
+use Rattle.text.specs.Token.{Token as TextToken, spells, subKind}
 use Rattle.text.specs.Syntax.{Name, second, Spot, Atom, sub, member, equal, Sentence, atom, Scope}
-use Rattle.text.specs.Grammar.{Read, got, refused, next, rest, andThen, accept, or23, newRefusal, used, branchOf, spotOf, related, relationOf}
+use Rattle.text.specs.Grammar.{Read, got, refused, peek, rest, readThen, accept, or23, newRefusal, used, branchOf, spotOf, related, relationOf}
 use Rattle.text.specs.Records.{trackOf}
 use Rattle.tokens.specs.declared.Token.{Token}
-use Rattle.tokens.specs.Tokens.{part, Span, tokensAt, Stands}
+use Rattle.tokens.specs.Tokens.{part, Span, tokensAt, StandsNext}
 use Rattle.tokens.specs.InUse.{scopeOf, NamesFit}
 use Rattle.drafting.specs.declared.Atom.{Atom as AtomCode}
 use Rattle.drafting.specs.declared.Spot.{Spot as SpotCode}
@@ -34,17 +34,17 @@ pub record RefusedAt {A : Type 0} (R : Read A) (k b e : ℕ) : Type 0 where
 
 -- a word or mark of that kind stands next at place `at` of s, and the next token is looked for from place p on
 pub record MarkStands (s : List ℕ) (kind at p : ℕ) : Type 0 where
-  pub kind-is : next (tokensAt s at) .kind ≡ kind
-  pub stop-is : next (tokensAt s at) .stop ≡ p
+  pub kind-is : peek (tokensAt s at) .kind ≡ kind
+  pub stop-is : peek (tokensAt s at) .stop ≡ p
   pub goes-on : rest (tokensAt s at) ≡ tokensAt s p
   pub onward : at ≤ p
 
 -- another token stands there, from place b up to place e: "23 when it leaves this grammar"
 pub record MarkLacks (s : List ℕ) (kind at k b e : ℕ) : Type 0 where
   pub number-is : k ≡ 23
-  pub other-kind : next (tokensAt s at) .kind ≡ kind → ⊥
-  pub start-is : next (tokensAt s at) .start ≡ b
-  pub stop-is : next (tokensAt s at) .stop ≡ e
+  pub other-kind : peek (tokensAt s at) .kind ≡ kind → ⊥
+  pub start-is : peek (tokensAt s at) .start ≡ b
+  pub stop-is : peek (tokensAt s at) .stop ≡ e
 
 pub data MarkTold (s : List ℕ) (kind at : ℕ) : Mark → Type 0 where
   stands : {p : ℕ} → MarkStands s kind at p → MarkTold s kind at (markStands p)
@@ -52,7 +52,7 @@ pub data MarkTold (s : List ℕ) (kind at : ℕ) : Mark → Type 0 where
 
 -- "a quantifier binds one name": the name and the colon behind a quantifier word, and then what is read by go
 abbrev pub binderOf : Scope → List TextToken → (Name → List TextToken → Read Sentence) → Read Sentence
-binderOf sc ts go = accept (newRefusal false sc (next ts)) ts (λ x us. accept (or23 (spells ":" (next us))) us (λ _ vs. go x vs))
+binderOf sc ts go = accept (newRefusal false sc (peek ts)) ts (λ x us. accept (or23 (spells ":" (peek us))) us (λ _ vs. go x vs))
 
 -- the name from place b up to place e of s, and its colon, stand next at place `at`; n names are in use, so a track is left for it
 pub record BinderBound (s : List ℕ) (n at b e p : ℕ) : Type 0 where
@@ -96,7 +96,7 @@ pub data AtomTold (s : List ℕ) (sc : Scope) (at : ℕ) (R : Read Sentence) : A
 
 -- the right side of `sub` or, of any other kind, `in`, from place `at` on, behind a name of that track
 abbrev pub sided : ℕ → Name → Name → Atom
-sided kind x y = cond (eqb kind 7) (sub x y) (member x y)
+sided kind x y = cond (eqb kind subKind) (sub x y) (member x y)
 
 abbrev pub RightTold : List ℕ → Scope → ℕ → ℕ → ℕ → AtomRead → Type 0
 RightTold s sc track kind at r = (x : Name) → trackOf sc x ≡ track
@@ -105,12 +105,12 @@ RightTold s sc track kind at r = (x : Name) → trackOf sc x ≡ track
 -- the right side of `=`, likewise
 abbrev pub EqualTold : List ℕ → Scope → ℕ → ℕ → AtomRead → Type 0
 EqualTold s sc track at r = (x : Name) → trackOf sc x ≡ track
-    → AtomTold s sc at (andThen (spotOf sc (tokensAt s at)) (λ p us. got (atom (equal x p)) us)) r
+    → AtomTold s sc at (readThen (spotOf sc (tokensAt s at)) (λ p us. got (atom (equal x p)) us)) r
 
 -- the rest of an atom, which the token t begins, behind a name of that track
 abbrev pub RelatedTold : List ℕ → Scope → ℕ → Token → AtomRead → Type 0
-RelatedTold s sc track t r = (at : ℕ) (x : Name) → Stands s at t → trackOf sc x ≡ track
-    → AtomTold s sc at (related (relationOf (next (tokensAt s at))) sc x (tokensAt s at)) r
+RelatedTold s sc track t r = (at : ℕ) (x : Name) → StandsNext s at t → trackOf sc x ≡ track
+    → AtomTold s sc at (related (relationOf (peek (tokensAt s at))) sc x (tokensAt s at)) r
 
 -- the first n names of ns are declared, and the next token is looked for from place p on
 pub record NamesAre (s : List ℕ) (at : ℕ) (R : Read Scope) (ns : List ℕ) (n p : ℕ) : Type 0 where

@@ -4,34 +4,17 @@ ghost use mathlib.Core.Path.{_≡_};
 ghost use mathlib.Core.List.{[]};
 ghost use Prim.Native.Nat.{_<_, _≤_};
 ghost use lib.ListN.{length};
+ghost use Rattle.text.specs.Token.{aName};
 ghost use Rattle.text.specs.Grammar.{newRefusal, inUse, spotOf, atomOf, declarations};
 ghost use Rattle.text.specs.Grammar as grammar;
-ghost use Rattle.tokens.specs.Tokens.{part, Span, Stands, readFrom, tokensAt};
+ghost use Rattle.tokens.specs.Tokens.{part, Span, StandsNext, readFrom, tokensAt};
 ghost use Rattle.tokens.specs.InUse.{orderOf, scopeOf, NamesFit};
 ghost use Rattle.phrases.specs.Looked.{Looked, UsedAs, relationBy, goodOrder};
 ghost use Rattle.phrases.specs.Told.{MarkTold, BinderTold, SpotTold, BranchTold, AtomTold, RightTold, EqualTold, RelatedTold, DeclarationsTold};
 use drafting::Atom;
 use drafting::Spot;
+use text::kinds;
 use tokens::Token;
-
-// The kinds of the words and marks that are looked for here: their places among all words and marks.
-const SUB: usize = 7;
-
-const IN: usize = 8;
-
-const ROOT: usize = 9;
-
-const SEMICOLON: usize = 10;
-
-const COMMA: usize = 11;
-
-const COLON: usize = 12;
-
-const EQUALS: usize = 20;
-
-const BRANCH_1: usize = 21;
-
-const BRANCH_2: usize = 22;
 
 // Whether a word or mark stands that must: the place behind it, or the refusal's number and the span of the token at which it lies.
 pub enum Mark {
@@ -138,7 +121,7 @@ fn declared(names: [usize; 24], in_use: usize, next: usize) -> Declarations
 
 // The word or mark of a kind, which must stand next.
 pub fn read_mark(text: &[u8], kind: usize, at: usize) -> Mark
-    requires { ⌜ kind < 23 ⌝ }
+    requires { ⌜ kind < aName ⌝ }
     ensures { λ r. ⌜ MarkTold (now (text .entry)) kind at r ⌝ }
 {
     let t = tokens::token_at(text, at);
@@ -157,7 +140,7 @@ pub fn read_binder(text: &[u8], in_use: usize, at: usize) -> Binder
     ensures { λ r. ⌜ BinderTold (now (text .entry)) «in_use» at r ⌝ }
 {
     let name = tokens::token_at(text, at);
-    if name.kind != tokens::NAME {
+    if name.kind != kinds::NAME {
         return Binder::Refused {
             number: 23,
             start: name.start,
@@ -171,7 +154,7 @@ pub fn read_binder(text: &[u8], in_use: usize, at: usize) -> Binder
             stop: name.stop,
         };
     }
-    match read_mark(text, COLON, name.stop) {
+    match read_mark(text, kinds::COLON, name.stop) {
         Mark::Stands { next } => Binder::Bound {
             start: name.start,
             stop: name.stop,
@@ -208,11 +191,11 @@ fn look_up(text: &[u8], names: &[usize; 24], in_use: usize, start: usize, stop: 
 // A token where a name of that order must stand.
 fn use_name(text: &[u8], names: &[usize; 24], in_use: usize, t: Token, order: usize) -> Use
     requires { ⌜ NamesFit (now text) (now names) «in_use» ⌝ }
-    requires { ⌜ (t .kind ≡ 23 → Span (now text) (t .start) (t .stop)) ⌝ }
+    requires { ⌜ (t .kind ≡ aName → Span (now text) (t .start) (t .stop)) ⌝ }
     requires { ⌜ (1 ≤ order) × (order ≤ 2) ⌝ }
     ensures { λ r. ⌜ UsedAs (now (text .entry)) (scopeOf (now (text .entry)) (now (names .entry)) «in_use») (orderOf order) t r ⌝ }
 {
-    if t.kind != tokens::NAME {
+    if t.kind != kinds::NAME {
         return Use {
             refusal: 23,
             track: 0,
@@ -237,13 +220,13 @@ fn read_branch(text: &[u8], track: usize, at: usize) -> SpotRead
     ensures { λ r. ⌜ BranchTold (now (text .entry)) track at r ⌝ }
 {
     let mark = tokens::token_at(text, at);
-    if mark.kind == BRANCH_1 {
+    if mark.kind == kinds::BRANCH_1 {
         return SpotRead::Read {
             place: Spot::Branch { number: 0, track },
             next: mark.stop,
         };
     }
-    if mark.kind == BRANCH_2 {
+    if mark.kind == kinds::BRANCH_2 {
         return SpotRead::Read {
             place: Spot::Branch { number: 1, track },
             next: mark.stop,
@@ -262,7 +245,7 @@ fn read_spot(text: &[u8], names: &[usize; 24], in_use: usize, at: usize) -> Spot
         (spotOf (scopeOf (now (text .entry)) (now (names .entry)) «in_use») (tokensAt (now (text .entry)) at)) r ⌝ }
 {
     let t = tokens::token_at(text, at);
-    if t.kind == ROOT {
+    if t.kind == kinds::ROOT {
         return SpotRead::Read {
             place: Spot::Root,
             next: t.stop,
@@ -283,13 +266,13 @@ fn read_spot(text: &[u8], names: &[usize; 24], in_use: usize, at: usize) -> Spot
 fn left_good(order: usize, kind: usize) -> bool
     ensures { λ r. ⌜ r ≡ goodOrder (relationBy kind) order ⌝ }
 {
-    if kind == SUB {
+    if kind == kinds::SUB {
         return order == 2;
     }
-    if kind == IN {
+    if kind == kinds::IN {
         return order == 1;
     }
-    if kind == EQUALS {
+    if kind == kinds::EQUALS {
         return order == 1;
     }
     order != 0
@@ -318,7 +301,7 @@ fn read_right(
         };
     }
     let right = used.track;
-    if kind == SUB {
+    if kind == kinds::SUB {
         return AtomRead::Read {
             atom: Atom::Sub { left, right },
             next: t.stop,
@@ -369,13 +352,13 @@ fn read_related(
     ensures { λ r. ⌜ RelatedTold (now (text .entry)) (scopeOf (now (text .entry)) (now (names .entry)) «in_use») left relation r ⌝ }
 {
     let kind = relation.kind;
-    if kind == EQUALS {
+    if kind == kinds::EQUALS {
         return read_equal(text, names, in_use, left, relation.stop);
     }
-    if kind == SUB {
+    if kind == kinds::SUB {
         return read_right(text, names, in_use, left, kind, relation.stop);
     }
-    if kind == IN {
+    if kind == kinds::IN {
         return read_right(text, names, in_use, left, kind, relation.stop);
     }
     AtomRead::Refused {
@@ -389,11 +372,11 @@ fn read_related(
 // behind it.
 pub fn read_atom(text: &[u8], names: &[usize; 24], in_use: usize, left: Token) -> AtomRead
     requires { ⌜ NamesFit (now text) (now names) «in_use» ⌝ }
-    requires { ⌜ Stands (now text) (left .start) left ⌝ }
+    requires { ⌜ StandsNext (now text) (left .start) left ⌝ }
     ensures { λ r. ⌜ AtomTold (now (text .entry)) (scopeOf (now (text .entry)) (now (names .entry)) «in_use») (left .start)
         (atomOf (scopeOf (now (text .entry)) (now (names .entry)) «in_use») (tokensAt (now (text .entry)) (left .start))) r ⌝ }
 {
-    if left.kind != tokens::NAME {
+    if left.kind != kinds::NAME {
         return AtomRead::Refused {
             number: 23,
             start: left.start,
@@ -415,11 +398,11 @@ pub fn read_atom(text: &[u8], names: &[usize; 24], in_use: usize, left: Token) -
 // The refusal of a token where a new name must be declared, or 0.
 fn new_refusal(text: &[u8], names: &[usize; 24], in_use: usize, t: Token) -> u64
     requires { ⌜ NamesFit (now text) (now names) «in_use» ⌝ }
-    requires { ⌜ (t .kind ≡ 23 → Span (now text) (t .start) (t .stop)) ⌝ }
+    requires { ⌜ (t .kind ≡ aName → Span (now text) (t .start) (t .stop)) ⌝ }
     ensures { λ r. ⌜ r ≡ newRefusal (inUse (scopeOf (now (text .entry)) (now (names .entry)) «in_use») (part (now (text .entry)) (t .start) (t .stop)))
         (scopeOf (now (text .entry)) (now (names .entry)) «in_use») (readFrom (now (text .entry)) t) ⌝ }
 {
-    if t.kind != tokens::NAME {
+    if t.kind != kinds::NAME {
         return 23;
     }
     if look_up(text, names, in_use, t.start, t.stop).order != 0 {
@@ -455,8 +438,8 @@ fn read_names(
         all = tokens::names::bound(&all, count, name.start, name.stop, order);
         count += 1;
         let mark = tokens::token_at(text, name.stop);
-        if mark.kind != COMMA {
-            if mark.kind != SEMICOLON {
+        if mark.kind != kinds::COMMA {
+            if mark.kind != kinds::SEMICOLON {
                 return refused(23, mark);
             }
             return declared(all, count, mark.stop);
@@ -477,10 +460,10 @@ pub fn read_declarations(text: &[u8], at: usize) -> Declarations
         let word = tokens::token_at(text, place);
         // `var1` declares names of order 1, `var2` of order 2.
         let order = word.kind;
-        if order < 1 {
+        if order < kinds::VAR1 {
             return declared(names, in_use, place);
         }
-        if 2 < order {
+        if kinds::VAR2 < order {
             return declared(names, in_use, place);
         }
         let read = read_names(text, names, in_use, order, word.stop);

@@ -19,8 +19,8 @@ use Rattle.bits.specs.declared.Fault.the-variants.{Sound, At}
 use Rattle.bits.proofs.Fields.{length-bits}
 use Rattle.bits.proofs.Places.{any-first}
 use Rattle.rule_strip.specs.RuleStrip.{versionOf, variablesOf, countOf, recordAt, recordsFrom, recordsOf, ruleBytes, firstUse, secondUse}
-use Rattle.rule_strip.specs.RuleStrip.{badVariable, badEarlier, badUnused, recordFault, recordsFault, recordsEnd, padding, headFault, ruleFault}
-use Rattle.rule_strip.specs.RuleAnswers.{useRefusal, fieldFault, fieldsOf, recordOr, readRecord, readRecords, GoodHead, answered, checkedRule}
+use Rattle.rule_strip.specs.RuleStrip.{badVariable, badEarlier, badUnused, recordFault, recordsFault, recordsEnd, rulePadding, headFault, ruleFault}
+use Rattle.rule_strip.specs.RuleAnswers.{useRefusal, fieldFault, fieldsOf, recordOr, readRecord, readRecords, GoodHead, ruleAnswer, checkedRule}
 use Rattle.rule_strip.specs.declared.Fields.{Fields}
 use Rattle.rule_strip.specs.declared.Read.{Read}
 use Rattle.rule_strip.specs.declared.Read.the-variants.{Record, Refused}
@@ -269,11 +269,11 @@ module _ (s : List ℕ) where
   module _ {n m : ℕ} (h : GoodHead s n m) where
     -- the padding's first set bit, or the strip's end, is found
     module _ (set : ℕ) (e : set ≡ 16 + 18 * m + firstSet (slice (16 + 18 * m) (8 * length s) (bits s))) where
-      found : set ≡ recordsEnd s + firstSet (padding s)
+      found : set ≡ recordsEnd s + firstSet (rulePadding s)
       found = let l = length-bits s in e ∙ rw (take-all (8 * length s) (bits s) (omega arith), h .count) refl
 
-      any-is : anySet (padding s) ≡ ltb (firstSet (padding s)) (length (padding s))
-      any-is = any-first (padding s)
+      any-is : anySet (rulePadding s) ≡ ltb (firstSet (rulePadding s)) (length (rulePadding s))
+      any-is = any-first (rulePadding s)
 
       pub check-padding : set < 8 * length s → turnedDown 6 set ≡ checkedRule s
       unfolding checkedRule ruleFault
@@ -281,7 +281,7 @@ module _ (s : List ℕ) where
           let f = found in
           let l = length-drop (recordsEnd s) (bits s) in
           let b = length-bits s in
-          rw (h .good, any-is, lt-ltb (firstSet (padding s)) (length (padding s)) (omega arith), ← f) refl
+          rw (h .good, any-is, lt-ltb (firstSet (rulePadding s)) (length (rulePadding s)) (omega arith), ← f) refl
 
       module _ (k : 8 * length s ≤ set) (r : Read) (g : r ≡ readRecords s n m) where
         body : ruleFault s ≡ recordsFault n 0 16 (recordsFrom s 16 m)
@@ -290,7 +290,7 @@ module _ (s : List ℕ) where
             let f = found in
             let l = length-drop (recordsEnd s) (bits s) in
             let b = length-bits s in
-            rw (h .good, any-is, le-ltb (firstSet (padding s)) (length (padding s)) (omega arith), h .variables, h .count) refl
+            rw (h .good, any-is, le-ltb (firstSet (rulePadding s)) (length (rulePadding s)) (omega arith), h .variables, h .count) refl
 
         pub check-records : {l p : ℕ} → r ≡ Refused l p → turnedDown l p ≡ checkedRule s
         unfolding readRecords checkedRule

@@ -15,8 +15,8 @@ use Rattle.bits.specs.Faults.{orElse}
 use Rattle.bits.specs.declared.Fault.{Fault}
 use Rattle.bits.specs.declared.Fault.the-variants.{Sound, At}
 use Rattle.rule_strip.specs.RuleStrip.{variablesOf, countOf, recordAt, recordsFrom, recordsOf, ruleBytes, firstUse, secondUse, recordFault}
-use Rattle.rule_strip.specs.RuleStrip.{recordsFault, recordsEnd, padding, headFault, ruleFault, AcceptedRule}
-use Rattle.rule_strip.specs.RuleAnswers.{useRefusal, limitOf, fieldFault, answered, checkedRule}
+use Rattle.rule_strip.specs.RuleStrip.{recordsFault, recordsEnd, rulePadding, headFault, ruleFault, AcceptedRule}
+use Rattle.rule_strip.specs.RuleAnswers.{useRefusal, limitOf, fieldFault, ruleAnswer, checkedRule}
 use Rattle.rule_strip.specs.RulePlaces.{Keeps}
 use Rattle.rule_strip.specs.declared.Use.{Use}
 use Rattle.rule_strip.specs.declared.Use.the-variants.{Variable, Earlier, Unused}
@@ -93,11 +93,11 @@ good-is n i (suc (suc (suc (suc (suc (suc (suc (suc (suc zero))))))))) a b = ref
 good-is n i (suc (suc (suc (suc (suc (suc (suc (suc (suc (suc op)))))))))) a b =
     rw (le-ltb (suc (suc (suc (suc (suc (suc (suc (suc (suc (suc op)))))))))) 9 (omega arith)) refl
 
-abbrev one : ℕ → ℕ → Record → Bool
-one n i r = fits n i (firstUse (r .op)) (r .first)
+abbrev firstGood : ℕ → ℕ → Record → Bool
+firstGood n i r = fits n i (firstUse (r .op)) (r .first)
 
-abbrev two : ℕ → ℕ → Record → Bool
-two n i r = fits n i (secondUse (r .op)) (r .second)
+abbrev secondGood : ℕ → ℕ → Record → Bool
+secondGood n i r = fits n i (secondUse (r .op)) (r .second)
 
 -- the refusals 7 to 10 are what `good` asks
 pub good-iff : (n i at : ℕ) (r : Record) → (recordFault n i at r ≡ Sound) ↔ T (good 2 n i r)
@@ -106,14 +106,14 @@ good-iff n i at r = (forth, back)
     forth : recordFault n i at r ≡ Sound → T (good 2 n i r)
     forth e =
         let w = record-kept n i at r e in
-        let f = of-both (one n i r) (two n i r) (below-fits n i (firstUse (r .op)) (r .first) (w .first-below))
+        let f = of-both (firstGood n i r) (secondGood n i r) (below-fits n i (firstUse (r .op)) (r .first) (w .first-below))
         (below-fits n i (secondUse (r .op)) (r .second) (w .second-below)) in
-        rw (good-is n i (r .op) (r .first) (r .second)) (of-both (ltb (r .op) 9) (one n i r && two n i r) (lt→ltb (r .op) 9 (w .known)) f)
+        rw (good-is n i (r .op) (r .first) (r .second)) (of-both (ltb (r .op) 9) (firstGood n i r && secondGood n i r) (lt→ltb (r .op) 9 (w .known)) f)
 
     back : T (good 2 n i r) → recordFault n i at r ≡ Sound
     back t =
-        let w = both-of (ltb (r .op) 9) (one n i r && two n i r) (rw (good-is n i (r .op) (r .first) (r .second)) at t) in
-        let v = both-of (one n i r) (two n i r) (w .1) in
+        let w = both-of (ltb (r .op) 9) (firstGood n i r && secondGood n i r) (rw (good-is n i (r .op) (r .first) (r .second)) at t) in
+        let v = both-of (firstGood n i r) (secondGood n i r) (w .1) in
         record-unrefused n i at r
         (record {
           known = ltb→lt (r .op) 9 (w .0);
@@ -169,7 +169,7 @@ module _ (s : List ℕ) (e : ruleFault s ≡ Sound) where
   unfolding ruleFault
   parts =
       let w = or-passed (headFault s) _ e in
-      (w .0, test-passed (anySet (padding s)) 6 (recordsEnd s + firstSet (padding s)) _ (w .1) .1)
+      (w .0, test-passed (anySet (rulePadding s)) 6 (recordsEnd s + firstSet (rulePadding s)) _ (w .1) .1)
 
   records-count : length (recordsOf s) ≡ countOf s
   unfolding recordsOf
@@ -195,7 +195,7 @@ module _ (s : List ℕ) where
   unfolding checkedRule
   checked-accepted n m e = go (ruleFault s) refl e
     where
-      go : (f : Fault) → ruleFault s ≡ f → answered s f ≡ accepted n m → AcceptedRule s n m
+      go : (f : Fault) → ruleFault s ≡ f → ruleAnswer s f ≡ accepted n m → AcceptedRule s n m
       go Sound p q = record { unrefused = p; variables = cc; count = cc }
       go (At k at) p q = absurd (let z : _≡_ {A = ℕ} 0 1 = cc in omega arith)
 
@@ -203,6 +203,6 @@ module _ (s : List ℕ) where
   unfolding checkedRule
   checked-refused k p e = go (ruleFault s) refl e
     where
-      go : (f : Fault) → ruleFault s ≡ f → answered s f ≡ turnedDown k p → ruleFault s ≡ At k p
+      go : (f : Fault) → ruleFault s ≡ f → ruleAnswer s f ≡ turnedDown k p → ruleFault s ≡ At k p
       go Sound g q = absurd (let z : _≡_ {A = ℕ} 0 1 = cc in omega arith)
       go (At l at) g q = g ∙ cc

@@ -17,9 +17,9 @@ use Rattle.bits.proofs.Fields.{length-bits}
 use Rattle.bits.proofs.Packing.{bits-bits}
 use Rattle.bits.proofs.Places.{any-first, first-set, first-before}
 use Rattle.rule_strip.specs.RuleStrip.{versionOf, variablesOf, countOf, ruleBytes, recordAt, recordsFrom, recordsOf, firstUse, secondUse}
-use Rattle.rule_strip.specs.RuleStrip.{recordFault, recordsFault, recordsEnd, padding, headFault, ruleFault}
+use Rattle.rule_strip.specs.RuleStrip.{recordFault, recordsFault, recordsEnd, rulePadding, headFault, ruleFault}
 use Rattle.rule_strip.specs.RuleAnswers.{useRefusal, limitOf, fieldFault}
-use Rattle.rule_strip.specs.RulePlaces.{start, opOf, firstOf, secondOf, Breaks, Offends}
+use Rattle.rule_strip.specs.RulePlaces.{start, opOf, firstOf, secondOf, Breaks, RuleOffends}
 use Rattle.rule_strip.specs.RulePlaces.{in-op, in-first, in-second}
 use Rattle.rule_strip.specs.RulePlaces.{too-short, other-length, other-version, bad-variables, bad-count, bit-set, bad-record}
 use Rattle.rule_strip.specs.declared.Use.{Use}
@@ -106,27 +106,27 @@ records-met s n i at (suc m) {k} {p} e = ⊎-elim now (λ w. later (records-met 
 
 -- ---- the whole strip
 module _ (s : List ℕ) where
-  padding-told : anySet (padding s) ≡ true → Offends s 6 (recordsEnd s + firstSet (padding s))
+  padding-told : anySet (rulePadding s) ≡ true → RuleOffends s 6 (recordsEnd s + firstSet (rulePadding s))
   padding-told e =
-      let h = ltb-true (firstSet (padding s)) (length (padding s)) (sym (any-first (padding s)) ∙ e) in
+      let h = ltb-true (firstSet (rulePadding s)) (length (rulePadding s)) (sym (any-first (rulePadding s)) ∙ e) in
       let l = length-drop (recordsEnd s) (bits s) in
       let b = length-bits s in
-      let z : getD (bits s) (recordsEnd s + firstSet (padding s)) 0 ≡ 0 → ⊥ =
-      λ f. first-set (padding s) h (getD-drop (recordsEnd s) (bits s) (firstSet (padding s)) 0 ∙ f) in
-      bit-set (recordsEnd s + firstSet (padding s)) (omega arith) (omega arith)
-      (let c = bits-bits s (recordsEnd s + firstSet (padding s)) in one _ c z)
+      let z : getD (bits s) (recordsEnd s + firstSet (rulePadding s)) 0 ≡ 0 → ⊥ =
+      λ f. first-set (rulePadding s) h (getD-drop (recordsEnd s) (bits s) (firstSet (rulePadding s)) 0 ∙ f) in
+      bit-set (recordsEnd s + firstSet (rulePadding s)) (omega arith) (omega arith)
+      (let c = bits-bits s (recordsEnd s + firstSet (rulePadding s)) in one _ c z)
       (λ q i j. clean q i j)
     where
       one : (b : ℕ) → b < 2 → (b ≡ 0 → ⊥) → b ≡ 1
       one zero h z = absurd (z refl)
       one (suc b) h z = omega arith
 
-      clean : (q : ℕ) → recordsEnd s ≤ q → q < recordsEnd s + firstSet (padding s) → getD (bits s) q 0 ≡ 0
+      clean : (q : ℕ) → recordsEnd s ≤ q → q < recordsEnd s + firstSet (rulePadding s) → getD (bits s) q 0 ≡ 0
       clean q i j =
           let e : recordsEnd s + (q - recordsEnd s) ≡ q = omega arith in
-          rw (← e, ← (getD-drop (recordsEnd s) (bits s) (q - recordsEnd s) 0)) (first-before (padding s) (q - recordsEnd s) (omega arith))
+          rw (← e, ← (getD-drop (recordsEnd s) (bits s) (q - recordsEnd s) 0)) (first-before (rulePadding s) (q - recordsEnd s) (omega arith))
 
-  records-told : {k p : ℕ} → recordsFault (variablesOf s) 0 16 (recordsOf s) ≡ At k p → Offends s k p
+  records-told : {k p : ℕ} → recordsFault (variablesOf s) 0 16 (recordsOf s) ≡ At k p → RuleOffends s k p
   unfolding recordsOf
   records-told {k} {p} e =
       let w = records-met s (variablesOf s) 0 16 (countOf s) e in
@@ -137,20 +137,20 @@ module _ (s : List ℕ) where
           → recordFault (variablesOf s) j (start j) (recordAt s (start j)) ≡ f
       named j e = let z : 0 + j ≡ j = omega arith in rw z at e
 
-  head-told : {k p : ℕ} → headFault s ≡ At k p → Offends s k p
+  head-told : {k p : ℕ} → headFault s ≡ At k p → RuleOffends s k p
   unfolding headFault
   head-told e =
-      test-told (Offends s) (ltb (length s) 2) 1 (bitLength s) _ (λ t. too-short (ltb-true _ _ t))
-      (λ a. test-told (Offends s) (not (eqb (versionOf s) 1)) 2 0 _ (λ t. other-version (eqb-false _ _ (not-true _ t)))
-      (λ b. test-told (Offends s) (not (between 1 8 (variablesOf s))) 3 4 _ (λ t. bad-variables (not-true _ t))
-      (λ c. test-told (Offends s) (not (between 1 128 (countOf s))) 4 8 _ (λ t. bad-count (not-true _ t))
-      (λ d. test-told (Offends s) (not (eqb (length s) (ruleBytes (countOf s)))) 5 (bitLength s) Sound
+      test-told (RuleOffends s) (ltb (length s) 2) 1 (bitLength s) _ (λ t. too-short (ltb-true _ _ t))
+      (λ a. test-told (RuleOffends s) (not (eqb (versionOf s) 1)) 2 0 _ (λ t. other-version (eqb-false _ _ (not-true _ t)))
+      (λ b. test-told (RuleOffends s) (not (between 1 8 (variablesOf s))) 3 4 _ (λ t. bad-variables (not-true _ t))
+      (λ c. test-told (RuleOffends s) (not (between 1 128 (countOf s))) 4 8 _ (λ t. bad-count (not-true _ t))
+      (λ d. test-told (RuleOffends s) (not (eqb (length s) (ruleBytes (countOf s)))) 5 (bitLength s) Sound
       (λ t. other-length (eqb-false _ _ (not-true _ t))) (λ t f. absurd (let z : _≡_ {A = ℕ} 0 1 = cc in omega arith)))))) e
 
   -- THE PLACE IS THE ONE THAT IS MEANT
-  pub place-told : {k p : ℕ} → ruleFault s ≡ At k p → Offends s k p
+  pub place-told : {k p : ℕ} → ruleFault s ≡ At k p → RuleOffends s k p
   unfolding ruleFault
   place-told e =
       ⊎-elim head-told
-      (λ w. test-told (Offends s) (anySet (padding s)) 6 (recordsEnd s + firstSet (padding s)) _ padding-told (λ t f. records-told f) (w .1))
+      (λ w. test-told (RuleOffends s) (anySet (rulePadding s)) 6 (recordsEnd s + firstSet (rulePadding s)) _ padding-told (λ t f. records-told f) (w .1))
       (or-told (headFault s) _ e)

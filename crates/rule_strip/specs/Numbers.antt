@@ -2,7 +2,7 @@
 use Prim.Native.Nat.{ℕ}
 use mathlib.Core.Path.{_≡_}
 use mathlib.Core.List.{List}
-use Rattle.rule_strip.specs.RulePlaces.{Offends}
+use Rattle.rule_strip.specs.RulePlaces.{RuleOffends}
 use Rattle.rule_strip.specs.declared.RuleCheck.{RuleCheck}
 use Rattle.rule_strip.specs.declared.RuleCheck.the-variants.{Accepted, Refused}
 use Rattle.rule_strip.specs.declared.numbers.RuleNumbers.{RuleNumbers}
@@ -14,4 +14,4 @@ ruleNumbers (Refused k p) = record { refusal = k; variables = 0; records = 0; pl
 
 -- A1, "Say at which bit": a refusal of the check is one by which the strip offends, at that place
 abbrev pub RuleRefusedAt : List ℕ → RuleNumbers → Type 0
-RuleRefusedAt s r = (r .refusal ≡ 0 → ⊥) → Offends s (r .refusal) (r .place)
+RuleRefusedAt s r = (r .refusal ≡ 0 → ⊥) → RuleOffends s (r .refusal) (r .place)

@@ -65,9 +65,9 @@ pub record GoodHead (s : List ℕ) (n m : ℕ) : Type 0 where
   pub count : m ≡ countOf s
 
 -- "Check a rule strip": a refusal's number and place; "Otherwise it returns n and m"
-abbrev pub answered : List ℕ → Fault → RuleCheck
-answered s Sound = accepted (variablesOf s) (countOf s)
-answered s (At k p) = turnedDown k p
+abbrev pub ruleAnswer : List ℕ → Fault → RuleCheck
+ruleAnswer s Sound = accepted (variablesOf s) (countOf s)
+ruleAnswer s (At k p) = turnedDown k p
 
 unfoldable pub checkedRule : List ℕ → RuleCheck
-checkedRule s = answered s (ruleFault s)
+checkedRule s = ruleAnswer s (ruleFault s)

@@ -40,17 +40,17 @@ pub data Breaks (s : List ℕ) (n i : ℕ) : ℕ → ℕ → Type 0 where
       → Breaks s n i (useRefusal (secondUse (opOf s i))) (start i + 11)
 
 -- the strip s offends by a refusal's number at a bit place
-pub data Offends (s : List ℕ) : ℕ → ℕ → Type 0 where
+pub data RuleOffends (s : List ℕ) : ℕ → ℕ → Type 0 where
   -- "for 1, 5 [..] it is the bit length handed in"
-  too-short : length s < 2 → Offends s 1 (bitLength s)
-  other-length : (length s ≡ ruleBytes (countOf s) → ⊥) → Offends s 5 (bitLength s)
+  too-short : length s < 2 → RuleOffends s 1 (bitLength s)
+  other-length : (length s ≡ ruleBytes (countOf s) → ⊥) → RuleOffends s 5 (bitLength s)
   -- "where the offending field starts"
-  other-version : (field s 0 4 ≡ 1 → ⊥) → Offends s 2 0
-  bad-variables : between 1 8 (field s 4 4) ≡ false → Offends s 3 4
-  bad-count : between 1 128 (field s 8 8) ≡ false → Offends s 4 8
+  other-version : (field s 0 4 ≡ 1 → ⊥) → RuleOffends s 2 0
+  bad-variables : between 1 8 (field s 4 4) ≡ false → RuleOffends s 3 4
+  bad-count : between 1 128 (field s 8 8) ≡ false → RuleOffends s 4 8
   -- "For 6 [..] it is the first set padding bit"
   bit-set : (p : ℕ) → recordsEnd s ≤ p → p < 8 * length s → getD (bits s) p 0 ≡ 1
-      → ((q : ℕ) → recordsEnd s ≤ q → q < p → getD (bits s) q 0 ≡ 0) → Offends s 6 p
+      → ((q : ℕ) → recordsEnd s ≤ q → q < p → getD (bits s) q 0 ≡ 0) → RuleOffends s 6 p
   -- "for the earliest bad record"
   bad-record : (i k p : ℕ) → i < countOf s → ((j : ℕ) → j < i → Keeps (variablesOf s) j (recordAt s (start j)))
-      → Breaks s (variablesOf s) i k p → Offends s k p
+      → Breaks s (variablesOf s) i k p → RuleOffends s k p

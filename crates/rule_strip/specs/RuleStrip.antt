@@ -95,8 +95,8 @@ recordsFault n i at (r ∷ rs) = orElse (recordFault n i at r) (recordsFault n (
 abbrev pub recordsEnd : List ℕ → ℕ
 recordsEnd s = 16 + 18 * countOf s
 
-abbrev pub padding : List ℕ → List ℕ
-padding s = drop (recordsEnd s) (bits s)
+abbrev pub rulePadding : List ℕ → List ℕ
+rulePadding s = drop (recordsEnd s) (bits s)
 
 -- "in order: 1 fewer than two bytes; 2 version not 1; 3 n not 1 to 8; 4 m not 1 to 128; 5 length not as above", each with its place: "for
 -- 1, 5 [..] the bit length handed in", else where the field starts
@@ -113,7 +113,7 @@ headFault s =
 unfoldable pub ruleFault : List ℕ → Fault
 ruleFault s =
     orElse (headFault s)
-    (cond (anySet (padding s)) (At 6 (recordsEnd s + firstSet (padding s)))
+    (cond (anySet (rulePadding s)) (At 6 (recordsEnd s + firstSet (rulePadding s)))
     (recordsFault (variablesOf s) 0 16 (recordsOf s)))
 
 -- an accepted strip of m records over n variables

@@ -37,11 +37,11 @@ pub record RecordRoom (d : List ℕ) (m : ℕ) : Type 0 where
   pub clear : Clear (bits d) 16
 
 -- out is as long as a strip of m records
-pub record AsLong (out : List ℕ) (m : ℕ) : Type 0 where
+pub record RuleSized (out : List ℕ) (m : ℕ) : Type 0 where
   pub few-records : m ≤ 128
   pub size : length out ≡ ruleBytes m
 
 -- a strip of m records has room at the front of out
-pub record Room (out : List ℕ) (m : ℕ) : Type 0 where
+pub record StripRoom (out : List ℕ) (m : ℕ) : Type 0 where
   pub few-records : m ≤ 128
   pub room : ruleBytes m ≤ length out

@@ -120,7 +120,7 @@ fn field_fault(n: usize, i: usize, at: usize, held: Use, v: usize) -> Fault
 }
 
 // The refusals 7 to 10 of a record that starts at a bit place. Of no op does the second field have an earlier refusal than the first.
-fn record_fault(n: usize, i: usize, at: usize, op: usize, first: usize, second: usize) -> Fault
+pub fn record_fault(n: usize, i: usize, at: usize, op: usize, first: usize, second: usize) -> Fault
     requires { ⌜ at ≤ 32768 ⌝ }
     ensures { λ r. ⌜ r ≡ recordFault n i at (record { op = op; first = first; second = second }) ⌝ }
 {

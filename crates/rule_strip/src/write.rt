@@ -1,8 +1,19 @@
 // Rule strips, written from records of 18 bits each.
 ghost use mathlib.Core.Path.{_≡_};
+ghost use Prim.Native.Nat.{_<_};
 ghost use lib.Seq.{sets};
 ghost use Rattle.bits.specs.Bits.{bits};
-ghost use Rattle.rule_strip.specs.RuleWriting.{recordBits, ruleStrip, recordsOfWords, RecordRoom, AsLong, Room};
+ghost use Rattle.rule_strip.specs.RuleWriting.{recordBits, ruleStrip, recordWord, recordsOfWords, RecordRoom, RuleSized, StripRoom};
+
+// A record as one number, as the writer takes it.
+pub fn record_word(op: usize, first: usize, second: usize) -> u64
+    requires { ⌜ op < 16 ⌝ }
+    requires { ⌜ first < 128 ⌝ }
+    requires { ⌜ second < 128 ⌝ }
+    ensures { λ r. ⌜ r ≡ recordWord (record { op = op; first = first; second = second }) ⌝ }
+{
+    (op as u64) * 16384 + (first as u64) * 128 + second as u64
+}
 
 // The first m records, from bit place 16 on, where zeros stand.
 fn put_records(d: &mut [u8], m: usize, words: &[u64; 128])
@@ -18,7 +29,7 @@ fn put_records(d: &mut [u8], m: usize, words: &[u64; 128])
 
 // The strip of the first m records over n variables, over the whole of out, which is as long as the strip.
 fn write_whole(out: &mut [u8], n: usize, m: usize, words: &[u64; 128])
-    requires { ⌜ AsLong (now out) m ⌝ }
+    requires { ⌜ RuleSized (now out) m ⌝ }
     ensures { λ _. ⌜ now (out .exit) ≡ ruleStrip n (recordsOfWords m (now (words .entry))) ⌝ }
 {
     let len = out.len();
@@ -31,7 +42,7 @@ fn write_whole(out: &mut [u8], n: usize, m: usize, words: &[u64; 128])
 
 // The strip of the first m records over n variables, at the front of out.
 pub fn write_rule(out: &mut [u8], n: usize, m: usize, words: &[u64; 128])
-    requires { ⌜ Room (now out) m ⌝ }
+    requires { ⌜ StripRoom (now out) m ⌝ }
     ensures { λ _. ⌜ now (out .exit) ≡ sets (now (out .entry)) 0 (ruleStrip n (recordsOfWords m (now (words .entry)))) ⌝ }
 {
     let len = (16 + 18 * m + 7) / 8;

@@ -14,7 +14,7 @@ use Rattle.text.specs.Grammar.{refused as leaves}
 use Rattle.text.specs.Records.{variablesIn, recordsIn, countIn}
 use Rattle.rule_strip.specs.RuleWriting.{ruleStrip}
 use Rattle.text.specs.Import.{Import, written, refused, ruleOf, import}
-use Rattle.text.specs.Claims.{Imported, Claim}
+use Rattle.text.specs.Claims.{Imported, ImportClaim}
 use Rattle.text.proofs.Texts.{text-right}
 use Rattle.text.proofs.Readers.{read-good, tracks-pos}
 use Rattle.rule_strip.proofs.RuleWriting.{strip-passes}
@@ -61,6 +61,6 @@ module _ (s : List ℕ) where
   of-room true = tt
   of-room false = of-read (textOf s) refl
 
-pub claimed : Claim
+pub claimed : ImportClaim
 unfolding import
 claimed s room n m strip e = subst (AsClaimed s) e (of-room s (ltb room 290))

@@ -8,10 +8,10 @@ use mathlib.Core.List.{List, [], _∷_, _++_, map}
 use Rattle.bits.specs.Bits.{digits, pack}
 use Rattle.logic.specs.Rule.{Record}
 use Rattle.rule_strip.specs.RuleWriting.{recordBits, ruleStrip}
-use Rattle.text.specs.Token.{Token, aName, aStray, theEnd, spell, words, marks, placeIn, spells, sameBytes, beginsWith, run, wordKind, markPiece}
-use Rattle.text.specs.Token.{piece, tokens, tokensOf}
-use Rattle.text.specs.Grammar.{got, accept, hasOrder, inUse, used, relationOf, leftGood, branchOf, spotOf, related, atomOf, more, joined}
-use Rattle.text.specs.Grammar.{opening, startOf, operandOf, impliedBy, operandAt, consequentAt, partAt, reader, names, declarations, textFrom, textOf}
+use Rattle.text.specs.Token.{Token, aName, aStray, theEnd, spell, words, textMarks, numberIn, spells, sameBytes, beginsWith, alnumRun, wordKind}
+use Rattle.text.specs.Token.{markPiece, piece, tokens, tokensOf}
+use Rattle.text.specs.Grammar.{got, accept, hasOrder, inUse, used, relationOf, leftGood, branchOf, spotOf, related, atomOf, chain, joined, opening}
+use Rattle.text.specs.Grammar.{operandStart, operandOf, impliedBy, operandAt, consequentAt, partAt, reader, names, declarations, textFrom, textOf}
 use Rattle.text.specs.Grammar.{refused as leaves}
 use Rattle.text.specs.Records.{trackOf, tracks, variablesIn, count, freeCount, countIn, writeAtom, write, writeFree, recordsIn}
 use Rattle.text.specs.Import.{Import, written, refused, ruleOf, import}
@@ -64,7 +64,7 @@ kinds s = map (λ (t : Token). t .kind) (tokensOf s)
 
 -- the kind of a word or mark
 is : String → ℕ
-is w = placeIn 0 (words ++ marks) w
+is w = numberIn 0 (words ++ textMarks) w
 
 tokenKinds : List (List ℕ × List ℕ)
 tokenKinds =
@@ -294,8 +294,8 @@ record Shown : Type 0 where
 shown : Shown
 unfolding repeat pairs isWritten spaced kinds is tokenKinds seen headings declaring naming operatorless longest strays endings leaving levels
     answer counted roomy formulaRecords records atoms constructs tracked branches digits pack recordBits ruleStrip
-    spell words marks placeIn spells sameBytes beginsWith run wordKind markPiece piece tokens tokensOf
-    accept hasOrder inUse used relationOf leftGood branchOf spotOf related atomOf more joined opening startOf operandOf impliedBy operandAt consequentAt
+    spell words textMarks numberIn spells sameBytes beginsWith alnumRun wordKind markPiece piece tokens tokensOf
+    accept hasOrder inUse used relationOf leftGood branchOf spotOf related atomOf chain joined opening operandStart operandOf impliedBy operandAt consequentAt
     partAt reader names declarations textFrom textOf trackOf tracks variablesIn count freeCount countIn writeAtom write writeFree recordsIn ruleOf import
 shown = record {
   grouping = refl;

@@ -11,9 +11,9 @@ use lib.ListN.{length}
 use Rattle.text.specs.Token.{Token, spells, isName, tokensOf}
 use Rattle.text.specs.Syntax.{Name, Order, first, second, Spot, variable, branch, root, Atom, sub, member, equal, Sentence, atom, denied, both}
 use Rattle.text.specs.Syntax.{either, implies, alike, forSome, forEvery, Scope, Text}
-use Rattle.text.specs.Grammar.{Read, got, refused, andThen, next, rest, accept, hasOrder, inUse, usedRefusal, newRefusal, used, Relation}
-use Rattle.text.specs.Grammar.{inclusion, membership, equality, other, relationOf, leftGood, branchOf, spotOf, related, Reader, atomOf, more}
-use Rattle.text.specs.Grammar.{joined, Start, negation, bracket, atomic, tooDeep, quantifier, opening, startOf, Part, operand, consequent}
+use Rattle.text.specs.Grammar.{Read, got, refused, readThen, peek, rest, accept, hasOrder, inUse, usedRefusal, newRefusal, used, Relation}
+use Rattle.text.specs.Grammar.{inclusion, membership, equality, other, relationOf, leftGood, branchOf, spotOf, related, Reader, atomOf, chain}
+use Rattle.text.specs.Grammar.{joined, Start, negation, bracket, atomic, tooDeep, quantifier, opening, operandStart, Part, operand, consequent}
 use Rattle.text.specs.Grammar.{formula, operandOf, impliedBy, operandAt, consequentAt, partAt, reader, names, declarations, textFrom, textOf}
 use Rattle.text.specs.Records.{tracks}
 use Rattle.text.proofs.Meant.{scopedAtom, scoped}
@@ -31,7 +31,7 @@ pub after-got : {A : Type 0} {P : A → Type 0} {a : A} {ts : List Token} → Af
 after-got (fine p) = p
 
 after-then : {A B : Type 0} {P : A → Type 0} {Q : B → Type 0} (r : Read A) (go : A → List Token → Read B) → After P r
-    → ((a : A) (ts : List Token) → P a → After Q (go a ts)) → After Q (andThen r go)
+    → ((a : A) (ts : List Token) → P a → After Q (go a ts)) → After Q (readThen r go)
 after-then (got a ts) go h k = k a ts (after-got h)
 after-then (refused r t) go h k = nothing
 
@@ -41,7 +41,7 @@ by-test true h k = h refl
 by-test false h k = k refl
 
 after-accept : {A : Type 0} {P : A → Type 0} (r : ℕ) (ts : List Token) (go : Name → List Token → Read A)
-    → (eqb r 0 ≡ true → (us : List Token) → After P (go (next ts .bytes) us)) → After P (accept r ts go)
+    → (eqb r 0 ≡ true → (us : List Token) → After P (go (peek ts .bytes) us)) → After P (accept r ts go)
 unfolding accept
 after-accept r ts go h = by-test (eqb r 0) (λ e. h e (rest ts)) (λ e. nothing)
 
@@ -58,7 +58,7 @@ new-passed true false false e = (tt, refl)
 new-passed false twice full e = absurd (false≢true e)
 
 -- a sentence is in order where the names sc are in use
-pub record InOrder (sc : Scope) (f : Sentence) : Type 0 where
+pub record WellScoped (sc : Scope) (f : Sentence) : Type 0 where
   pub names-are : T (scoped sc f)
   pub few : tracks (length sc) f ≤ 8
 
@@ -66,8 +66,8 @@ after-used : {A : Type 0} {P : A → Type 0} (o : Order) (sc : Scope) (ts : List
     → ((x : Name) (us : List Token) → T (hasOrder sc o x) → After P (go x us)) → After P (used o sc ts go)
 unfolding used
 after-used o sc ts go h =
-    let x = next ts .bytes in
-    after-accept (usedRefusal (hasOrder sc o x) (next ts)) ts go (λ e us. h x us (used-passed (isName (next ts)) (hasOrder sc o x) e))
+    let x = peek ts .bytes in
+    after-accept (usedRefusal (hasOrder sc o x) (peek ts)) ts go (λ e us. h x us (used-passed (isName (peek ts)) (hasOrder sc o x) e))
 
 -- the right side of `=`
 abbrev SpotGood : Scope → Name → Spot → Type 0
@@ -78,18 +78,18 @@ module _ (sc : Scope) (x : Name) (t : T (hasOrder sc first x)) where
   unfolding branchOf scopedAtom
   branch-good y us u =
       let w = and-true (hasOrder sc first x) (hasOrder sc first y) t u in
-      by-test (spells ".0" (next us)) (λ e. fine w) (λ e. by-test (spells ".1" (next us)) (λ e. fine w) (λ e. fine w))
+      by-test (spells ".0" (peek us)) (λ e. fine w) (λ e. by-test (spells ".1" (peek us)) (λ e. fine w) (λ e. fine w))
 
   spot-good : (ts : List Token) → After (SpotGood sc x) (spotOf sc ts)
   unfolding spotOf scopedAtom
-  spot-good ts = by-test (spells "root" (next ts)) (λ e. fine t) (λ e. after-used first sc ts branchOf branch-good)
+  spot-good ts = by-test (spells "root" (peek ts)) (λ e. fine t) (λ e. after-used first sc ts branchOf branch-good)
 
 module _ (sc : Scope) (l : length sc ≤ 8) where
-  atom-fine : {a : Atom} {ts : List Token} → T (scopedAtom sc a) → After (InOrder sc) (got (atom a) ts)
+  atom-fine : {a : Atom} {ts : List Token} → T (scopedAtom sc a) → After (WellScoped sc) (got (atom a) ts)
   unfolding scoped tracks
   atom-fine t = fine (record { names-are = t; few = l })
 
-  related-good : (r : Relation) (x : Name) (us : List Token) → T (leftGood r sc x) → After (InOrder sc) (related r sc x us)
+  related-good : (r : Relation) (x : Name) (us : List Token) → T (leftGood r sc x) → After (WellScoped sc) (related r sc x us)
   unfolding leftGood related scopedAtom
   related-good inclusion x us t =
       after-used second sc (rest us) (λ y vs. got (atom (sub x y)) vs)
@@ -101,58 +101,58 @@ module _ (sc : Scope) (l : length sc ≤ 8) where
       after-then (spotOf sc (rest us)) (λ p vs. got (atom (equal x p)) vs) (spot-good sc x t (rest us)) (λ p vs u. atom-fine {a = equal x p} u)
   related-good other x us t = nothing
 
-  atom-good : (ts : List Token) → After (InOrder sc) (atomOf sc ts)
+  atom-good : (ts : List Token) → After (WellScoped sc) (atomOf sc ts)
   unfolding atomOf
   atom-good ts =
-      let r = relationOf (next (rest ts)) in
-      let x = next ts .bytes in
-      after-accept (usedRefusal (leftGood r sc x) (next ts)) ts (λ y us. related r sc y us)
-      (λ e us. related-good r x us (used-passed (isName (next ts)) (leftGood r sc x) e))
+      let r = relationOf (peek (rest ts)) in
+      let x = peek ts .bytes in
+      after-accept (usedRefusal (leftGood r sc x) (peek ts)) ts (λ y us. related r sc y us)
+      (λ e us. related-good r x us (used-passed (isName (peek ts)) (leftGood r sc x) e))
 
   -- joining keeps sentences in order
-  module _ (join : Sentence → Sentence → Sentence) (keeps : (f g : Sentence) → InOrder sc f → InOrder sc g → InOrder sc (join f g)) (read : Reader)
-      (good : (ts : List Token) → After (InOrder sc) (read sc ts)) (w : String) where
-    more-good : (d : ℕ) (f : Sentence) (ts : List Token) → InOrder sc f → After (InOrder sc) (more d w join read sc f ts)
-    unfolding more
+  module _ (join : Sentence → Sentence → Sentence) (keeps : (f g : Sentence) → WellScoped sc f → WellScoped sc g → WellScoped sc (join f g)) (read : Reader)
+      (good : (ts : List Token) → After (WellScoped sc) (read sc ts)) (w : String) where
+    more-good : (d : ℕ) (f : Sentence) (ts : List Token) → WellScoped sc f → After (WellScoped sc) (chain d w join read sc f ts)
+    unfolding chain
     more-good zero f ts h = fine h
     more-good (suc d) f ts h =
-        by-test (spells w (next ts)) (λ e. after-then (read sc (rest ts)) (λ g us. more d w join read sc (join f g) us) (good (rest ts))
+        by-test (spells w (peek ts)) (λ e. after-then (read sc (rest ts)) (λ g us. chain d w join read sc (join f g) us) (good (rest ts))
         (λ g us k. more-good d (join f g) us (keeps f g h k))) (λ e. fine h)
 
-    joined-good : (ts : List Token) → After (InOrder sc) (joined w join read sc ts)
+    joined-good : (ts : List Token) → After (WellScoped sc) (joined w join read sc ts)
     unfolding joined
-    joined-good ts = after-then (read sc ts) (λ f us. more (length us) w join read sc f us) (good ts) (λ f us h. more-good (length us) f us h)
+    joined-good ts = after-then (read sc ts) (λ f us. chain (length us) w join read sc f us) (good ts) (λ f us h. more-good (length us) f us h)
 
   two-keep : (f g h : Sentence) → scoped sc h ≡ (scoped sc f && scoped sc g) → tracks (length sc) h ≡ max (tracks (length sc) f) (tracks (length sc) g)
-      → InOrder sc f → InOrder sc g → InOrder sc h
+      → WellScoped sc f → WellScoped sc g → WellScoped sc h
   two-keep f g h e d a b =
       let p = a .few in
       let q = b .few in
       record { names-are = rw e (and-true (scoped sc f) (scoped sc g) (a .names-are) (b .names-are)); few = omega arith }
 
-  both-keep : (f g : Sentence) → InOrder sc f → InOrder sc g → InOrder sc (both f g)
+  both-keep : (f g : Sentence) → WellScoped sc f → WellScoped sc g → WellScoped sc (both f g)
   unfolding scoped tracks
   both-keep f g = two-keep f g (both f g) refl refl
 
-  either-keep : (f g : Sentence) → InOrder sc f → InOrder sc g → InOrder sc (either f g)
+  either-keep : (f g : Sentence) → WellScoped sc f → WellScoped sc g → WellScoped sc (either f g)
   unfolding scoped tracks
   either-keep f g = two-keep f g (either f g) refl refl
 
-  implies-keep : (f g : Sentence) → InOrder sc f → InOrder sc g → InOrder sc (implies f g)
+  implies-keep : (f g : Sentence) → WellScoped sc f → WellScoped sc g → WellScoped sc (implies f g)
   unfolding scoped tracks
   implies-keep f g = two-keep f g (implies f g) refl refl
 
-  alike-keep : (f g : Sentence) → InOrder sc f → InOrder sc g → InOrder sc (alike f g)
+  alike-keep : (f g : Sentence) → WellScoped sc f → WellScoped sc g → WellScoped sc (alike f g)
   unfolding scoped tracks
   alike-keep f g = two-keep f g (alike f g) refl refl
 
-  denied-keep : (f : Sentence) → InOrder sc f → InOrder sc (denied f)
+  denied-keep : (f : Sentence) → WellScoped sc f → WellScoped sc (denied f)
   unfolding scoped tracks
   denied-keep f h = record { names-are = h .names-are; few = h .few }
 
 -- what a quantifier makes
 abbrev Binds : (Order → Name → Sentence → Sentence) → Type 0
-Binds make = (o : Order) (x : Name) (f : Sentence) (sc : Scope) → InOrder (record { name = x; order = o } ∷ sc) f → InOrder sc (make o x f)
+Binds make = (o : Order) (x : Name) (f : Sentence) (sc : Scope) → WellScoped (record { name = x; order = o } ∷ sc) f → WellScoped sc (make o x f)
 
 some-binds : Binds forSome
 unfolding scoped tracks
@@ -179,8 +179,8 @@ or-good : (b : Bool) (s t : Start) → StartGood s → StartGood t → StartGood
 or-good true s t h k = h
 or-good false s t h k = k
 
-start-good : (d : ℕ) (t : Token) → StartGood (startOf d t)
-unfolding startOf StartGood
+start-good : (d : ℕ) (t : Token) → StartGood (operandStart d t)
+unfolding operandStart StartGood
 start-good d t =
     or-good (spells "~" t) _ _ (opening-good d negation tt)
     (or-good (spells "(" t) _ _ (opening-good d bracket tt)
@@ -191,7 +191,7 @@ start-good d t =
 
 -- a reader whose sentences are in order
 abbrev Good : Reader → Type 0
-Good read = (sc : Scope) → length sc ≤ 8 → (ts : List Token) → After (InOrder sc) (read sc ts)
+Good read = (sc : Scope) → length sc ≤ 8 → (ts : List Token) → After (WellScoped sc) (read sc ts)
 
 module _ (d : ℕ) (deeper : Part → Reader) (good : (p : Part) → Good (deeper p)) where
   operandOf-good : (s : Start) → StartGood s → Good (operandOf deeper s)
@@ -202,9 +202,9 @@ module _ (d : ℕ) (deeper : Part → Reader) (good : (p : Part) → Good (deepe
   operandOf-good atomic b sc l ts = atom-good sc l ts
   operandOf-good tooDeep b sc l ts = nothing
   operandOf-good (quantifier make o) b sc l ts =
-      after-accept (newRefusal false sc (next (rest ts))) (rest ts) _ (λ e us.
-      let w = new-passed (isName (next (rest ts))) false (leb 8 (length sc)) e in
-      let x = next (rest ts) .bytes in
+      after-accept (newRefusal false sc (peek (rest ts))) (rest ts) _ (λ e us.
+      let w = new-passed (isName (peek (rest ts))) false (leb 8 (length sc)) e in
+      let x = peek (rest ts) .bytes in
       let q = leb-false 8 (length sc) (w .1) in
       after-accept _ us _ (λ e′ vs.
       after-then (deeper formula (record { name = x; order = o } ∷ sc) vs) (λ f ws. got (make o x f) ws)
@@ -212,12 +212,12 @@ module _ (d : ℕ) (deeper : Part → Reader) (good : (p : Part) → Good (deepe
 
   operandAt-good : Good (operandAt d deeper)
   unfolding operandAt
-  operandAt-good sc l ts = operandOf-good (startOf d (next ts)) (start-good d (next ts)) sc l ts
+  operandAt-good sc l ts = operandOf-good (operandStart d (peek ts)) (start-good d (peek ts)) sc l ts
 
-  implied-good : (sc : Scope) → length sc ≤ 8 → (f : Sentence) (ts : List Token) → InOrder sc f → After (InOrder sc) (impliedBy d deeper sc f ts)
+  implied-good : (sc : Scope) → length sc ≤ 8 → (f : Sentence) (ts : List Token) → WellScoped sc f → After (WellScoped sc) (impliedBy d deeper sc f ts)
   unfolding impliedBy
   implied-good sc l f ts h =
-      by-test (spells "=>" (next ts)) (λ e. by-test (eqb d 0) (λ e. nothing) (λ e.
+      by-test (spells "=>" (peek ts)) (λ e. by-test (eqb d 0) (λ e. nothing) (λ e.
       after-then (deeper consequent sc (rest ts)) (λ g us. got (implies f g) us) (good consequent sc l (rest ts))
       (λ g us k. fine (implies-keep sc l f g h k)))) (λ e. fine h)
 
@@ -237,7 +237,7 @@ module _ (d : ℕ) (deeper : Part → Reader) (good : (p : Part) → Good (deepe
 
 reader-good : (d : ℕ) (p : Part) → Good (reader d p)
 unfolding reader
-reader-good zero p sc l ts = partAt-good zero (λ q sd us. refused 23 (next us)) (λ q sd m us. nothing) p sc l ts
+reader-good zero p sc l ts = partAt-good zero (λ q sd us. refused 23 (peek us)) (λ q sd m us. nothing) p sc l ts
 reader-good (suc d) p sc l ts = partAt-good (suc d) (λ q sd us. reader d q sd us) (λ q sd m us. reader-good d q sd m us) p sc l ts
 
 -- declarations
@@ -249,20 +249,20 @@ names-good : (d : ℕ) (o : Order) (sc : Scope) (ts : List Token) → Declares s
 unfolding names distinct
 names-good zero o sc ts h = nothing
 names-good (suc d) o sc ts h =
-    let x = next ts .bytes in
-    after-accept (newRefusal (inUse sc x) sc (next ts)) ts _ (λ e us.
-    let w = new-passed (isName (next ts)) (inUse sc x) (leb 8 (length sc)) e in
+    let x = peek ts .bytes in
+    after-accept (newRefusal (inUse sc x) sc (peek ts)) ts _ (λ e us.
+    let w = new-passed (isName (peek ts)) (inUse sc x) (leb 8 (length sc)) e in
     let q = leb-false 8 (length sc) (w .1) in
     let k : Declares (record { name = x; order = o } ∷ sc) = record { once = and-true (not (inUse sc x)) (distinct sc) (w .0) (h .once); room = omega arith } in
-    by-test (spells "," (next us)) (λ e′. names-good d o _ (rest us) k) (λ e′. after-accept _ us _ (λ e″ vs. fine k)))
+    by-test (spells "," (peek us)) (λ e′. names-good d o _ (rest us) k) (λ e′. after-accept _ us _ (λ e″ vs. fine k)))
 
 declarations-good : (d : ℕ) (sc : Scope) (ts : List Token) → Declares sc → After Declares (declarations d sc ts)
 unfolding declarations
 declarations-good zero sc ts h = fine h
 declarations-good (suc d) sc ts h =
-    let further : (o : Order) → After Declares (andThen (names d o sc (rest ts)) (declarations d)) =
+    let further : (o : Order) → After Declares (readThen (names d o sc (rest ts)) (declarations d)) =
     (λ o. after-then (names d o sc (rest ts)) (declarations d) (names-good d o sc (rest ts) h) (λ sd us k. declarations-good d sd us k)) in
-    by-test (spells "var1" (next ts)) (λ e. further first) (λ e. by-test (spells "var2" (next ts)) (λ e. further second) (λ e. fine h))
+    by-test (spells "var1" (peek ts)) (λ e. further first) (λ e. by-test (spells "var2" (peek ts)) (λ e. further second) (λ e. fine h))
 
 -- a text that is read
 pub record ReadGood (t : Text) : Type 0 where

@@ -15,7 +15,7 @@ use Rattle.text.specs.Syntax.{Name, Order, first, second, Declared, Scop
 use Rattle.text.specs.Grammar.{sameOrder, hasOrder, inUse}
 use Rattle.text.specs.Meaning.{Names, withPlace, withSet, Says}
 use Rattle.text.specs.Records.{trackOf, tracks, variablesIn, freeCount, countIn, putSingle, writeFree, recordsIn}
-use Rattle.text.specs.Claims.{Stands, Fits}
+use Rattle.text.specs.Claims.{StandsFor, AllStandFor}
 use Rattle.text.proofs.Scopes.{Agree}
 use Rattle.text.proofs.Meant.{single, meant, scoped}
 use Rattle.text.proofs.Sayings.{both-true, says-right}
@@ -81,8 +81,8 @@ free-holds (d ∷ sc) f A = go (d .order) (free-holds sc f A)
     go second i = (λ h. let w = i .0 h in ((tt, w .0), w .1), λ h. i .1 (h .0 .1, h .1))
 
 -- what fits the declarations agrees with the assignment
-fits-agree : (sc : Scope) (E : Names) (A : Assignment 2) → Fits sc E A → Agree sc E A
-unfolding Fits Stands hasOrder trackOf
+fits-agree : (sc : Scope) (E : Names) (A : Assignment 2) → AllStandFor sc E A → Agree sc E A
+unfolding AllStandFor StandsFor hasOrder trackOf
 fits-agree [] E A h = record { places = λ y t. absurd t; sets = λ y t. absurd t }
 fits-agree (d ∷ sc) E A h =
     let i = fits-agree sc E A (h .1) in
@@ -91,24 +91,24 @@ fits-agree (d ∷ sc) E A h =
       sets = λ y. in-sets i y (sameBytes y (d .name)) refl (d .order) (h .0);
     }
   where
-    in-places : Agree sc E A → (y : Name) (v : Bool) → sameBytes y (d .name) ≡ v → (o : Order) → Stands o (d .name) (length sc) E A
+    in-places : Agree sc E A → (y : Name) (v : Bool) → sameBytes y (d .name) ≡ v → (o : Order) → StandsFor o (d .name) (length sc) E A
         → T (cond v (sameOrder first o) (hasOrder sc first y)) → IsOnly (E .place y) (A (cond v (length sc) (trackOf sc y)))
     in-places i y true e first s t = rw (bytes-eq y (d .name) (subst T (sym e) tt)) s
     in-places i y true e second s t = absurd t
     in-places i y false e o s t = i .places y t
 
-    in-sets : Agree sc E A → (y : Name) (v : Bool) → sameBytes y (d .name) ≡ v → (o : Order) → Stands o (d .name) (length sc) E A
+    in-sets : Agree sc E A → (y : Name) (v : Bool) → sameBytes y (d .name) ≡ v → (o : Order) → StandsFor o (d .name) (length sc) E A
         → T (cond v (sameOrder second o) (hasOrder sc second y)) → E .set y ≡ A (cond v (length sc) (trackOf sc y))
     in-sets i y true e first s t = absurd t
     in-sets i y true e second s t = rw (bytes-eq y (d .name) (subst T (sym e) tt)) s
     in-sets i y false e o s t = i .sets y t
 
-fits-singles : (sc : Scope) (E : Names) (A : Assignment 2) → Fits sc E A → Singles sc A
-unfolding Fits Stands Single Singles
+fits-singles : (sc : Scope) (E : Names) (A : Assignment 2) → AllStandFor sc E A → Singles sc A
+unfolding AllStandFor StandsFor Single Singles
 fits-singles [] E A h = tt
 fits-singles (d ∷ sc) E A h = (go (d .order) (h .0), fits-singles sc E A (h .1))
   where
-    go : (o : Order) → Stands o (d .name) (length sc) E A → Single o A (length sc)
+    go : (o : Order) → StandsFor o (d .name) (length sc) E A → Single o A (length sc)
     go first s = (E .place (d .name), s)
     go second s = tt
 
@@ -125,35 +125,35 @@ not-in-use d sc x t = go (sameBytes x (d .name)) refl (d .order) t
     go false e o t = (not-T (sameBytes (d .name) x) (λ u. subst T (sym (bytes-refl x) ∙ ap (sameBytes x) (sym (bytes-eq (d .name) x u)) ∙ e) tt), t)
 
 module _ (E : Names) (A : Assignment 2) (x : Name) where
-  fits-place : (sc : Scope) (p : Place 2) → T (not (inUse sc x)) → Fits sc E A → Fits sc (withPlace x p E) A
-  unfolding Fits Stands
+  fits-place : (sc : Scope) (p : Place 2) → T (not (inUse sc x)) → AllStandFor sc E A → AllStandFor sc (withPlace x p E) A
+  unfolding AllStandFor StandsFor
   fits-place [] p t h = tt
   fits-place (d ∷ sc) p t h = let w = not-in-use d sc x t in (go (d .order) (w .0) (h .0), fits-place sc p (w .1) (h .1))
     where
-      go : (o : Order) → sameBytes (d .name) x ≡ false → Stands o (d .name) (length sc) E A → Stands o (d .name) (length sc) (withPlace x p E) A
+      go : (o : Order) → sameBytes (d .name) x ≡ false → StandsFor o (d .name) (length sc) E A → StandsFor o (d .name) (length sc) (withPlace x p E) A
       go first e s = rw e s
       go second e s = s
 
-  fits-set : (sc : Scope) (X : List (Place 2)) → T (not (inUse sc x)) → Fits sc E A → Fits sc (withSet x X E) A
-  unfolding Fits Stands
+  fits-set : (sc : Scope) (X : List (Place 2)) → T (not (inUse sc x)) → AllStandFor sc E A → AllStandFor sc (withSet x X E) A
+  unfolding AllStandFor StandsFor
   fits-set [] X t h = tt
   fits-set (d ∷ sc) X t h = let w = not-in-use d sc x t in (go (d .order) (w .0) (h .0), fits-set sc X (w .1) (h .1))
     where
-      go : (o : Order) → sameBytes (d .name) x ≡ false → Stands o (d .name) (length sc) E A → Stands o (d .name) (length sc) (withSet x X E) A
+      go : (o : Order) → sameBytes (d .name) x ≡ false → StandsFor o (d .name) (length sc) E A → StandsFor o (d .name) (length sc) (withSet x X E) A
       go first e s = s
       go second e s = rw e s
 
 -- where these sets are singletons, the names can stand for what the assignment gives them
-singles-fit : (sc : Scope) (A : Assignment 2) → T (distinct sc) → Singles sc A → (E : Names) × Fits sc E A
-unfolding distinct Single Singles Fits Stands
+singles-fit : (sc : Scope) (A : Assignment 2) → T (distinct sc) → Singles sc A → (E : Names) × AllStandFor sc E A
+unfolding distinct Single Singles AllStandFor StandsFor
 singles-fit [] A t h = (record { place = λ x. []; set = λ x. [] }, tt)
 singles-fit (d ∷ sc) A t h =
     let w = both-true (not (inUse sc (d .name))) (distinct sc) t in
     let z = singles-fit sc A (w .1) (h .1) in
     go (d .order) (h .0) (w .0) z
   where
-    go : (o : Order) → Single o A (length sc) → T (not (inUse sc (d .name))) → ((E : Names) × Fits sc E A)
-        → (E : Names) × (Stands o (d .name) (length sc) E A × Fits sc E A)
+    go : (o : Order) → Single o A (length sc) → T (not (inUse sc (d .name))) → ((E : Names) × AllStandFor sc E A)
+        → (E : Names) × (StandsFor o (d .name) (length sc) E A × AllStandFor sc E A)
     go first s u z = (withPlace (d .name) (s .0) (z .0), (rw (bytes-refl (d .name)) (s .1), fits-place (z .0) A (d .name) sc (s .0) u (z .1)))
     go second s u z = (withSet (d .name) (A (length sc)) (z .0), (rw (bytes-refl (d .name)) refl, fits-set (z .0) A (d .name) sc (A (length sc)) u (z .1)))
 
@@ -161,7 +161,7 @@ singles-fit (d ∷ sc) A t h =
 pub record Right (t : Text) : Type 0 where
   pub records : length (recordsIn t) ≡ countIn t
   pub accepted : Accepted 2 (variablesIn t) (recordsIn t)
-  pub meaning : (A : Assignment 2) → Satisfies (recordsIn t) A ↔ ((E : Names) × Fits (t .declared) E A × Says (t .sentence) E)
+  pub meaning : (A : Assignment 2) → Satisfies (recordsIn t) A ↔ ((E : Names) × AllStandFor (t .declared) E A × Says (t .sentence) E)
 
 module _ (t : Text) (s : T (scoped (t .declared) (t .sentence))) (u : T (distinct (t .declared))) where
   wrote : Wrote (variablesIn t) [] (recordsIn t) (freeMeant (t .declared) (meant (t .declared) (t .sentence))) (countIn t)
@@ -173,7 +173,7 @@ module _ (t : Text) (s : T (scoped (t .declared) (t .sentence))) (u : T (distinc
 
   -- the names and their sentence, of the formula
   text-says : (A : Assignment 2)
-      → Holds (freeMeant (t .declared) (meant (t .declared) (t .sentence))) A ↔ ((E : Names) × Fits (t .declared) E A × Says (t .sentence) E)
+      → Holds (freeMeant (t .declared) (meant (t .declared) (t .sentence))) A ↔ ((E : Names) × AllStandFor (t .declared) E A × Says (t .sentence) E)
   text-says A =
       let sc = t .declared in
       let f = free-holds sc (meant sc (t .sentence)) A in (

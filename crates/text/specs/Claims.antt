@@ -18,14 +18,14 @@ use Rattle.text.specs.Records.{variablesIn, countIn}
 use Rattle.text.specs.Import.{import, written}
 
 -- a free variable x of track i: of first order, the set of its place alone; of second order, its set
-unfoldable pub Stands : Order → Name → ℕ → Names → Assignment 2 → Type 0
-Stands first x i E A = IsOnly (E .place x) (A i)
-Stands second x i E A = E .set x ≡ A i
+unfoldable pub StandsFor : Order → Name → ℕ → Names → Assignment 2 → Type 0
+StandsFor first x i E A = IsOnly (E .place x) (A i)
+StandsFor second x i E A = E .set x ≡ A i
 
 -- the declared names stand for what the assignment gives their tracks, "in order of declaration"; the latest is first in the list
-unfoldable pub Fits : Scope → Names → Assignment 2 → Type 0
-Fits [] E A = Unit
-Fits (d ∷ sc) E A = Stands (d .order) (d .name) (length sc) E A × Fits sc E A
+unfoldable pub AllStandFor : Scope → Names → Assignment 2 → Type 0
+AllStandFor [] E A = Unit
+AllStandFor (d ∷ sc) E A = StandsFor (d .order) (d .name) (length sc) E A × AllStandFor sc E A
 
 -- the text s was imported as this strip, with n and m: it was read as `text`
 pub record Imported (s : List ℕ) (n m : ℕ) (strip : List ℕ) : Type 0 where
@@ -40,8 +40,8 @@ pub record Imported (s : List ℕ) (n m : ℕ) (strip : List ℕ) : Type 0 where
   pub size : length strip ≡ ruleBytes m
   -- an assignment satisfies the written rule exactly if each free first-order variable's set is a singleton and the text holds with these places
   -- and the other sets
-  pub meaning : (A : Assignment 2) → Satisfies (recordsOf strip) A ↔ ((E : Names) × Fits (text .declared) E A × Says (text .sentence) E)
+  pub meaning : (A : Assignment 2) → Satisfies (recordsOf strip) A ↔ ((E : Names) × AllStandFor (text .declared) E A × Says (text .sentence) E)
 
 -- the claim: of whatever import writes
-abbrev pub Claim : Type 0
-Claim = (s : List ℕ) (room n m : ℕ) (strip : List ℕ) → import s room ≡ written n m strip → Imported s n m strip
+abbrev pub ImportClaim : Type 0
+ImportClaim = (s : List ℕ) (room n m : ℕ) (strip : List ℕ) → import s room ≡ written n m strip → Imported s n m strip

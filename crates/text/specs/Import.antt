@@ -25,6 +25,6 @@ unfoldable pub import : List ℕ → ℕ → Import
 import s size = elim (ltb size 290) [ true ↦ refused 27 | false ↦ ruleOf (textOf s) ]
 
 -- "A strip that an operation writes stands at the front of its buffer; later bytes are unchanged."
-unfoldable pub outAfter : Import → List ℕ → List ℕ
-outAfter (written n m strip) out = sets out 0 strip
-outAfter (refused r) out = out
+unfoldable pub outAfterImport : Import → List ℕ → List ℕ
+outAfterImport (written n m strip) out = sets out 0 strip
+outAfterImport (refused r) out = out

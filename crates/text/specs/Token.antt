@@ -27,10 +27,69 @@ unfoldable pub words : List String
 words = "ws2s" ∷ "var1" ∷ "var2" ∷ "ex1" ∷ "ex2" ∷ "all1" ∷ "all2" ∷ "sub" ∷ "in" ∷ "root" ∷ []
 
 -- the marks of the grammar; "`.0` and `.1` are single tokens; the longest token is taken": `=>` stands before `=`, which it begins with
-unfoldable pub marks : List String
-marks = ";" ∷ "," ∷ ":" ∷ "(" ∷ ")" ∷ "~" ∷ "&" ∷ "|" ∷ "=>" ∷ "<=>" ∷ "=" ∷ ".0" ∷ ".1" ∷ []
+unfoldable pub textMarks : List String
+textMarks = ";" ∷ "," ∷ ":" ∷ "(" ∷ ")" ∷ "~" ∷ "&" ∷ "|" ∷ "=>" ∷ "<=>" ∷ "=" ∷ ".0" ∷ ".1" ∷ []
 
--- kinds: 0 to 9 the words, 10 to 22 the marks, each in the order above; then a name, a byte that starts no token, and the end of the text
+-- kinds: 0 to 9 the words, 10 to 22 the marks, each in the order above. Of the words, those that definitions name
+abbrev pub ex1Kind : ℕ
+ex1Kind = 3
+
+abbrev pub ex2Kind : ℕ
+ex2Kind = 4
+
+abbrev pub all1Kind : ℕ
+all1Kind = 5
+
+abbrev pub all2Kind : ℕ
+all2Kind = 6
+
+abbrev pub subKind : ℕ
+subKind = 7
+
+abbrev pub inKind : ℕ
+inKind = 8
+
+-- the marks, in that order
+abbrev pub semicolonKind : ℕ
+semicolonKind = 10
+
+abbrev pub commaKind : ℕ
+commaKind = 11
+
+abbrev pub colonKind : ℕ
+colonKind = 12
+
+abbrev pub openingKind : ℕ
+openingKind = 13
+
+abbrev pub closingKind : ℕ
+closingKind = 14
+
+abbrev pub notKind : ℕ
+notKind = 15
+
+abbrev pub andKind : ℕ
+andKind = 16
+
+abbrev pub orKind : ℕ
+orKind = 17
+
+abbrev pub impliesKind : ℕ
+impliesKind = 18
+
+abbrev pub alikeKind : ℕ
+alikeKind = 19
+
+abbrev pub equalsKind : ℕ
+equalsKind = 20
+
+abbrev pub branch1Kind : ℕ
+branch1Kind = 21
+
+abbrev pub branch2Kind : ℕ
+branch2Kind = 22
+
+-- then a name, a byte that starts no token, and the end of the text
 abbrev pub aName : ℕ
 aName = 23
 
@@ -41,13 +100,13 @@ abbrev pub theEnd : ℕ
 theEnd = 25
 
 -- the number of a spelling in a list whose first has number i; 26, which no token has, if it is not there
-unfoldable pub placeIn : ℕ → List String → String → ℕ
-placeIn i [] w = 26
-placeIn i (v ∷ vs) w = elim (eqt v w) [ true ↦ i | false ↦ placeIn (suc i) vs w ]
+unfoldable pub numberIn : ℕ → List String → String → ℕ
+numberIn i [] w = 26
+numberIn i (v ∷ vs) w = elim (eqt v w) [ true ↦ i | false ↦ numberIn (suc i) vs w ]
 
 -- the token is this word or mark
 unfoldable pub spells : String → Token → Bool
-spells w t = eqb (t .kind) (placeIn 0 (words ++ marks) w)
+spells w t = eqb (t .kind) (numberIn 0 (words ++ textMarks) w)
 
 -- the token is a name, and no word
 abbrev pub isName : Token → Bool
@@ -79,9 +138,9 @@ abbrev pub isBlank : ℕ → Bool
 isBlank b = eqb b 32 || (eqb b 9 || (eqb b 13 || eqb b 10))
 
 -- how many letters or digits s begins with
-unfoldable pub run : List ℕ → ℕ
-run [] = 0
-run (b ∷ s) = elim (isAlnum b) [ true ↦ suc (run s) | false ↦ 0 ]
+unfoldable pub alnumRun : List ℕ → ℕ
+alnumRun [] = 0
+alnumRun (b ∷ s) = elim (isAlnum b) [ true ↦ suc (alnumRun s) | false ↦ 0 ]
 
 -- the kind of the letters and digits w: the place of w among the words numbered from i, else a name
 unfoldable pub wordKind : ℕ → List String → List ℕ → ℕ
@@ -100,7 +159,10 @@ markPiece i (m ∷ ms) s = elim (beginsWith (spell m) s) [ true ↦ record { kin
 
 -- the token that the bytes b ∷ s begin with: "A name is an ASCII letter followed by any number of ASCII letters or digits"
 unfoldable pub piece : ℕ → List ℕ → Piece
-piece b s = elim (isLetter b) [ true ↦ record { kind = wordKind 0 words (b ∷ take (run s) s); size = suc (run s) } | false ↦ markPiece 10 marks (b ∷ s) ]
+piece b s = elim (isLetter b) [
+  | true ↦ record { kind = wordKind 0 words (b ∷ take (alnumRun s) s); size = suc (alnumRun s) }
+  | false ↦ markPiece 10 textMarks (b ∷ s)
+]
 
 -- the tokens of s, whose first byte has place at; the end of the text, of no bytes, is the last. d: more than the bytes of s, so that it never runs out
 unfoldable pub tokens : ℕ → ℕ → List ℕ → List Token

@@ -10,25 +10,25 @@ use borrow.Author.Tests.{eq-eqb, ne-eqb, eqb-true, eqb-false}
 use lib.Dec.{eqb}
 use lib.ListN.{length, getD, drop, drop-of-length-le}
 use lib.Seq.{drop-cons, drop-drop}
-use Rattle.text.specs.Token.{Piece, aStray, spell, marks, markPiece, beginsWith}
+use Rattle.text.specs.Token.{Piece, aStray, spell, textMarks, markPiece, beginsWith}
 use Rattle.tokens.specs.Tokens.{singleKind, markSize}
 
-pub arrow-kind : (t : List ℕ) (v : Bool) → beginsWith (62 ∷ []) t ≡ v → markPiece 10 marks (61 ∷ t) .kind ≡ cond v 18 20
-unfolding markPiece marks spell beginsWith
+pub arrow-kind : (t : List ℕ) (v : Bool) → beginsWith (62 ∷ []) t ≡ v → markPiece 10 textMarks (61 ∷ t) .kind ≡ cond v 18 20
+unfolding markPiece textMarks spell beginsWith
 arrow-kind t true e = rw (e, beginsWith) refl
 arrow-kind t false e = rw (e, beginsWith) refl
 
-pub iff-kind : (t : List ℕ) → beginsWith (61 ∷ 62 ∷ []) t ≡ true → markPiece 10 marks (60 ∷ t) .kind ≡ 19
-unfolding markPiece marks spell beginsWith
+pub iff-kind : (t : List ℕ) → beginsWith (61 ∷ 62 ∷ []) t ≡ true → markPiece 10 textMarks (60 ∷ t) .kind ≡ 19
+unfolding markPiece textMarks spell beginsWith
 iff-kind t e = rw (e, beginsWith) refl
 
-pub less-stray : (t : List ℕ) → beginsWith (61 ∷ 62 ∷ []) t ≡ false → markPiece 10 marks (60 ∷ t) .kind ≡ aStray
-unfolding markPiece marks spell beginsWith
+pub less-stray : (t : List ℕ) → beginsWith (61 ∷ 62 ∷ []) t ≡ false → markPiece 10 textMarks (60 ∷ t) .kind ≡ aStray
+unfolding markPiece textMarks spell beginsWith
 less-stray t e = rw (e, beginsWith) refl
 
 pub branch-kind : (t : List ℕ) (u v : Bool) → beginsWith (48 ∷ []) t ≡ u → beginsWith (49 ∷ []) t ≡ v
-    → markPiece 10 marks (46 ∷ t) .kind ≡ cond u 21 (cond v 22 aStray)
-unfolding markPiece marks spell beginsWith
+    → markPiece 10 textMarks (46 ∷ t) .kind ≡ cond u 21 (cond v 22 aStray)
+unfolding markPiece textMarks spell beginsWith
 branch-kind t true v e f = rw (e, beginsWith) refl
 branch-kind t false true e f = rw (e, f, beginsWith) refl
 branch-kind t false false e f = rw (e, f, beginsWith) refl
@@ -56,17 +56,17 @@ not-this i m ms c w b t e h =
     (ne-eqb c b (λ q. h (sym q)))
 
 -- a byte that begins no longer mark
-pub single-is : (b : ℕ) (t : List ℕ) → (b ≡ 61 → ⊥) → (b ≡ 60 → ⊥) → (b ≡ 46 → ⊥) → markPiece 10 marks (b ∷ t) .kind ≡ singleKind b
-unfolding markPiece marks spell beginsWith singleKind
+pub single-is : (b : ℕ) (t : List ℕ) → (b ≡ 61 → ⊥) → (b ≡ 60 → ⊥) → (b ≡ 46 → ⊥) → markPiece 10 textMarks (b ∷ t) .kind ≡ singleKind b
+unfolding markPiece textMarks spell beginsWith singleKind
 single-is b t h k l =
-    one-byte 10 ";" (drop 1 marks) 59 b t _ refl
-    (one-byte 11 "," (drop 2 marks) 44 b t _ refl
-    (one-byte 12 ":" (drop 3 marks) 58 b t _ refl
-    (one-byte 13 "(" (drop 4 marks) 40 b t _ refl
-    (one-byte 14 ")" (drop 5 marks) 41 b t _ refl
-    (one-byte 15 "~" (drop 6 marks) 126 b t _ refl
-    (one-byte 16 "&" (drop 7 marks) 38 b t _ refl
-    (one-byte 17 "|" (drop 8 marks) 124 b t _ refl
+    one-byte 10 ";" (drop 1 textMarks) 59 b t _ refl
+    (one-byte 11 "," (drop 2 textMarks) 44 b t _ refl
+    (one-byte 12 ":" (drop 3 textMarks) 58 b t _ refl
+    (one-byte 13 "(" (drop 4 textMarks) 40 b t _ refl
+    (one-byte 14 ")" (drop 5 textMarks) 41 b t _ refl
+    (one-byte 15 "~" (drop 6 textMarks) 126 b t _ refl
+    (one-byte 16 "&" (drop 7 textMarks) 38 b t _ refl
+    (one-byte 17 "|" (drop 8 textMarks) 124 b t _ refl
     last)))))))
   where
     last : markPiece 18 ("=>" ∷ "<=>" ∷ "=" ∷ ".0" ∷ ".1" ∷ []) (b ∷ t) .kind ≡ aStray
@@ -91,29 +91,30 @@ module _ (s : List ℕ) (at : ℕ) (h : at < length s) where
   split : drop at s ≡ getD s at 0 ∷ drop (at + 1) s
   split = rw (add-one at) (drop-cons s at 0 h)
 
-  pub kind-arrow : (v : Bool) → getD s at 0 ≡ 61 → beginsWith (62 ∷ []) (drop (at + 1) s) ≡ v → cond v 18 20 ≡ markPiece 10 marks (drop at s) .kind
+  pub kind-arrow : (v : Bool) → getD s at 0 ≡ 61 → beginsWith (62 ∷ []) (drop (at + 1) s) ≡ v → cond v 18 20 ≡ markPiece 10 textMarks (drop at s) .kind
   kind-arrow v e f = rw (split, e) (sym (arrow-kind (drop (at + 1) s) v f))
 
   pub kind-iff : (v : Bool) → getD s at 0 ≡ 60 → beginsWith (61 ∷ []) (drop (at + 1) s) ≡ true → beginsWith (62 ∷ []) (drop (at + 2) s) ≡ v
-      → cond v 19 aStray ≡ markPiece 10 marks (drop at s) .kind
+      → cond v 19 aStray ≡ markPiece 10 textMarks (drop at s) .kind
   kind-iff v e f g =
       let two : at + 1 + 1 ≡ at + 2 = omega arith in
       let n : drop 1 (drop (at + 1) s) ≡ drop (at + 2) s = rw (drop-drop 1 (at + 1) s, two) refl in
       let q : beginsWith (61 ∷ 62 ∷ []) (drop (at + 1) s) ≡ v = begins-two 61 62 (drop (at + 1) s) ∙ rw (f, n) g in
       rw (split, e) (go v q)
     where
-      go : (v : Bool) → beginsWith (61 ∷ 62 ∷ []) (drop (at + 1) s) ≡ v → cond v 19 aStray ≡ markPiece 10 marks (60 ∷ drop (at + 1) s) .kind
+      go : (v : Bool) → beginsWith (61 ∷ 62 ∷ []) (drop (at + 1) s) ≡ v → cond v 19 aStray ≡ markPiece 10 textMarks (60 ∷ drop (at + 1) s) .kind
       go true q = sym (iff-kind (drop (at + 1) s) q)
       go false q = sym (less-stray (drop (at + 1) s) q)
 
-  pub kind-less : getD s at 0 ≡ 60 → beginsWith (61 ∷ []) (drop (at + 1) s) ≡ false → aStray ≡ markPiece 10 marks (drop at s) .kind
+  pub kind-less : getD s at 0 ≡ 60 → beginsWith (61 ∷ []) (drop (at + 1) s) ≡ false → aStray ≡ markPiece 10 textMarks (drop at s) .kind
   kind-less e f = rw (split, e) (sym (less-stray (drop (at + 1) s) (begins-two 61 62 (drop (at + 1) s) ∙ rw f refl)))
 
   pub kind-branch : (u v : Bool) → getD s at 0 ≡ 46 → beginsWith (48 ∷ []) (drop (at + 1) s) ≡ u → beginsWith (49 ∷ []) (drop (at + 1) s) ≡ v
-      → cond u 21 (cond v 22 aStray) ≡ markPiece 10 marks (drop at s) .kind
+      → cond u 21 (cond v 22 aStray) ≡ markPiece 10 textMarks (drop at s) .kind
   kind-branch u v e f g = rw (split, e) (sym (branch-kind (drop (at + 1) s) u v f g))
 
-  pub kind-single : (getD s at 0 ≡ 61 → ⊥) → (getD s at 0 ≡ 60 → ⊥) → (getD s at 0 ≡ 46 → ⊥) → singleKind (getD s at 0) ≡ markPiece 10 marks (drop at s) .kind
+  pub kind-single : (getD s at 0 ≡ 61 → ⊥) → (getD s at 0 ≡ 60 → ⊥) → (getD s at 0 ≡ 46 → ⊥)
+      → singleKind (getD s at 0) ≡ markPiece 10 textMarks (drop at s) .kind
   kind-single x y z = rw split (sym (single-is (getD s at 0) (drop (at + 1) s) x y z))
 
 -- whether a byte stands at a place
@@ -153,8 +154,8 @@ by-kind i (m ∷ ms) s h = go (beginsWith (spell m) s) (by-kind (suc i) ms s (h 
     go true e = h .0
     go false e = e
 
-marks-sized : Sized 10 marks
-unfolding Sized marks spell markSize
+marks-sized : Sized 10 textMarks
+unfolding Sized textMarks spell markSize
 marks-sized = (refl, (refl, (refl, (refl, (refl, (refl, (refl, (refl, (refl, (refl, (refl, (refl, (refl, refl)))))))))))))
 
 begins-le : (w s : List ℕ) → beginsWith w s ≡ true → length w ≤ length s
@@ -178,11 +179,11 @@ within i (m ∷ ms) b t = go (beginsWith (spell m) (b ∷ t)) refl (within (suc 
     go false e h = h
 
 -- THE EQUATION of a mark's size
-pub mark-sized : (s : List ℕ) → markPiece 10 marks s .size ≡ markSize (markPiece 10 marks s .kind)
-mark-sized s = by-kind 10 marks s marks-sized
+pub mark-sized : (s : List ℕ) → markPiece 10 textMarks s .size ≡ markSize (markPiece 10 textMarks s .kind)
+mark-sized s = by-kind 10 textMarks s marks-sized
 
-pub mark-within : (b : ℕ) (t : List ℕ) → markPiece 10 marks (b ∷ t) .size ≤ suc (length t)
-mark-within b t = within 10 marks b t
+pub mark-within : (b : ℕ) (t : List ℕ) → markPiece 10 textMarks (b ∷ t) .size ≤ suc (length t)
+mark-within b t = within 10 textMarks b t
 
 pub size-pos : (k : ℕ) → 0 < markSize k
 unfolding markSize

@@ -7,11 +7,11 @@ use native.Mathlib.Numerals.{add-one}
 use native.Mathlib.Omega.{arith}
 use lib.ListN.{length, getD, take, drop, length-drop, drop-of-length-le}
 use lib.Seq.{drop-cons, drop-drop, getD-drop}
-use Rattle.text.specs.Token.{Piece, isBlank, isLetter, isAlnum, run, words, wordKind, marks, markPiece, piece, tokens, tokensOf}
-use Rattle.text.specs.Grammar.{next, rest}
+use Rattle.text.specs.Token.{Piece, isBlank, isLetter, isAlnum, alnumRun, words, wordKind, textMarks, markPiece, piece, tokens, tokensOf}
+use Rattle.text.specs.Grammar.{peek, rest}
 use Rattle.text.proofs.Steps.{tokenAt, tokensFrom, tokens-blank, tokens-token}
 use Rattle.tokens.specs.declared.Token.{Token}
-use Rattle.tokens.specs.Tokens.{part, Span, tokensAt, readFrom, Stands, span, markSize}
+use Rattle.tokens.specs.Tokens.{part, Span, tokensAt, readFrom, StandsNext, span, markSize}
 use Rattle.tokens.proofs.Marks.{mark-sized, mark-within, size-pos}
 
 -- the whole text's tokens are those at its start
@@ -54,8 +54,8 @@ span-fails p (b ∷ l) h = go (p b) refl h (span-fails p l)
     go true e k ih = ih (omega arith)
     go false e k ih = e
 
-run-is : (l : List ℕ) → run l ≡ span isAlnum l
-unfolding run span
+run-is : (l : List ℕ) → alnumRun l ≡ span isAlnum l
+unfolding alnumRun span
 run-is [] = refl
 run-is (b ∷ l) = ap (λ (n : ℕ). elim (isAlnum b) as (λ _. ℕ) [ true ↦ suc n | false ↦ 0 ]) (run-is l)
 
@@ -82,10 +82,10 @@ module _ (s : List ℕ) (at start : ℕ) (e : start ≡ at + span isBlank (drop 
       let q = length-drop at s in
       rw (e, ← getD-drop at s (span isBlank (drop at s)) 0) (span-fails isBlank (drop at s) (omega arith))
 
-  pub stands-end : length s ≤ start → Stands s at (record { kind = 25; start = start; stop = start })
+  pub stands-end : length s ≤ start → StandsNext s at (record { kind = 25; start = start; stop = start })
   unfolding tokensAt tokens
   stands-end h = record {
-    stands = ap next skipped ∙ last;
+    stands = ap peek skipped ∙ last;
     goes-on = λ z. absurd (z refl);
     onward = λ z. absurd (z refl);
     ordered = omega arith;
@@ -94,7 +94,7 @@ module _ (s : List ℕ) (at start : ℕ) (e : start ≡ at + span isBlank (drop 
     long = λ z. absurd (z refl);
   }
     where
-      last : next (tokensAt s start) ≡ readFrom s (record { kind = 25; start = start; stop = start })
+      last : peek (tokensAt s start) ≡ readFrom s (record { kind = 25; start = start; stop = start })
       last = let q : start - start ≡ 0 = omega arith in rw (drop-of-length-le s h, q) refl
 
   -- what a token of size n there says
@@ -113,12 +113,12 @@ module _ (s : List ℕ) (at start : ℕ) (e : start ≡ at + span isBlank (drop 
         (ap (drop (here .size)) (sym (drop-cons s start 0 h)) ∙ drop-drop (here .size) start s)
 
     pub stands-piece : (k stop : ℕ) → k ≡ here .kind → stop ≡ start + here .size → 0 < here .size → stop ≤ length s
-        → Stands s at (record { kind = k; start = start; stop = stop })
+        → StandsNext s at (record { kind = k; start = start; stop = stop })
     stands-piece k stop ek es pos l =
         let q : stop - start ≡ here .size = omega arith in
         let whole = skipped ∙ first-token in
         record {
-          stands = ap next whole ∙ rw (ek, q, drop-cons s start 0 h, es) refl;
+          stands = ap peek whole ∙ rw (ek, q, drop-cons s start 0 h, es) refl;
           goes-on = λ z. ap rest whole ∙ rw (sym es) refl;
           onward = λ z. (omega arith, l);
           ordered = omega arith;
@@ -136,20 +136,20 @@ module _ (s : List ℕ) (at start : ℕ) (e : start ≡ at + span isBlank (drop 
           record { ordered = omega arith; inside = omega arith }
 
       pub stands-word : (k : ℕ) → isLetter (getD s start 0) ≡ true
-          → k ≡ wordKind 0 words (part s start stop) → Stands s at (record { kind = k; start = start; stop = stop })
+          → k ≡ wordKind 0 words (part s start stop) → StandsNext s at (record { kind = k; start = start; stop = stop })
       unfolding piece
       stands-word k v ek =
           let b = getD s start 0 in
           let t = drop (suc start) s in
-          let n : span isAlnum (drop (start + 1) s) ≡ run t = rw (add-one start) (sym (run-is t)) in
-          let q : stop - start ≡ suc (run t) = omega arith in
-          let w : part s start stop ≡ b ∷ take (run t) t = rw (drop-cons s start 0 h, q) refl in
-          let p : here ≡ record { kind = wordKind 0 words (b ∷ take (run t) t); size = suc (run t) } = rw (v, piece) refl in
+          let n : span isAlnum (drop (start + 1) s) ≡ alnumRun t = rw (add-one start) (sym (run-is t)) in
+          let q : stop - start ≡ suc (alnumRun t) = omega arith in
+          let w : part s start stop ≡ b ∷ take (alnumRun t) t = rw (drop-cons s start 0 h, q) refl in
+          let p : here ≡ record { kind = wordKind 0 words (b ∷ take (alnumRun t) t); size = suc (alnumRun t) } = rw (v, piece) refl in
           stands-piece k stop (ek ∙ rw (w, p) refl) (rw p (omega arith)) (rw p (omega arith)) (word-span .inside)
 
     -- a mark or a stray byte
-    module _ (k : ℕ) (ek : k ≡ markPiece 10 marks (drop start s) .kind) where
-      size-is : markSize k ≡ markPiece 10 marks (getD s start 0 ∷ drop (suc start) s) .size
+    module _ (k : ℕ) (ek : k ≡ markPiece 10 textMarks (drop start s) .kind) where
+      size-is : markSize k ≡ markPiece 10 textMarks (getD s start 0 ∷ drop (suc start) s) .size
       size-is = rw (ek, drop-cons s start 0 h) (sym (mark-sized (getD s start 0 ∷ drop (suc start) s)))
 
       pub mark-fits : start + markSize k ≤ length s
@@ -159,16 +159,16 @@ module _ (s : List ℕ) (at start : ℕ) (e : start ≡ at + span isBlank (drop 
           let e = size-is in
           omega arith
 
-      pub stands-mark : isLetter (getD s start 0) ≡ false → Stands s at (record { kind = k; start = start; stop = start + markSize k })
+      pub stands-mark : isLetter (getD s start 0) ≡ false → StandsNext s at (record { kind = k; start = start; stop = start + markSize k })
       unfolding piece
       stands-mark v =
-          let p : here ≡ markPiece 10 marks (getD s start 0 ∷ drop (suc start) s) = rw (v, piece) refl in
+          let p : here ≡ markPiece 10 textMarks (getD s start 0 ∷ drop (suc start) s) = rw (v, piece) refl in
           stands-piece k (start + markSize k) (ek ∙ rw (drop-cons s start 0 h, p) refl) (rw (p, size-is) refl) (rw (p, ← size-is) (size-pos k)) mark-fits
 
 -- a token stands at its own start
-pub stands-self : {s : List ℕ} {at : ℕ} {t : Token} → Stands s at t → Stands s (t .start) t
+pub stands-self : {s : List ℕ} {at : ℕ} {t : Token} → StandsNext s at t → StandsNext s (t .start) t
 stands-self {s} {at} {t} st = record {
-  stands = ap next (sym (st .skips)) ∙ st .stands;
+  stands = ap peek (sym (st .skips)) ∙ st .stands;
   goes-on = λ z. ap rest (sym (st .skips)) ∙ st .goes-on z;
   onward = λ z. (st .long z, st .onward z .1);
   ordered = st .ordered;

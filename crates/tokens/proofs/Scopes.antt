@@ -14,7 +14,7 @@ use Rattle.text.specs.Syntax.{Name, Order}
 use Rattle.text.specs.Grammar.{sameOrder, hasOrder}
 use Rattle.text.specs.Records.{trackOf}
 use Rattle.tokens.specs.Tokens.{part, Span}
-use Rattle.tokens.specs.InUse.{entryOf, scopeOf, NamesFit, Found, Bound}
+use Rattle.tokens.specs.InUse.{nameEntry, scopeOf, NamesFit, Found, Bound}
 use Rattle.tokens.proofs.Parts.{part-cons, part-empty, part-length}
 
 -- ---- no name, and how many
@@ -114,21 +114,21 @@ module _ {s ns : List ℕ} {n : ℕ} {x : Name} where
   passed-first = record { within = omega arith; tracks = refl; orders = λ o. refl }
 
   module _ {i : ℕ} (p : Passed s ns n x i) (j : ℕ) (q : i ≡ suc j) where
-    track-by : {v : Bool} → sameBytes x (entryOf s ns j .name) ≡ v → trackOf (scopeOf s ns n) x ≡ cond v j (trackOf (scopeOf s ns j) x)
+    track-by : {v : Bool} → sameBytes x (nameEntry s ns j .name) ≡ v → trackOf (scopeOf s ns n) x ≡ cond v j (trackOf (scopeOf s ns j) x)
     unfolding scopeOf trackOf
     track-by {v} e =
         p .tracks ∙ ap (λ (k : ℕ). trackOf (scopeOf s ns k) x) q
         ∙ ap₂ (λ (u : Bool) (k : ℕ). cond u k (trackOf (scopeOf s ns j) x)) e (scope-length s ns j)
 
-    order-by : {v : Bool} → sameBytes x (entryOf s ns j .name) ≡ v → (o : Order)
-        → hasOrder (scopeOf s ns n) o x ≡ cond v (sameOrder o (entryOf s ns j .order)) (hasOrder (scopeOf s ns j) o x)
+    order-by : {v : Bool} → sameBytes x (nameEntry s ns j .name) ≡ v → (o : Order)
+        → hasOrder (scopeOf s ns n) o x ≡ cond v (sameOrder o (nameEntry s ns j .order)) (hasOrder (scopeOf s ns j) o x)
     unfolding scopeOf hasOrder
     order-by {v} e o =
         p .orders o ∙ ap (λ (k : ℕ). hasOrder (scopeOf s ns k) o x) q
-        ∙ ap (λ (u : Bool). cond u (sameOrder o (entryOf s ns j .order)) (hasOrder (scopeOf s ns j) o x)) e
+        ∙ ap (λ (u : Bool). cond u (sameOrder o (nameEntry s ns j .order)) (hasOrder (scopeOf s ns j) o x)) e
 
     -- name j, the latest that is left, is tested by r
-    module _ {r : Bool} (e : r ≡ sameBytes x (entryOf s ns j .name)) where
+    module _ {r : Bool} (e : r ≡ sameBytes x (nameEntry s ns j .name)) where
       pub passed-next : r ≡ false → Passed s ns n x j
       passed-next t = record { within = omega (arith, p .within); tracks = track-by (sym e ∙ t); orders = order-by (sym e ∙ t) }
 

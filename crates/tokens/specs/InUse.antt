@@ -16,13 +16,13 @@ orderOf n = cond (eqb n 1) first second
 
 -- entry i of the array ns, three numbers: "A name is an ASCII letter followed by any number of ASCII letters or digits", its bytes in the text s
 -- from the first number up to the second; the third is its order
-abbrev pub entryOf : List ℕ → List ℕ → ℕ → Declared
-entryOf s ns i = record { name = part s (getD ns (3 * i) 0) (getD ns (3 * i + 1) 0); order = orderOf (getD ns (3 * i + 2) 0) }
+abbrev pub nameEntry : List ℕ → List ℕ → ℕ → Declared
+nameEntry s ns i = record { name = part s (getD ns (3 * i) 0) (getD ns (3 * i + 1) 0); order = orderOf (getD ns (3 * i + 2) 0) }
 
 -- the names in use: "an inner one hides an outer", so the latest stands first
 unfoldable pub scopeOf : List ℕ → List ℕ → ℕ → Scope
 scopeOf s ns zero = []
-scopeOf s ns (suc i) = entryOf s ns i ∷ scopeOf s ns i
+scopeOf s ns (suc i) = nameEntry s ns i ∷ scopeOf s ns i
 
 -- the array ns holds n names: at most eight, since "a name that needs a ninth track" is refused (request A2), and each a part of the text s
 pub record NamesFit (s : List ℕ) (ns : List ℕ) (n : ℕ) : Type 0 where

@@ -7,8 +7,9 @@ use mathlib.Core.Bool.{Bool, true, false, cond}
 use mathlib.Core.List.{List, [], _∷_}
 use lib.Dec.{eqb}
 use lib.ListN.{length, take, drop}
-use Rattle.text.specs.Token.{Token as TextToken, theEnd, aName, aStray, spell, tokens}
-use Rattle.text.specs.Grammar.{next, rest}
+use Rattle.text.specs.Token.{Token as TextToken, semicolonKind, commaKind, colonKind, openingKind, closingKind, notKind, andKind, orKind}
+use Rattle.text.specs.Token.{impliesKind, alikeKind, branch1Kind, branch2Kind, theEnd, aName, aStray, spell, tokens}
+use Rattle.text.specs.Grammar.{peek, rest}
 use Rattle.tokens.specs.declared.Token.{Token}
 
 -- the bytes of s from place a up to place e
@@ -29,8 +30,8 @@ abbrev pub readFrom : List ℕ → Token → TextToken
 readFrom s r = record { kind = r .kind; bytes = part s (r .start) (r .stop); start = r .start; stop = r .stop }
 
 -- r is the token that stands next at place `at` of s; the end of the text is never taken
-pub record Stands (s : List ℕ) (at : ℕ) (r : Token) : Type 0 where
-  pub stands : next (tokensAt s at) ≡ readFrom s r
+pub record StandsNext (s : List ℕ) (at : ℕ) (r : Token) : Type 0 where
+  pub stands : peek (tokensAt s at) ≡ readFrom s r
   pub goes-on : (r .kind ≡ theEnd → ⊥) → rest (tokensAt s at) ≡ tokensAt s (r .stop)
   pub onward : (r .kind ≡ theEnd → ⊥) → (at < r .stop) × (r .stop ≤ length s)
   pub ordered : r .start ≤ r .stop
@@ -57,9 +58,9 @@ packedKind i (w ∷ ws) v = elim (eqb v (packed (spell w))) [ true ↦ i | false
 -- the kind of the marks of one byte that begin no longer one, else a stray
 unfoldable pub singleKind : ℕ → ℕ
 singleKind b =
-    cond (eqb 59 b) 10 (cond (eqb 44 b) 11 (cond (eqb 58 b) 12 (cond (eqb 40 b) 13 (cond (eqb 41 b) 14
-    (cond (eqb 126 b) 15 (cond (eqb 38 b) 16 (cond (eqb 124 b) 17 aStray)))))))
+    cond (eqb 59 b) semicolonKind (cond (eqb 44 b) commaKind (cond (eqb 58 b) colonKind (cond (eqb 40 b) openingKind
+    (cond (eqb 41 b) closingKind (cond (eqb 126 b) notKind (cond (eqb 38 b) andKind (cond (eqb 124 b) orKind aStray)))))))
 
 -- the size of a mark by its kind; a stray is one byte
 unfoldable pub markSize : ℕ → ℕ
-markSize k = cond (eqb k 19) 3 (cond (eqb k 18) 2 (cond (eqb k 21) 2 (cond (eqb k 22) 2 1)))
+markSize k = cond (eqb k alikeKind) 3 (cond (eqb k impliesKind) 2 (cond (eqb k branch1Kind) 2 (cond (eqb k branch2Kind) 2 1)))

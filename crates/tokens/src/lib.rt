@@ -3,17 +3,11 @@ ghost use mathlib.Core.Path.{_≡_};
 ghost use mathlib.Core.List.{[], _∷_};
 ghost use Prim.Native.Nat.{_+_, _<_, _≤_};
 ghost use lib.ListN.{length, drop};
-ghost use Rattle.text.specs.Token.{isBlank, isLetter, isAlnum, words, wordKind, marks, markPiece, beginsWith};
-ghost use Rattle.tokens.specs.Tokens.{part, Span, Stands, span, packed, packedKind, singleKind, markSize};
+ghost use Rattle.text.specs.Token.{isBlank, isLetter, isAlnum, words, wordKind, textMarks, markPiece, beginsWith};
+ghost use Rattle.tokens.specs.Tokens.{part, Span, StandsNext, span, packed, packedKind, singleKind, markSize};
+use text::kinds;
 
 pub mod names;
-
-// Kinds that code needs beside the numbers of the words and marks.
-pub const NAME: usize = 23;
-
-pub const STRAY: usize = 24;
-
-pub const END: usize = 25;
 
 // A token: its kind, and the byte places where it starts and ends.
 pub struct Token {
@@ -118,17 +112,17 @@ fn packed_kind(v: u64) -> usize
     ensures { λ r. ⌜ r ≡ packedKind 0 words v ⌝ }
 {
     match v {
-        0x1_7332_7377 => 0,
-        0x1_3172_6176 => 1,
-        0x1_3272_6176 => 2,
-        0x131_7865 => 3,
-        0x132_7865 => 4,
-        0x1_316C_6C61 => 5,
-        0x1_326C_6C61 => 6,
-        0x162_7573 => 7,
-        0x1_6E69 => 8,
-        0x1_746F_6F72 => 9,
-        _ => 23,
+        0x1_7332_7377 => kinds::WS2S,
+        0x1_3172_6176 => kinds::VAR1,
+        0x1_3272_6176 => kinds::VAR2,
+        0x131_7865 => kinds::EX1,
+        0x132_7865 => kinds::EX2,
+        0x1_316C_6C61 => kinds::ALL1,
+        0x1_326C_6C61 => kinds::ALL2,
+        0x162_7573 => kinds::SUB,
+        0x1_6E69 => kinds::IN,
+        0x1_746F_6F72 => kinds::ROOT,
+        _ => kinds::NAME,
     }
 }
 
@@ -138,7 +132,7 @@ fn word_kind(text: &[u8], start: usize, stop: usize) -> usize
     ensures { λ r. ⌜ r ≡ wordKind 0 words (part (now (text .entry)) start stop) ⌝ }
 {
     if 4 < stop - start {
-        return NAME;
+        return kinds::NAME;
     }
     packed_kind(pack(text, start, stop))
 }
@@ -148,15 +142,15 @@ fn single_kind(b: u8) -> usize
     ensures { λ r. ⌜ r ≡ singleKind b ⌝ }
 {
     match b {
-        b';' => 10,
-        b',' => 11,
-        b':' => 12,
-        b'(' => 13,
-        b')' => 14,
-        b'~' => 15,
-        b'&' => 16,
-        b'|' => 17,
-        _ => STRAY,
+        b';' => kinds::SEMICOLON,
+        b',' => kinds::COMMA,
+        b':' => kinds::COLON,
+        b'(' => kinds::OPENING,
+        b')' => kinds::CLOSING,
+        b'~' => kinds::NOT,
+        b'&' => kinds::AND,
+        b'|' => kinds::OR,
+        _ => kinds::STRAY,
     }
 }
 
@@ -173,31 +167,31 @@ fn holds(text: &[u8], at: usize, b: u8) -> bool
 // The kind of the longest mark at a place, or of a stray byte.
 fn mark_kind(text: &[u8], at: usize) -> usize
     requires { ⌜ at < length (now text) ⌝ }
-    ensures { λ r. ⌜ r ≡ markPiece 10 marks (drop at (now (text .entry))) .kind ⌝ }
+    ensures { λ r. ⌜ r ≡ markPiece 10 textMarks (drop at (now (text .entry))) .kind ⌝ }
 {
     let b = text[at];
     if b == b'=' {
         if holds(text, at + 1, b'>') {
-            return 18;
+            return kinds::IMPLIES;
         }
-        return 20;
+        return kinds::EQUALS;
     }
     if b == b'<' {
         if holds(text, at + 1, b'=') {
             if holds(text, at + 2, b'>') {
-                return 19;
+                return kinds::ALIKE;
             }
         }
-        return STRAY;
+        return kinds::STRAY;
     }
     if b == b'.' {
         if holds(text, at + 1, b'0') {
-            return 21;
+            return kinds::BRANCH_1;
         }
         if holds(text, at + 1, b'1') {
-            return 22;
+            return kinds::BRANCH_2;
         }
-        return STRAY;
+        return kinds::STRAY;
     }
     single_kind(b)
 }
@@ -207,22 +201,22 @@ fn mark_size(kind: usize) -> usize
     ensures { λ r. ⌜ r ≡ markSize kind ⌝ }
 {
     match kind {
-        18 => 2,
-        19 => 3,
-        21 => 2,
-        22 => 2,
+        kinds::IMPLIES => 2,
+        kinds::ALIKE => 3,
+        kinds::BRANCH_1 => 2,
+        kinds::BRANCH_2 => 2,
         _ => 1,
     }
 }
 
 // The token that stands next at a place; after the last one, the end.
 pub fn token_at(text: &[u8], at: usize) -> Token
-    ensures { λ r. ⌜ Stands (now (text .entry)) at r ⌝ }
+    ensures { λ r. ⌜ StandsNext (now (text .entry)) at r ⌝ }
 {
     let start = blanks_end(text, at);
     if text.len() <= start {
         return Token {
-            kind: END,
+            kind: kinds::END,
             start,
             stop: start,
         };

@@ -11,7 +11,7 @@ ghost use Rattle.judge.specs.Numbers.{judgementNumbers, JudgedInNumbers};
 ghost use Rattle.decide.specs.Decide.{verdictOf, workspaceOf, outOf};
 ghost use Rattle.decide.specs.Numbers.{verdictNumbers, DecidedInNumbers, ShallowInNumbers};
 ghost use Rattle.text.specs.Grammar.{textOf};
-ghost use Rattle.text.specs.Import.{import, outAfter};
+ghost use Rattle.text.specs.Import.{import, outAfterImport};
 ghost use Rattle.import.specs.Answers.{importedOf, faultOf};
 ghost use Rattle.import.specs.Numbers.{writtenNumbers, faultNumbers, ImportedInNumbers};
 use decide::numbers::VerdictNumbers;
@@ -82,7 +82,7 @@ pub extern "C" fn ws2s_decide(
 #[no_mangle]
 pub extern "C" fn ws2s_import(text: &[u8], out: &mut [u8]) -> WrittenNumbers
     ensures { λ r. ⌜ r ≡ writtenNumbers (importedOf (import (now (text .entry)) (length (now (out .entry))))) ⌝ }
-    ensures { λ _. ⌜ now (out .exit) ≡ outAfter (import (now (text .entry)) (length (now (out .entry)))) (now (out .entry)) ⌝ }
+    ensures { λ _. ⌜ now (out .exit) ≡ outAfterImport (import (now (text .entry)) (length (now (out .entry)))) (now (out .entry)) ⌝ }
     ensures { λ r. ⌜ ImportedInNumbers (now (text .entry)) r (now (out .exit)) ⌝ }
 {
     written_numbers(import::import_text(text, out))

@@ -8,19 +8,11 @@ use Rattle.drafting.proofs.put.Tie as tie
 returns : tie.Need-returns
 returns c = let h = c .if1 .taken in (omega arith, λ rs a b d e f. drafted-full _ a b d h)
 
-mul-words-2 : tie.Need-mul-words-2
-mul-words-2 c = let b = c .before .pre .1 (c .if1 .left) in search needs
-
-add-words : tie.Need-add-words
-add-words c = let b = c .before .pre .1 (c .if1 .left) in search needs
-
-add-words-2 : tie.Need-add-words-2
-add-words-2 c = let b = c .before .pre .1 (c .if1 .left) in search needs
+record-word-requires : tie.Need-record-word-requires
+record-word-requires c κs = let b = c .before .pre .1 (c .if1 .left) in search needs
 
 returns-2 : tie.Need-returns-2
-returns-2 c = let h = c .if1 .left in (omega arith, λ rs a b d e f. rw (e h, f h) (drafted-one _ a b d h))
+returns-2 c = let h = c .before .if1 .left in (omega arith, λ rs a b d e f. rw (← e h, ← f h) (drafted-one _ _ _ d (c .record-word .ensures) h))
 
 pub put-spec : {M : Type 1} → statement M
-put-spec =
-    tie.close
-    (tie.spec returns (λ c. search needs) mul-words-2 add-words add-words-2 (λ c. search needs) (λ c. search needs) (λ c. search needs) returns-2)
+put-spec = tie.close (tie.spec returns record-word-requires (λ c. search needs) (λ c. search needs) (λ c. search needs) returns-2)

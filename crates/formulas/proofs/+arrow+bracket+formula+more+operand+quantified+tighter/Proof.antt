@@ -3,7 +3,7 @@
 use native.Mathlib.Omega.{arith}
 use borrow.Author.Needs.{needs}
 use Rattle.tokens.specs.InUse.{scopeOf}
-use Rattle.formulas.specs.Reading.{joins-alike, joins-either, joins-both, kindAt, readingOf}
+use Rattle.formulas.specs.Reading.{joins-alike, joins-either, joins-both, nextKind, readingOf}
 use Rattle.formulas.proofs.Strengths.{joining-most, opens-quantifier}
 use Rattle.formulas.proofs.TokenKinds.{closed-by, opened-by, order-place, order-set}
 use Rattle.formulas.proofs.Levels.{counted, tracked-as, size-after, looks-ready, got-zero, refused-some, level-as, bound-fits, binder-there}
@@ -452,7 +452,7 @@ operand-quantified-requires t c κs =
     let m = c₁₁ .pre .0 in
     let z = c₆ .if2 .left in
     let q = opens-quantifier _ (opened-by _ _ (c₈ .opens .ensures) (c₇ .if1 .left)) (c₅ .if3 .left) (c₄ .if4 .left) in
-    let o = order-place (kindAt (c₁₁ .args .here .now)) _ (c₃ .binds-place .ensures) (c .before .before .if5 .taken) in
+    let o = order-place (nextKind (c₁₁ .args .here .now)) _ (c₃ .binds-place .ensures) (c .before .before .if5 .taken) in
     (omega arith, (c₁₁ .pre .1 .0, (c₁₁ .pre .1 .1, (q, o))))
 
 operand-returns-5 : (t : ℕ) → operand-lts.Need-returns-5 (operand-calls t) (operand-at t) operand.Post
@@ -481,7 +481,7 @@ operand-quantified-requires-2 t c κs =
     let m = c₁₁ .pre .0 in
     let z = c₆ .if2 .left in
     let q = opens-quantifier _ (opened-by _ _ (c₈ .opens .ensures) (c₇ .if1 .left)) (c₅ .if3 .left) (c₄ .if4 .left) in
-    let o = order-set (kindAt (c₁₁ .args .here .now)) _ (c₃ .binds-place .ensures) (c .before .before .if5 .left) in
+    let o = order-set (nextKind (c₁₁ .args .here .now)) _ (c₃ .binds-place .ensures) (c .before .before .if5 .left) in
     (omega arith, (c₁₁ .pre .1 .0, (c₁₁ .pre .1 .1, (q, o))))
 
 operand-returns-6 : (t : ℕ) → operand-lts.Need-returns-6 (operand-calls t) (operand-at t) operand.Post

@@ -1,4 +1,4 @@
--- `rule::check_body` meets its contract: the padding's fault, else the records'. Assumes nothing.
+-- `check_body` meets its contract: the padding's fault, else the records'. Assumes nothing.
 use mathlib.Core.Path.{_≡_}
 use Prim.Native.Nat.{_*_, _+_, _≤_}
 use native.Mathlib.Omega.{arith}

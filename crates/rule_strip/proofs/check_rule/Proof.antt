@@ -1,4 +1,4 @@
--- `rule::check_rule` meets its contract: the head's fault, else what the rest of the check answers. Assumes nothing.
+-- `check_rule` meets its contract: the head's fault, else what the rest of the check answers. Assumes nothing.
 use mathlib.Core.Path.{_≡_, sym, _∙_}
 use native.Mathlib.Omega.{arith}
 use borrow.Author.Needs.{needs}

@@ -1,4 +1,4 @@
--- `rule::field_fault` meets its contract, from those of `limit` and `use_refusal`. Assumes nothing.
+-- `field_fault` meets its contract, from those of `limit` and `use_refusal`. Assumes nothing.
 use mathlib.Core.Path.{refl}
 use borrow.Author.Needs.{needs}
 use borrow.Author.Tests.{le-leb, lt-leb}

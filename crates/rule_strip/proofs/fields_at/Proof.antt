@@ -1,4 +1,4 @@
--- `rule::fields_at` meets its contract, from that of `field_at`. Assumes nothing.
+-- `fields_at` meets its contract, from that of `field_at`. Assumes nothing.
 use mathlib.Core.Path.{refl}
 use borrow.Author.Needs.{needs}
 use Rattle.rule_strip.specs.RuleStrip.{recordAt}

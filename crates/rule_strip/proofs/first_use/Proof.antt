@@ -1,4 +1,4 @@
--- `rule::first_use` meets its contract: its table has the uses in order. Assumes nothing.
+-- `first_use` meets its contract: its table has the uses in order. Assumes nothing.
 use borrow.Author.Needs.{needs}
 use Rattle.rule_strip.specs.RuleStrip.{firstUses, firstUse}
 use Rattle.rule_strip.specs.declared.Use.the-variants.{Variable, Unused}

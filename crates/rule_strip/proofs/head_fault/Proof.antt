@@ -1,4 +1,4 @@
--- `rule::head_fault` meets its contract: each return follows from the tests that led to it. Assumes nothing.
+-- `head_fault` meets its contract: each return follows from the tests that led to it. Assumes nothing.
 use mathlib.Core.Path.{_≡_, refl, sym, _∙_}
 use mathlib.Core.Bool.{Bool, true, false, not}
 use mathlib.Core.List.{List}

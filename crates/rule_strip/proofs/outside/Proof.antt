@@ -1,4 +1,4 @@
--- `rule::outside` meets its contract, test by test. Assumes nothing.
+-- `outside` meets its contract, test by test. Assumes nothing.
 use mathlib.Core.Path.{_≡_, refl}
 use mathlib.Core.Bool.{Bool, true, false, not}
 use Prim.Native.Nat.{ℕ}

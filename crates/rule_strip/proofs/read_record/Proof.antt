@@ -1,4 +1,4 @@
--- `rule::read_record` meets its contract, from those of `fields_at` and `record_fault`. Assumes nothing.
+-- `read_record` meets its contract, from those of `fields_at` and `record_fault`. Assumes nothing.
 use borrow.Author.Needs.{needs}
 use Rattle.rule_strip.proofs.RuleChecks.{read-is, refused-is}
 use Rattle.rule_strip.proofs.read_record.Statement.{statement}

@@ -1,4 +1,4 @@
--- `rule::read_records` meets its contract. The loop's invariant is `Reached`; the measure is the number of records left. Assumes nothing.
+-- `read_records` meets its contract. The loop's invariant is `Reached`; the measure is the number of records left. Assumes nothing.
 use Prim.Native.Nat.{_-_}
 use native.Mathlib.Omega.{arith}
 use borrow.Author.Needs.{needs}

@@ -1,4 +1,4 @@
--- `rule::record_fault` meets its contract: the op's fault, else the first field's, else the second's. Assumes nothing.
+-- `record_fault` meets its contract: the op's fault, else the first field's, else the second's. Assumes nothing.
 use mathlib.Core.Path.{refl, sym, _∙_}
 use borrow.Author.Needs.{needs}
 use borrow.Author.Tests.{le-leb}

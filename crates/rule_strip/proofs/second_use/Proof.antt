@@ -1,4 +1,4 @@
--- `rule::second_use` meets its contract: its table has the uses in order. Assumes nothing.
+-- `second_use` meets its contract: its table has the uses in order. Assumes nothing.
 use borrow.Author.Needs.{needs}
 use Rattle.rule_strip.specs.RuleStrip.{secondUses, secondUse}
 use Rattle.rule_strip.specs.declared.Use.the-variants.{Variable, Unused}
