@@ -49,7 +49,8 @@ fn judge_accepted(rule: &[u8], c: usize, ws: &mut [u8], tree: &[u8]) -> Judgemen
         Built::Over(r) => Judgement::Refused(Refusal::TooManyStates(r as u64)),
         Built::Ready(k) => {
             let s = layout::shape_for(rule_strip::variables_of(rule), c);
-            if reading::accepted(ws, s, rule_strip::count_of(rule) - 1, k, tree) {
+            let last = rule_strip::count_of(rule) - 1;
+            if reading::accepted(ws, s, last, k, tree) {
                 return Judgement::Yes;
             }
             Judgement::No

@@ -27,7 +27,7 @@ accepted-requires : tie.Need-accepted-requires
 accepted-requires c κs =
     let v = c .before .before .before in
     let s = start-of (v .before) in
-    rw (c .before .before .shape-for .ensures, v .variables-of .ensures, c .count-of .ensures) (ready (v .before) .readable, tree-readable (s .pre .1) (s .args .c))
+    rw (c .before .before .shape-for .ensures, v .variables-of .ensures, c .before .count-of .ensures) (ready (v .before) .readable, tree-readable (s .pre .1) (s .args .c))
 
 -- what the machine says of the tree
 ruled : (c : tie.After-accepted)
@@ -37,7 +37,7 @@ ruled c =
     let b = v .before in
     let s = start-of b in
     rule-judged (s .pre .0) (s .pre .1) (ready b) _
-    (rw (c .before .before .before .shape-for .ensures, v .variables-of .ensures, c .before .count-of .ensures) at (c .accepted .ensures))
+    (rw (c .before .before .before .shape-for .ensures, v .variables-of .ensures, c .before .before .count-of .ensures) at (c .accepted .ensures))
 
 returns : tie.Need-returns
 unfolding rulingJudgement say
@@ -58,6 +58,6 @@ pub judge-accepted-spec : {M : Type 1} → statement M
 judge-accepted-spec =
     tie.close
     (tie.spec (λ c κs. search needs) (λ c. search needs) (λ c. search needs) (λ c κs. rule-sizes (start-of c .pre .0) .0) (λ c κs. search needs)
-    (λ c κs. rule-sizes (start-of (c .before .before .before) .pre .0) .0)
-    (λ c. let z = rule-sizes (start-of (c .before .before .before .before) .pre .0) in omega (arith, c .count-of .ensures)) accepted-requires
+    (λ c κs. rule-sizes (start-of (c .before .before) .pre .0) .0)
+    (λ c. let z = rule-sizes (start-of (c .before .before .before) .pre .0) in omega (arith, c .count-of .ensures)) accepted-requires
     (λ c. search needs) returns (λ c. search needs) returns-2 (λ c. search needs) returns-3)
