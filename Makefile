@@ -22,7 +22,7 @@ VERDICT := target/bin/verdict
 HOST := target/host
 HEADER := include/ws2s.h
 ORACLE := tests/oracle/oracle.c tests/oracle/import.c
-ORACLE_HEADERS := tests/oracle/oracle.h tests/oracle/atom.h
+TEST_HEADERS := $(wildcard tests/host/*.h tests/oracle/*.h) $(HEADER)
 CLI := cli/ws2s.c cli/words.c cli/drawing.c cli/text.c
 CLI_HEADERS := cli/words.h cli/drawing.h cli/text.h
 VECTORS := $(wildcard tests/vectors/base/*.txt)
@@ -77,44 +77,44 @@ $(SHARED): $(ARCHIVE) $(HEADER) Makefile
 	$(CC) $(LDFLAGS) -shared -Wl,-soname,$(SONAME) -Wl,-z,defs -Wl,--whole-archive $(ARCHIVE) -Wl,--no-whole-archive -o $@
 	@ln -sf $(@F) $(@D)/$(SONAME) && ln -sf $(SONAME) $(@D)/libws2s.so
 
-# A program of the C files among what it is made of, and the archive.
+# A program of the C files among what it is made of, and the archive. Tests share most headers, so each is made anew if any has changed.
 define link
 @mkdir -p $(@D)
-$(CC) $(CFLAGS) -Iinclude -Itests/oracle $(LDFLAGS) $(filter %.c,$^) $(ARCHIVE) -o $@
+$(CC) $(CFLAGS) -Iinclude -Itests/oracle -Itests/host $(LDFLAGS) $(filter %.c,$^) $(ARCHIVE) -o $@
 endef
 
 $(COMMAND): $(CLI) $(CLI_HEADERS) $(HEADER) $(ARCHIVE)
 	$(link)
 
-$(HOST)/vectors: tests/host/vectors.c tests/host/lent.h tests/host/request.h tests/host/strip.h $(HEADER) $(ARCHIVE)
+$(HOST)/vectors: tests/host/vectors.c $(TEST_HEADERS) $(ARCHIVE)
 	$(link)
 
 # The same over the shared library.
-$(HOST)/vectors-shared: tests/host/vectors.c tests/host/lent.h tests/host/request.h tests/host/strip.h $(HEADER) $(SHARED)
+$(HOST)/vectors-shared: tests/host/vectors.c $(TEST_HEADERS) $(SHARED)
 	@mkdir -p $(@D)
 	$(CC) $(CFLAGS) -Iinclude $< -Ltarget/lib -lws2s -Wl,-rpath,'$$ORIGIN/../lib' -o $@
 
-$(HOST)/attack: tests/host/attack.c $(ORACLE) tests/host/chance.h tests/host/typed.h tests/host/lent.h tests/host/strip.h $(ORACLE_HEADERS) $(HEADER) $(ARCHIVE)
+$(HOST)/attack: tests/host/attack.c $(ORACLE) $(TEST_HEADERS) $(ARCHIVE)
 	$(link)
 
-$(HOST)/header: tests/host/header.c tests/host/lent.h tests/host/strip.h $(HEADER) $(ARCHIVE)
+$(HOST)/header: tests/host/header.c $(TEST_HEADERS) $(ARCHIVE)
 	$(link)
 
-$(HOST)/verdict: tests/host/verdict.c $(ORACLE) tests/host/request.h tests/host/strip.h $(ORACLE_HEADERS) $(HEADER) $(ARCHIVE)
+$(HOST)/verdict: tests/host/verdict.c $(ORACLE) $(TEST_HEADERS) $(ARCHIVE)
 	$(link)
 
-$(HOST)/stack: tests/host/stack.c $(ORACLE) tests/host/lent.h tests/host/request.h tests/host/strip.h $(ORACLE_HEADERS) $(HEADER) $(ARCHIVE)
+$(HOST)/stack: tests/host/stack.c $(ORACLE) $(TEST_HEADERS) $(ARCHIVE)
 	$(link) -pthread
 
-$(HOST)/depth: tests/host/depth.c tests/host/request.h tests/host/strip.h $(HEADER) $(ARCHIVE)
+$(HOST)/depth: tests/host/depth.c $(TEST_HEADERS) $(ARCHIVE)
 	$(link)
 
-$(HOST)/command: tests/host/command.c $(CLI) tests/host/strip.h $(CLI_HEADERS) $(HEADER) $(ARCHIVE)
+$(HOST)/command: tests/host/command.c $(CLI) $(CLI_HEADERS) $(TEST_HEADERS) $(ARCHIVE)
 	@mkdir -p $(@D)
 	$(CC) $(CFLAGS) $(SANITIZE) -Iinclude -Dmain=command_main -c cli/ws2s.c -o $@.o
 	$(CC) $(CFLAGS) $(SANITIZE) -Iinclude $(filter-out cli/ws2s.c,$(filter %.c,$^)) $@.o $(ARCHIVE) -o $@
 
-$(HOST)/bench: bench/bench.c $(ORACLE) $(ORACLE_HEADERS) $(HEADER) $(ARCHIVE)
+$(HOST)/bench: bench/bench.c $(ORACLE) $(TEST_HEADERS) $(ARCHIVE)
 	$(link)
 
 $(HOST)/example: examples/host.c $(HEADER) $(ARCHIVE)

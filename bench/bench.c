@@ -17,55 +17,28 @@
  * makes one call for a single row, a rule file, a text or a vector line given as
  * FILE:LINE, and prints nothing: a program to count instructions of. */
 #define _DEFAULT_SOURCE
-#include "oracle.h"
-#include "ws2s.h"
+#include "both.h"
+#include "typed.h"
 
 #include <errno.h>
-#include <inttypes.h>
-#include <stdbool.h>
-#include <stdio.h>
-#include <stdlib.h>
-#include <string.h>
 #include <sys/mman.h>
 #include <time.h>
 #include <unistd.h>
 
-enum { MOST_LINE = 4096, MOST_STRIP = 1024, MOST_REQUESTS = 4096, MOST_OUT = 65536,
-       MOST_TEXT = 1 << 20, LONG_TEXT = 1 << 16, LONG_NAME = 64, LEAST_RUNS = 3 };
-static const size_t MOST_WORKSPACE = (size_t)128 << 20;
+enum { MOST_REQUESTS = 4096, LONG_TEXT = 1 << 16, LONG_NAME = 64, LEAST_RUNS = 3 };
 static const double LEAST_TIMED = 1e-3;
 
-struct request {
-    bool judge, import; /* or else decide */
-    uint8_t rule[MOST_STRIP], tree[MOST_STRIP];
-    size_t rule_length, tree_length;
-    uint64_t c, p;
-    size_t workspace, out;
+/* The result of a request, and the strip in out. */
+struct reply {
+    union result result;
+    uint8_t out[WS2S_MAX_TREE_BYTES];
 };
 
-/* The result of a request, as numbers, and the strip in out. */
-struct answer {
-    uint64_t field[sizeof(ws2s_verdict) / sizeof(uint64_t)];
-    uint8_t out[400];
-};
-
-struct implementation {
-    const char *name;
-    ws2s_judgement (*judge)(const uint8_t *, size_t, uint64_t, uint8_t *, size_t,
-                            const uint8_t *, size_t);
-    ws2s_verdict (*decide)(const uint8_t *, size_t, uint64_t, uint64_t, uint8_t *, size_t,
-                           uint8_t *, size_t);
-    ws2s_written (*import)(const uint8_t *, size_t, uint8_t *, size_t);
-};
-
-static const struct implementation sides[] = {
-    { "library", ws2s_judge, ws2s_decide, ws2s_import },
-    { "oracle", oracle_judge, oracle_decide, oracle_import },
-};
+static const char *const sides[] = { "library", "oracle" };
 
 static struct request requests[MOST_REQUESTS];
-static char text[MOST_TEXT]; /* what is imported */
-static size_t text_length;
+static struct strip rule;
+static struct typed text; /* what is imported */
 static uint8_t *workspace, out[MOST_OUT];
 static uint64_t c_given = 64, p_given = 255;
 static double seconds_given = 0.3;
@@ -86,37 +59,14 @@ static double now(void)
 
 /* ---- Requests ---- */
 
-static size_t read_hex(const char *word, uint8_t *bytes)
-{
-    size_t length = 0;
-    unsigned byte;
-    if (!word || strcmp(word, "-") == 0)
-        return 0;
-    for (; length < MOST_STRIP && sscanf(word + 2 * length, "%2x", &byte) == 1; length++)
-        bytes[length] = (uint8_t)byte;
-    return length;
-}
-
-static uint64_t read_number(const char *word)
-{
-    return word ? strtoull(word, NULL, 10) : 0;
-}
-
 /* Whether a line is a decide or judge request, which it then becomes. */
 static bool read_line(char *line, struct request *r)
 {
-    char *word = strtok(line, " ");
-    if (!word || (strcmp(word, "decide") != 0 && strcmp(word, "judge") != 0))
+    line[strcspn(line, "\r\n")] = 0;
+    if (strncmp(line, "decide ", 7) != 0 && strncmp(line, "judge ", 6) != 0)
         return false;
-    r->judge = word[0] == 'j';
-    r->import = false;
-    r->rule_length = read_hex(strtok(NULL, " "), r->rule);
-    r->c = read_number(strtok(NULL, " "));
-    r->p = r->judge ? 0 : read_number(strtok(NULL, " "));
-    r->workspace = read_number(strtok(NULL, " "));
-    r->tree_length = r->judge ? read_hex(strtok(NULL, " "), r->tree) : 0;
-    r->out = r->judge ? 0 : read_number(strtok(NULL, " "));
-    return r->workspace <= MOST_WORKSPACE && r->out <= MOST_OUT;
+    char *own = strdup(line); /* which the request needs as long as the program runs */
+    return own && read_request(own, r);
 }
 
 /* The requests of a vector file, or of one line if it is not 0. */
@@ -136,98 +86,90 @@ static size_t read_vectors(const char *name, unsigned long only)
 
 static size_t read_rule(const char *name)
 {
-    struct request *r = &requests[0];
     FILE *file = fopen(name, "rb");
     if (!file)
         stop(name, strerror(errno));
-    *r = (struct request){ .c = c_given, .p = p_given, .workspace = MOST_WORKSPACE, .out = 400 };
-    r->rule_length = fread(r->rule, 1, sizeof r->rule, file);
+    rule.length = fread(rule.byte, 1, sizeof rule.byte, file);
     fclose(file);
+    requests[0] = (struct request){ .operation = OP_decide, .byte = { [RULE] = rule.byte },
+                                    .number = { [RULE] = rule.length, [C] = c_given, [P] = p_given,
+                                                [WORKSPACE] = WS2S_MAX_WORKSPACE, [OUT] = WS2S_MAX_TREE_BYTES } };
     return 1;
 }
 
 /* ---- Texts ---- */
 
-static void put_text(const char *words)
-{
-    size_t length = strlen(words);
-    if (length > MOST_TEXT - text_length)
-        stop("text", "too long");
-    memcpy(text + text_length, words, length);
-    text_length += length;
-}
-
 /* A name that agrees with the others up to its last byte. */
-static void put_name(unsigned number)
+static void put_long_name(unsigned number)
 {
     char name[LONG_NAME + 1];
     memset(name, 'n', LONG_NAME - 1);
     name[LONG_NAME - 1] = (char)('a' + number);
     name[LONG_NAME] = 0;
-    put_text(name);
+    put_text(&text, name);
 }
 
 /* The name declared first: a search from the latest on compares all eight. */
-static void put_atom(void)
+static void put_long_atom(void)
 {
-    put_name(0);
-    put_text(" sub ");
-    put_name(0);
+    put_long_name(0);
+    put_text(&text, " sub ");
+    put_long_name(0);
 }
 
 /* 128 records in 32 levels, with eight long names. */
 static void make_longest(void)
 {
     enum { BRACKETS = WS2S_MAX_LEVELS - 1 };
-    put_text("ws2s;\nvar2 ");
+    put_text(&text, "ws2s;\nvar2 ");
     for (unsigned i = 0; i < WS2S_MAX_VARIABLES; i++) {
-        put_text(i ? ", " : "");
-        put_name(i);
+        put_text(&text, i ? ", " : "");
+        put_long_name(i);
     }
-    put_text(";\n~");
+    put_text(&text, ";\n~");
     for (unsigned i = 0; i < BRACKETS; i++) {
-        put_text("(");
-        put_atom();
-        put_text(" & ");
+        put_text(&text, "(");
+        put_long_atom();
+        put_text(&text, " & ");
     }
-    put_atom();
+    put_long_atom();
     for (unsigned i = 0; i < BRACKETS; i++) {
-        put_text(")");
-        put_text(i % 2 ? " & " : " | ");
-        put_atom();
+        put_text(&text, ")");
+        put_text(&text, i % 2 ? " & " : " | ");
+        put_long_atom();
     }
-    put_text(" & ");
-    put_atom();
-    put_text(";\n");
+    put_text(&text, " & ");
+    put_long_atom();
+    put_text(&text, ";\n");
 }
 
 static void make_chain(void)
 {
-    put_text("ws2s;var2 X;(X sub X)");
-    while (text_length < LONG_TEXT)
-        put_text("&(X sub X)");
-    put_text(";");
+    put_text(&text, "ws2s;var2 X;(X sub X)");
+    while (text.length < LONG_TEXT)
+        put_text(&text, "&(X sub X)");
+    put_text(&text, ";");
 }
 
 static void make_nests(void)
 {
-    put_text("ws2s;var2 X;X sub X");
-    while (text_length < LONG_TEXT) {
-        put_text("&");
+    put_text(&text, "ws2s;var2 X;X sub X");
+    while (text.length < LONG_TEXT) {
+        put_text(&text, "&");
         for (unsigned i = 0; i < WS2S_MAX_LEVELS; i++)
-            put_text("(");
-        put_text("X sub X");
+            put_text(&text, "(");
+        put_text(&text, "X sub X");
         for (unsigned i = 0; i < WS2S_MAX_LEVELS; i++)
-            put_text(")");
+            put_text(&text, ")");
     }
-    put_text(";");
+    put_text(&text, ";");
 }
 
 static void make_open(void)
 {
-    put_text("ws2s;var2 X;");
-    while (text_length < LONG_TEXT)
-        put_text("(");
+    put_text(&text, "ws2s;var2 X;");
+    while (text.length < LONG_TEXT)
+        put_text(&text, "(");
 }
 
 static const struct {
@@ -247,71 +189,63 @@ static bool is_text(const char *name)
     return strncmp(name, "made:", 5) == 0 || (length > 5 && strcmp(name + length - 5, ".mona") == 0);
 }
 
-static size_t read_text(const char *name)
+static void read_text(const char *name)
 {
-    requests[0] = (struct request){ .import = true, .out = WS2S_MAX_RULE_BYTES };
-    text_length = 0;
+    text.length = 0;
     for (size_t i = 0; i < sizeof made / sizeof made[0]; i++)
         if (strcmp(name, made[i].name) == 0) {
             made[i].make();
-            return 1;
+            return;
         }
     FILE *file = fopen(name, "rb");
     if (!file)
         stop(name, strerror(errno));
-    text_length = fread(text, 1, sizeof text, file);
+    text.length = fread(text.byte, 1, sizeof text.byte, file);
     fclose(file);
-    return 1;
 }
 
 /* The one request of a rule's or a text's name. */
 static size_t read_name(const char *name)
 {
-    return is_text(name) ? read_text(name) : read_rule(name);
+    if (!is_text(name))
+        return read_rule(name);
+    read_text(name);
+    requests[0] = (struct request){ .operation = OP_import, .byte = { [TEXT] = text.byte },
+                                    .number = { [TEXT] = text.length, [OUT] = WS2S_MAX_RULE_BYTES } };
+    return 1;
 }
 
 /* ---- Rows ---- */
 
-static void call(const struct implementation *side, const struct request *r, struct answer *a)
+static void ask(int side, const struct request *r, struct reply *a)
 {
+    uint8_t *at[ARGUMENTS] = { [WORKSPACE] = workspace, [OUT] = out };
+    for (enum argument i = RULE; i <= TEXT; i++)
+        at[i] = (uint8_t *)(uintptr_t)r->byte[i]; /* only read */
     memset(a, 0, sizeof *a);
-    if (r->judge) {
-        ws2s_judgement j = side->judge(r->rule, r->rule_length, r->c, workspace, r->workspace,
-                                       r->tree, r->tree_length);
-        memcpy(a->field, &j, sizeof j);
-    } else if (r->import) {
-        ws2s_written w = side->import((const uint8_t *)text, text_length, out, r->out);
-        memcpy(a->field, &w, sizeof w);
-        if (w.refusal == 0 && w.length <= sizeof a->out)
-            memcpy(a->out, out, w.length);
-    } else {
-        ws2s_verdict v = side->decide(r->rule, r->rule_length, r->c, r->p, workspace,
-                                      r->workspace, out, r->out);
-        memcpy(a->field, &v, sizeof v);
-        if (v.kind == 0 && v.length <= sizeof a->out)
-            memcpy(a->out, out, v.length);
-    }
+    call(side == 0, r, at, &a->result);
+    uint64_t length = number_at(&a->result, operations[r->operation].answer->length);
+    if (length <= sizeof a->out)
+        memcpy(a->out, out, length);
 }
 
 /* Whether the answer is the one that a text was made for, if it was made here. */
-static bool as_made(const char *name, const struct answer *a)
+static bool as_made(const char *name, const ws2s_written *w)
 {
-    ws2s_written w;
-    memcpy(&w, a->field, sizeof w);
     for (size_t i = 0; i < sizeof made / sizeof made[0]; i++)
         if (strcmp(name, made[i].name) == 0)
-            return w.refusal == made[i].refusal && w.records == made[i].records;
+            return w->refusal == made[i].refusal && w->records == made[i].records;
     return true;
 }
 
 /* The seconds that all requests take, so many times over. */
-static double time_all(const struct implementation *side, size_t count, unsigned times)
+static double time_all(int side, size_t count, unsigned times)
 {
-    struct answer answer;
+    struct reply answer;
     double begin = now();
     for (unsigned k = 0; k < times; k++)
         for (size_t i = 0; i < count; i++)
-            call(side, &requests[i], &answer);
+            ask(side, &requests[i], &answer);
     return now() - begin;
 }
 
@@ -320,21 +254,21 @@ static void run_row(const char *name, size_t count)
     double best[2], spent[2] = { 0, 0 };
     unsigned times[2] = { 1, 1 }; /* so many that the clock's steps do not show */
     bool alike = true;
-    struct answer answer[2];
+    struct reply answer[2];
     for (int i = 0; i < 2; i++)
-        while ((best[i] = time_all(&sides[i], count, times[i]) / times[i]) * times[i] < LEAST_TIMED)
+        while ((best[i] = time_all(i, count, times[i]) / times[i]) * times[i] < LEAST_TIMED)
             times[i] *= 2;
     for (int runs = 1; runs < LEAST_RUNS || spent[0] < seconds_given || spent[1] < seconds_given; runs++)
         for (int i = 0; i < 2; i++) {
-            double taken = time_all(&sides[i], count, times[i]);
+            double taken = time_all(i, count, times[i]);
             spent[i] += taken;
             if (taken / times[i] < best[i])
                 best[i] = taken / times[i];
         }
     for (size_t i = 0; i < count; i++) {
-        call(&sides[0], &requests[i], &answer[0]);
-        call(&sides[1], &requests[i], &answer[1]);
-        alike = alike && memcmp(&answer[0], &answer[1], sizeof answer[0]) == 0 && as_made(name, &answer[0]);
+        ask(0, &requests[i], &answer[0]);
+        ask(1, &requests[i], &answer[1]);
+        alike = alike && memcmp(&answer[0], &answer[1], sizeof answer[0]) == 0 && as_made(name, &answer[0].result.written);
     }
     const char *slash = strrchr(name, '/');
     printf("%-28s %6zu %14.2f %14.2f %8.2f%s\n", slash ? slash + 1 : name, count, 1e6 * best[0],
@@ -365,7 +299,7 @@ static void run_lines(const char *file)
 static int run_once(const char *who, const char *name)
 {
     char file[MOST_LINE];
-    struct answer answer;
+    struct reply answer;
     const char *colon = is_text(name) ? NULL : strrchr(name, ':');
     size_t count;
     if (colon) {
@@ -376,9 +310,9 @@ static int run_once(const char *who, const char *name)
     }
     if (count != 1)
         stop(name, "not one decide or judge line");
-    for (size_t i = 0; i < 2; i++)
-        if (strcmp(who, sides[i].name) == 0) {
-            call(&sides[i], &requests[0], &answer);
+    for (int i = 0; i < 2; i++)
+        if (strcmp(who, sides[i]) == 0) {
+            ask(i, &requests[0], &answer);
             return 0;
         }
     stop(who, "neither library nor oracle");
@@ -389,7 +323,7 @@ int main(int argc, char **argv)
 {
     const char *once = NULL;
     bool heading = false;
-    workspace = mmap(NULL, MOST_WORKSPACE, PROT_READ | PROT_WRITE, MAP_PRIVATE | MAP_ANONYMOUS, -1, 0);
+    workspace = mmap(NULL, WS2S_MAX_WORKSPACE, PROT_READ | PROT_WRITE, MAP_PRIVATE | MAP_ANONYMOUS, -1, 0);
     if (workspace == MAP_FAILED)
         stop("workspace", strerror(errno));
     for (int i = 1; i < argc; i++) {
@@ -399,10 +333,10 @@ int main(int argc, char **argv)
                 stop(option, "not an option with its value");
             switch (option[1]) {
             case 'c':
-                c_given = read_number(argv[i]);
+                c_given = strtoull(argv[i], NULL, 10);
                 continue;
             case 'p':
-                p_given = read_number(argv[i]);
+                p_given = strtoull(argv[i], NULL, 10);
                 continue;
             case 't':
                 seconds_given = strtod(argv[i], NULL);
@@ -420,7 +354,7 @@ int main(int argc, char **argv)
         if (once)
             return run_once(once, argv[i]);
         if (!heading) {
-            memset(workspace, 1, MOST_WORKSPACE); /* so that no row pays for its pages */
+            memset(workspace, 1, WS2S_MAX_WORKSPACE); /* so that no row pays for its pages */
             printf("%-28s %6s %14s %14s %8s\n", "", "calls", "library us", "oracle us", "ratio");
             heading = true;
         }

@@ -12,13 +12,9 @@
  * names in it those that were put there. The same seed makes the same strips and
  * texts. It prints what fails and a count, and ends with status 1 if anything did. */
 #define _DEFAULT_SOURCE
-#include "strip.h"
-#include "ws2s.h"
+#include "request.h"
+#include "typed.h"
 
-#include <stdbool.h>
-#include <stdio.h>
-#include <stdlib.h>
-#include <string.h>
 #include <sys/wait.h>
 #include <unistd.h>
 
@@ -29,14 +25,6 @@ const char *__asan_default_options(void);
 const char *__ubsan_default_options(void);
 const char *__asan_default_options(void) { return "exitcode=99:detect_leaks=0"; }
 const char *__ubsan_default_options(void) { return "halt_on_error=1:exitcode=99"; }
-
-static uint64_t chance;
-
-static unsigned below(unsigned bound)
-{
-    chance = chance * UINT64_C(6364136223846793005) + UINT64_C(1442695040888963407);
-    return (unsigned)(chance >> 33) % bound;
-}
 
 /* ---- Strips ---- */
 
@@ -49,7 +37,7 @@ struct bad {
 enum { NO_RECORD = 1000 };
 
 /* A valid rule, or one whose record "bad" is the first that is not. */
-static struct bad make_rule(struct strip *s)
+static struct bad make_bad_rule(struct strip *s)
 {
     enum { OP = 0, FIRST = 4, SECOND = 11 };
     static const unsigned bad_records[][4] = { /* op, fields, which of them is at fault */
@@ -61,9 +49,7 @@ static struct bad make_rule(struct strip *s)
     size_t at;
     put_heading(s, &at, n, m);
     for (unsigned i = 0; i < m; i++) {
-        unsigned op = i == 0 ? below(5) : below(9);
-        unsigned first = op < 5 || op == 8 ? below(n) : below(i);
-        unsigned second = op == 0 || op == 2 || op == 3 ? below(n) : op > 5 ? below(i) : 0;
+        struct record valid = make_record(n, i);
         const unsigned *r = bad_records[below(sizeof bad_records / sizeof bad_records[0])];
         if (i == bad) {
             told.place = at + r[3];
@@ -72,51 +58,15 @@ static struct bad make_rule(struct strip *s)
         if (i == bad || (i > bad && below(3) == 0))
             put_record(s, &at, r[0], r[1], r[2]);
         else
-            put_record(s, &at, op, first, second);
+            put_record(s, &at, valid.op, valid.first, valid.second);
     }
     return told;
 }
 
-static void put_tree(struct strip *s, size_t *at, unsigned n, unsigned nodes)
-{
-    put(s, at, 1, nodes > 0);
-    if (nodes == 0)
-        return;
-    unsigned first = below(4) ? below(nodes) : below(2) ? nodes - 1 : 0;
-    put(s, at, n, below(8) ? 1 + below((1u << n) - 1) : 0);
-    put_tree(s, at, n, first);
-    put_tree(s, at, n, nodes - 1 - first);
-}
-
-static void make_tree(struct strip *s)
-{
-    unsigned n = 1 + below(8);
-    size_t at = 0;
-    put(s, &at, 4, 1);
-    put(s, &at, 4, n);
-    put_tree(s, &at, n, below(10) ? below(12) : below(257));
-}
-
-static void damage(struct strip *s)
+static void damage_often(struct strip *s)
 {
     for (unsigned times = below(3); times > 0; times--)
-        switch (below(4)) {
-        case 0:
-            if (s->length > 0)
-                s->byte[below((unsigned)s->length)] ^= (uint8_t)(1u << below(8));
-            break;
-        case 1:
-            s->length = below((unsigned)s->length + 1);
-            break;
-        case 2:
-            for (unsigned more = below(below(4) ? 4 : 400); more > 0 && s->length < MOST_STRIP; more--)
-                s->byte[s->length++] = (uint8_t)(below(3) ? 0 : below(256));
-            break;
-        default:
-            for (size_t i = below(3); i < s->length; i++)
-                if (below(8) == 0)
-                    s->byte[i] = (uint8_t)below(256);
-        }
+        damage(s, once_in(4) ? 400 : 4);
 }
 
 /* ---- The command ---- */
@@ -171,25 +121,25 @@ static int run(char **words)
     return WIFEXITED(status) ? WEXITSTATUS(status) : BROKEN;
 }
 
-static void count(bool right, char **words, int status, const struct strip *s)
+/* Whether it was right; if not, what was run and said is told, and the caller tells what for. */
+static bool count(bool right, char **words, int status)
 {
-    if (right) {
-        passed++;
-        return;
-    }
-    failed++;
-    for (int i = 0; words[i]; i++)
+    (right ? passed++ : failed++);
+    for (int i = 0; !right && words[i]; i++)
         printf("%s ", words[i]);
-    printf(": status %d, for the strip ", status);
-    for (size_t i = 0; i < s->length; i++)
-        printf("%02X", s->byte[i]);
-    printf(", said\n%s\n%s\n", said, complained);
+    if (!right)
+        printf(": status %d, said\n%s\n%s\n", status, said, complained);
+    return right;
 }
 
-static bool has_place(uint64_t refusal)
+static void count_strip(bool right, char **words, int status, const struct strip *s)
 {
-    return refusal <= WS2S_REFUSED_UNUSED
-        || (refusal >= WS2S_REFUSED_TREE_SHORT && refusal <= WS2S_REFUSED_TREE_LEFT_OVER);
+    if (count(right, words, status))
+        return;
+    printf("for the strip ");
+    for (size_t i = 0; i < s->length; i++)
+        printf("%02X", s->byte[i]);
+    printf("\n");
 }
 
 /* Whether decide, judge and print take a file for a text: it begins with blanks and
@@ -219,7 +169,7 @@ static void expect(int wanted, uint64_t refusal, uint64_t place, char **words, c
                  longer ? 8 * (WS2S_MAX_RULE_BYTES + 1) : (int)place, longer ? " or later" : "");
     else
         snprintf(sentence, sizeof sentence, ": refused %d: ", (int)refusal);
-    count(status == wanted && (refusal == 0 || strstr(complained, sentence)), words, status, s);
+    count_strip(status == wanted && (refusal == 0 || strstr(complained, sentence)), words, status, s);
 }
 
 #define WORDS(...) ((char *[]){ (char *)"ws2s", __VA_ARGS__, NULL })
@@ -239,7 +189,7 @@ static void try_mark(const struct strip *s, const struct bad *bad, uint64_t refu
         right = at && strncmp(line, start, strlen(start)) == 0 && strncmp(at, mark, strlen(mark)) == 0
              && !strstr(at + strlen(mark), "<- refused");
     }
-    count(right, WORDS((char *)"print", rule_name), (int)bad->record, s);
+    count_strip(right, WORDS((char *)"print", rule_name), (int)bad->record, s);
 }
 
 static void try_rule(const struct strip *s, const struct bad *bad)
@@ -275,148 +225,7 @@ static void try_tree(const struct strip *rule, const struct strip *s)
 
 /* ---- Texts ---- */
 
-enum { MOST_TEXT = 1 << 13, MOST_NAMES = 200 };
-
-/* A text, and its names: each is given to one variable alone, whose number it has.
- * "atoms" has those that stand in atoms, in the order of the text. */
-struct text {
-    uint8_t byte[MOST_TEXT];
-    size_t length;
-    unsigned names, number[MOST_NAMES], in_use, used[WS2S_MAX_VARIABLES];
-    bool place[MOST_NAMES];
-    char atoms[MOST_TEXT];
-};
-
-static void add(struct text *t, const char *token)
-{
-    static const char *const blanks[] = { " ", "\n", "\t", "\r\n", "  ", "\r" };
-    size_t length = strlen(token);
-    if (t->length + length + 2 > MOST_TEXT)
-        exit(2);
-    memcpy(t->byte + t->length, token, length);
-    t->length += length;
-    const char *blank = blanks[below(4) ? 0 : below(6)];
-    memcpy(t->byte + t->length, blank, strlen(blank));
-    t->length += strlen(blank);
-}
-
-static void add_name(struct text *t, unsigned name)
-{
-    char word[16];
-    snprintf(word, sizeof word, "%s%u", t->place[name] ? "p" : "S", name);
-    add(t, word);
-}
-
-/* The same in an atom. */
-static void use_name(struct text *t, unsigned name)
-{
-    sprintf(t->atoms + strlen(t->atoms), "%s%u ", t->place[name] ? "p" : "S", name);
-    add_name(t, name);
-}
-
-/* A name that is new and in use from here on. */
-static void new_name(struct text *t, bool place)
-{
-    if (t->names == MOST_NAMES)
-        exit(2);
-    t->number[t->names] = t->in_use;
-    t->place[t->names] = place;
-    t->used[t->in_use++] = t->names;
-    add_name(t, t->names++);
-}
-
-/* A name in use, of a place or of a set; false if there is none. */
-static bool old_name(const struct text *t, bool place, unsigned *name)
-{
-    unsigned start = t->in_use > 0 ? below(t->in_use) : 0;
-    for (unsigned i = 0; i < t->in_use; i++) {
-        *name = t->used[(start + i) % t->in_use];
-        if (t->place[*name] == place)
-            return true;
-    }
-    return false;
-}
-
-static void make_atom(struct text *t)
-{
-    static const char *const branches[] = { "", ".0", ".1" };
-    unsigned place, other, set;
-    bool has_place = old_name(t, true, &place), has_set = old_name(t, false, &set);
-    if (has_set && (!has_place || below(3) == 0)) {
-        use_name(t, set);
-        add(t, "sub");
-        old_name(t, false, &set);
-        use_name(t, set);
-        return;
-    }
-    use_name(t, place);
-    if (has_set && below(2)) {
-        add(t, "in");
-        use_name(t, set);
-        return;
-    }
-    add(t, "=");
-    old_name(t, true, &other);
-    if (below(4) == 0) {
-        add(t, "root");
-        return;
-    }
-    use_name(t, other);
-    add(t, branches[below(3)]);
-}
-
-static void make_formula(struct text *t, unsigned size)
-{
-    static const char *const joining[] = { "&", "|", "=>", "<=>" }, *const binding[] = { "ex1", "all1", "ex2", "all2" };
-    if (t->in_use == 0 || (t->in_use < WS2S_MAX_VARIABLES && size > 0 && below(3) == 0)) {
-        unsigned kind = below(4), before = t->in_use;
-        add(t, binding[kind]);
-        new_name(t, kind < 2);
-        add(t, ":");
-        make_formula(t, size > 0 ? size - 1 : 0);
-        t->in_use = before;
-    } else if (size == 0) {
-        make_atom(t);
-    } else if (below(4) == 0) {
-        add(t, "~(");
-        make_formula(t, size - 1);
-        add(t, ")");
-    } else {
-        add(t, "(");
-        make_formula(t, below(size));
-        add(t, ")");
-        add(t, joining[below(4)]);
-        add(t, "(");
-        make_formula(t, size - 1);
-        add(t, ")");
-    }
-}
-
-static void make_text(struct text *t)
-{
-    memset(t, 0, sizeof *t);
-    add(t, "ws2s");
-    add(t, ";");
-    for (unsigned declarations = below(4); declarations > 0 && t->in_use < 5; declarations--) {
-        bool place = below(2);
-        add(t, place ? "var1" : "var2");
-        new_name(t, place);
-        while (t->in_use < 6 && below(3) == 0) {
-            add(t, ",");
-            new_name(t, place);
-        }
-        add(t, ";");
-    }
-    for (unsigned more = below(20) ? 0 : 20 + below(20); more > 0; more--) { /* near 128 records, and beyond */
-        add(t, "(");
-        make_formula(t, below(3));
-        add(t, ") &");
-    }
-    make_formula(t, below(8));
-    add(t, ";");
-}
-
-static void damage_text(struct text *t)
+static void spoil_text(struct typed *t)
 {
     static const char *const pieces[] = { "x", "X sub", " = ", "(", ")", "~", ";", ",", ":", ".0", ".1", ".", "<", "<=>", "ex1 ", "root",
         "\xC3\xA9", "\xE2\x80\x8B", "\xFF", "\033[2J", "_", "7", "var1 ", "ws2s", "\n", "\r\n", "\t", "notAName" };
@@ -439,7 +248,7 @@ static void damage_text(struct text *t)
     default: {
         const char *piece = pieces[below(sizeof pieces / sizeof pieces[0])];
         length = strlen(piece);
-        if (t->length + length + 4 > MOST_TEXT)
+        if (t->length + length + 4 > MOST_TYPED)
             return;
         memmove(t->byte + at + length, t->byte + at, t->length - at);
         memcpy(t->byte + at, piece, length);
@@ -448,18 +257,13 @@ static void damage_text(struct text *t)
     }
 }
 
-static void count_text(bool right, char **words, int status, const struct text *t)
+static void count_text(bool right, char **words, int status, const struct typed *t)
 {
-    if (right) {
-        passed++;
+    if (count(right, words, status))
         return;
-    }
-    failed++;
-    for (int i = 0; words[i]; i++)
-        printf("%s ", words[i]);
-    printf(": status %d, for the text\n", status);
+    printf("for the text\n");
     fwrite(t->byte, 1, t->length, stdout);
-    printf("\nsaid\n%s\n%s\n", said, complained);
+    printf("\n");
 }
 
 static bool between_tokens(uint8_t byte)
@@ -477,7 +281,7 @@ static bool shows(char shown, uint8_t byte)
 
 /* The line that is shown and the mark below it, which is under the token: from
  * there back and for the token itself the line has the text's bytes. */
-static bool marks(const struct text *t, const ws2s_fault *fault, size_t at, const char *line, const char *mark)
+static bool marks(const struct typed *t, const ws2s_fault *fault, size_t at, const char *line, const char *mark)
 {
     size_t before = strspn(mark, " \t"), long_mark = 1 + strspn(mark + before + (mark[before] != 0), "~");
     size_t length = (size_t)(mark - line) - 1, back = 0;
@@ -498,7 +302,7 @@ static bool marks(const struct text *t, const ws2s_fault *fault, size_t at, cons
 }
 
 /* The sentence has the number, line and column, and the mark is right. */
-static bool complains_right(const struct text *t)
+static bool complains_right(const struct typed *t)
 {
     ws2s_fault fault = ws2s_text_fault(t->byte, t->length);
     size_t at = fault.start, line = 1, column = 1;
@@ -526,22 +330,22 @@ static bool complains_right(const struct text *t)
 /* Whether what was said is the strip's listing, with the names of the text: by their
  * numbers they are its variables, and in the records of atoms, which stand in the
  * order of the text, they are the names that stand there. */
-static bool names_right(const struct text *t, const char *of_strip)
+static bool names_right(const char *of_strip)
 {
     static char numbered[sizeof said], atoms[sizeof said];
     size_t length = 0, named = 0;
     bool atom = true;
     for (const char *c = said; *c;) {
         char *end;
-        unsigned long name = (*c == 'p' || *c == 'S') && c[1] >= '0' && c[1] <= '9' ? strtoul(c + 1, &end, 10) : MOST_NAMES;
+        unsigned long name = (*c == 'p' || *c == 'S') && c[1] >= '0' && c[1] <= '9' ? strtoul(c + 1, &end, 10) : MOST_OWN;
         if (*c == '\n')
             atom = true;
         if (strncmp(c, "Sing", 4) == 0 || strncmp(c, "exists", 6) == 0)
             atom = false;
         if (*c == 'X' || length + 16 > sizeof numbered)
             return false;
-        if (name < t->names && t->place[name] == (*c == 'p')) {
-            length += (size_t)sprintf(numbered + length, "X%u", t->number[name]);
+        if (name < making.owned && making.own[name].first_order == (*c == 'p')) {
+            length += (size_t)sprintf(numbered + length, "X%u", making.own[name].variable);
             if (atom)
                 named += (size_t)sprintf(atoms + named, "%.*s ", (int)(end - c), c);
             c = end;
@@ -550,11 +354,11 @@ static bool names_right(const struct text *t, const char *of_strip)
         }
     }
     numbered[length] = atoms[named] = 0;
-    return strcmp(numbered, of_strip) == 0 && strcmp(atoms, t->atoms) == 0;
+    return strcmp(numbered, of_strip) == 0 && strcmp(atoms, making.in_atoms) == 0;
 }
 
 /* "whole" says that the text is as it was made, with each name for one variable. */
-static void try_text(const struct text *t, bool whole)
+static void try_text(const struct typed *t, bool whole)
 {
     static char of_strip[sizeof said], made[400];
     static uint8_t workspace[128 << 8 << 2 << 2], tree[WS2S_MAX_TREE_BYTES];
@@ -586,7 +390,7 @@ static void try_text(const struct text *t, bool whole)
     }
     words = WORDS((char *)"print", text_name);
     status = run(words);
-    count_text(good ? status == 0 && (!whole || names_right(t, of_strip))
+    count_text(good ? status == 0 && (!whole || names_right(of_strip))
                     : status == 3 && said_length == 0 && complains_right(t), words, status, t);
     if (good) {
         words = WORDS((char *)"print", text_name, (char *)"X0", (char *)"X1", (char *)"X2", (char *)"X3", (char *)"X4", (char *)"X5",
@@ -608,8 +412,8 @@ static void try_text(const struct text *t, bool whole)
 int main(int argc, char **argv)
 {
     static struct strip rule, tree;
-    static struct text text;
-    chance = argc > 1 ? strtoull(argv[1], NULL, 10) : 1;
+    static struct typed text;
+    chance_state = argc > 1 ? strtoull(argv[1], NULL, 10) : 1;
     unsigned long strips = argc > 2 ? strtoul(argv[2], NULL, 10) : 1000;
     const char *temporary = getenv("TMPDIR");
     snprintf(room, sizeof room, "%s/ws2s.XXXXXX", temporary && strlen(temporary) < 48 ? temporary : "/tmp");
@@ -622,20 +426,20 @@ int main(int argc, char **argv)
     snprintf(out_name, sizeof out_name, "%s/out", room);
     snprintf(err_name, sizeof err_name, "%s/err", room);
     for (unsigned long i = 0; i < strips && failed < 10; i++) {
-        struct bad bad = make_rule(&rule);
-        make_tree(&tree);
+        struct bad bad = make_bad_rule(&rule);
+        make_any_tree(&tree, 1 + below(8));
         if (below(2)) {
-            damage(&rule);
+            damage_often(&rule);
             bad.record = NO_RECORD;
         }
         if (below(2))
-            damage(&tree);
+            damage_often(&tree);
         try_rule(&rule, &bad);
         try_tree(&rule, &tree);
-        make_text(&text);
+        make_named(&text);
         bool whole = below(2);
         for (unsigned times = whole ? 0 : 1 + below(2); times > 0; times--)
-            damage_text(&text);
+            spoil_text(&text);
         try_text(&text, whole);
     }
     remove(rule_name);

@@ -108,7 +108,8 @@ static void try_rule(const struct strip *rule, const char *file, unsigned long n
 static void try_file(const char *file)
 {
     static char line[MOST_LINE];
-    static struct request r;
+    static struct strip rule;
+    struct request r;
     FILE *from = fopen(file, "rb");
     size_t name = strlen(file);
     if (!from) {
@@ -116,8 +117,8 @@ static void try_file(const char *file)
         exit(2);
     }
     if (name > 4 && strcmp(file + name - 4, ".rul") == 0) {
-        r.rule.length = fread(r.rule.byte, 1, sizeof r.rule.byte, from);
-        try_rule(&r.rule, file, 0);
+        rule.length = fread(rule.byte, 1, sizeof rule.byte, from);
+        try_rule(&rule, file, 0);
     } else
         for (unsigned long number = 1; fgets(line, sizeof line, from); number++) {
             line[strcspn(line, "\n")] = 0;
@@ -125,10 +126,12 @@ static void try_file(const char *file)
                 printf("depth: %s, line %lu: not a request\n", file, number);
                 exit(2);
             }
-            if (r.kind >= IMPORT) /* all of these have a text */
-                r.rule.length = ws2s_import(r.text.byte, r.text.length, r.rule.byte, sizeof r.rule.byte).length;
-            if (r.kind != CHECK_TREE)
-                try_rule(&r.rule, file, number);
+            rule.length = r.number[RULE];
+            if (has(r.operation, TEXT))
+                rule.length = ws2s_import(r.byte[TEXT], r.number[TEXT], rule.byte, sizeof rule.byte).length;
+            else if (has(r.operation, RULE))
+                memcpy(rule.byte, r.byte[RULE], rule.length);
+            try_rule(&rule, file, number); /* no bytes are none */
         }
     fclose(from);
 }

@@ -1,5 +1,6 @@
-# Reads the source of the exported functions, then the header, and writes to the
-# folder "room":
+# Reads the source of the exported functions, then the header, and of the folder
+# "crates" the files that have the structures which that source takes from them by
+# `use CRATE::MODULE::NAME;`. It writes to the folder "room":
 #
 #     both.c    the header, and after it what is exported, said in C, so that a
 #               compiler compares the two
@@ -53,13 +54,18 @@ function array_length(name, type)
 # the field's name in C
 function field_name(name) { return name == "recordnumber" ? "record" : name }
 
+# a line of Rattle without its comment, to be joined with others
+function line_of(s) { sub(/\/\/.*/, "", s); return " " s }
+
 FNR == 1 { file++ }
-file == 1 { sub(/\/\/.*/, ""); source = source " " $0 }
+file == 1 { source = source line_of($0) }
+file == 1 && /^use [a-z0-9_]+::[a-z0-9_]+::[A-Za-z0-9_]+;/ { split($2, path, /::|;/); used[path[3]] = crates "/" path[1] "/src/" path[2] ".rt" }
 file == 2 && !/^[ \t]*#/ { header = header " " $0 }
 
-function read_structures(    rest, i, body)
+# The structures of a source, or the one of this name alone.
+function read_structures(rest, only,    i, body, name)
 {
-    for (rest = source; i = index(rest, "#[repr(C)]");) {
+    while (i = index(rest, "#[repr(C)]")) {
         rest = substr(rest, i + 10)
         if (!match(rest, /^ *pub struct [A-Za-z0-9_]+ *\{[^}]*\}/)) {
             fail("a structure is not understood:" substr(rest, 1, 60))
@@ -67,8 +73,29 @@ function read_structures(    rest, i, body)
         }
         body = substr(rest, 1, RLENGTH - 1)
         i = index(body, "{")
-        structure[++structures] = last_word(substr(body, 1, i - 1))
-        fields[structure[structures]] = substr(body, i + 1)
+        name = last_word(substr(body, 1, i - 1))
+        if (only != "" && name != only)
+            continue
+        structure[++structures] = name
+        fields[name] = substr(body, i + 1)
+    }
+}
+
+# Results that the source itself does not have stand where it takes them from.
+function find_structures(    i, name, line, text)
+{
+    for (i = 1; i <= exports; i++) {
+        name = result[exported[i]]
+        if (name == "()" || name == "u64" || name in fields)
+            continue
+        text = ""
+        while (name in used && (getline line <used[name]) > 0)
+            text = text line_of(line)
+        if (name in used)
+            close(used[name]) # another structure may stand in the same file
+        read_structures(text, name)
+        if (!(name in fields))
+            fail(exported[i] ": its result " name " is no structure with #[repr(C)] of " (name in used ? used[name] : "the source, nor taken from a crate"))
     }
 }
 
@@ -208,8 +235,9 @@ function write_function(name,    text)
 
 END {
     both = room "/both.c"
-    read_structures()
+    read_structures(source)
     read_functions()
+    find_structures()
     read_header()
     pair_structures()
     print "#include \"ws2s.h\"" >both

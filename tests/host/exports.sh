@@ -3,13 +3,15 @@
 #
 #     exports.sh EXPORTS HEADER ARCHIVE SHARED
 #
-# EXPORTS is the source of the exported structures and functions. The header's
-# structures must have the same fields in the same places, and its functions the
-# same results and the same parameters, by type, name and order. The archive and
-# the shared library must define just these functions, and take nothing from
-# outside but memcpy and memset; the archive must have no variables of its own, and
-# the shared library's soname must be that of the header's version. It prints what differs, and ends with status 1 if anything
-# does.
+# EXPORTS is the source of the exported functions, crates/CRATE/src/MODULE.rt. Their
+# structures stand there too, or in the crate beside it that a line
+# `use CRATE::MODULE::NAME;` takes them from. The header's structures must have the
+# same fields in the same places, and its functions the same results and the same
+# parameters, by type, name and order. The archive and the shared library must define
+# just these functions, and take nothing from outside but memcpy and memset; the
+# archive must have no variables of its own, and the shared library's soname must be
+# that of the header's version. It prints what differs, and ends with status 1 if
+# anything does.
 set -u
 
 if [ $# -ne 4 ]; then
@@ -34,7 +36,8 @@ same() { # what two lists of names are, the lists
     sort "$room/$3" | diff "$room/$2.sorted" - >"$room/said" || differ "$1 are not the same"
 }
 
-awk -v room="$room" -f "$(dirname "$0")/exports.awk" "$exports" "$header" || bad=1
+crates=$(dirname "$(dirname "$(dirname "$exports")")")
+awk -v room="$room" -v crates="$crates" -f "$(dirname "$0")/exports.awk" "$exports" "$header" || bad=1
 same 'the functions exported and those of the header' exported declared
 cp "$header" "$room/ws2s.h" || exit 2
 # shellcheck disable=SC2086 # CC may have words after the compiler's name

@@ -15,8 +15,7 @@
  * It prints what fails and a count, and ends with status 1 if anything did. */
 #define _DEFAULT_SOURCE
 #include "lent.h"
-#include "strip.h"
-#include "ws2s.h"
+#include "typed.h"
 
 static unsigned long passed, failed;
 
@@ -31,27 +30,11 @@ static void count(bool right, const char *what, unsigned long a, unsigned long b
 }
 
 static struct lent lent, lent_stack;
-static uint64_t chance = 1;
-
-static unsigned below(unsigned bound)
-{
-    chance = chance * UINT64_C(6364136223846793005) + UINT64_C(1442695040888963407);
-    return (unsigned)(chance >> 33) % bound;
-}
 
 /* ---- Sizes ---- */
 
-/* So many records X0 subset X0. */
-static void make_rule(struct strip *s, unsigned n, unsigned m)
-{
-    size_t at;
-    put_heading(s, &at, n, m);
-    for (unsigned i = 0; i < m; i++)
-        put_record(s, &at, 0, 0, 0);
-}
-
-static uint64_t refusal_of(const struct strip *rule, uint64_t c, uint64_t p, uint8_t *workspace, size_t size,
-                           uint8_t *out, size_t out_size)
+static uint64_t decide_refusal(const struct strip *rule, uint64_t c, uint64_t p, uint8_t *workspace, size_t size,
+                               uint8_t *out, size_t out_size)
 {
     return ws2s_decide(rule->byte, rule->length, c, p, workspace, size, out, out_size).refusal;
 }
@@ -64,33 +47,33 @@ static void try_sizes(uint8_t *workspace)
     size_t most = 0, most_out = 0;
     for (unsigned n = 1; n <= WS2S_MAX_VARIABLES; n++)
         for (unsigned m = 1; m <= WS2S_MAX_RECORDS; m++) {
-            make_rule(&rule, n, m);
+            make_plain_rule(&rule, n, m, 0, NULL);
             ws2s_rule checked = ws2s_check_rule(rule.byte, rule.length);
             for (unsigned c = 1; c <= WS2S_MAX_STATES; c++) {
                 size_t size = ws2s_workspace_size(checked, c);
                 most = size > most ? size : most;
-                count(refusal_of(&rule, c, 0, workspace, size, out, 0) == WS2S_REFUSED_OUT
-                          && refusal_of(&rule, c, 0, workspace, size - 1, out, 0) == WS2S_REFUSED_WORKSPACE,
+                count(decide_refusal(&rule, c, 0, workspace, size, out, 0) == WS2S_REFUSED_OUT
+                          && decide_refusal(&rule, c, 0, workspace, size - 1, out, 0) == WS2S_REFUSED_WORKSPACE,
                       "size of the workspace", n, c);
             }
             count(ws2s_workspace_size(checked, 0) == 0 && ws2s_workspace_size(checked, WS2S_MAX_STATES + 1) == 0
                       && ws2s_workspace_size(checked, UINT64_MAX) == 0, "workspace of a ceiling out of range", n, m);
         }
     for (unsigned n = 1; n <= WS2S_MAX_VARIABLES; n++) {
-        make_rule(&rule, n, 1);
+        make_plain_rule(&rule, n, 1, 0, NULL);
         ws2s_rule checked = ws2s_check_rule(rule.byte, rule.length);
         for (unsigned p = 0; p <= WS2S_MAX_POSITIONS; p++) {
             size_t size = ws2s_out_size(checked, p);
             most_out = size > most_out ? size : most_out;
-            count(refusal_of(&rule, 1, p, workspace, WS2S_MAX_WORKSPACE, out, size) == 0
-                      && refusal_of(&rule, 1, p, workspace, WS2S_MAX_WORKSPACE, out, size - 1) == WS2S_REFUSED_OUT,
+            count(decide_refusal(&rule, 1, p, workspace, WS2S_MAX_WORKSPACE, out, size) == 0
+                      && decide_refusal(&rule, 1, p, workspace, WS2S_MAX_WORKSPACE, out, size - 1) == WS2S_REFUSED_OUT,
                   "size of out", n, p);
         }
         count(ws2s_out_size(checked, WS2S_MAX_POSITIONS + 1) == 0 && ws2s_out_size(checked, UINT64_MAX) == 0,
               "out of a ceiling out of range", n, 0);
     }
     count(most == WS2S_MAX_WORKSPACE && most_out == WS2S_MAX_TREE_BYTES, "largest sizes", most, most_out);
-    count(rule.length == 5 && (make_rule(&rule, 8, WS2S_MAX_RECORDS), rule.length == WS2S_MAX_RULE_BYTES),
+    count(rule.length == 5 && (make_plain_rule(&rule, 8, WS2S_MAX_RECORDS, 0, NULL), rule.length == WS2S_MAX_RULE_BYTES),
           "longest rule", rule.length, 0);
     ws2s_rule refused = ws2s_check_rule(rule.byte, 1), odd = { 0, 64, 1, 0 }, many = { 0, 1, UINT64_MAX, 0 };
     count(ws2s_workspace_size(refused, 1) == 0 && ws2s_out_size(refused, 1) == 0, "sizes of a refused rule", 0, 0);
@@ -135,13 +118,13 @@ static const struct {
     { WS2S_REFUSED_TREE_OTHER, 0, "1201200040", "11C0", 0, 64, 255, 1 << 16, 0 },
 };
 
-static void read_hex(struct strip *s, const char *hex, size_t more)
+static void read_strip(struct strip *s, const char *hex, size_t more)
 {
-    unsigned byte;
-    for (s->length = 0; sscanf(hex, "%2x", &byte) == 1; hex += 2)
-        s->byte[s->length++] = (uint8_t)byte;
-    for (; more > 0; more--)
-        s->byte[s->length++] = 0;
+    uint64_t length;
+    if (!read_hex(hex, s->byte, &length))
+        exit(2);
+    memset(s->byte + length, 0, more);
+    s->length = length + more;
 }
 
 /* What is refused of a strip is told by its check too, with the same place. */
@@ -182,9 +165,9 @@ static void try_names(uint8_t *workspace)
     uint8_t out[WS2S_MAX_TREE_BYTES];
     for (size_t i = 0; i < sizeof refusals / sizeof refusals[0]; i++) {
         uint64_t kind, refusal, place;
-        read_hex(&rule, refusals[i].rule, refusals[i].more);
+        read_strip(&rule, refusals[i].rule, refusals[i].more);
         if (refusals[i].tree) {
-            read_hex(&tree, refusals[i].tree, 0);
+            read_strip(&tree, refusals[i].tree, 0);
             ws2s_judgement j = ws2s_judge(rule.byte, rule.length, refusals[i].c, workspace, refusals[i].workspace,
                                           tree.byte, tree.length);
             kind = j.kind, refusal = j.refusal, place = j.place;
@@ -197,45 +180,43 @@ static void try_names(uint8_t *workspace)
         count(place == refusals[i].place, "place of a refusal", refusals[i].refusal, place);
         try_check(&rule, refusals[i].tree ? &tree : NULL, refusal, place);
     }
-    size_t at = 0; /* 20: a chain of one node too many */
-    put(&tree, &at, 4, 1);
-    put(&tree, &at, 4, 1);
-    for (int i = 0; i <= WS2S_MAX_POSITIONS; i++)
-        put(&tree, &at, 2, 3);
+    struct tree_plan chain = { .n = 1, .nodes = WS2S_MAX_POSITIONS + 1, .shape = BY_FIRST, .full = true };
+    make_tree(&tree, &chain); /* 20: one node too many */
     ws2s_tree many = ws2s_check_tree(tree.byte, tree.length);
-    count(many.refusal == WS2S_REFUSED_TREE_POSITIONS && many.place == at - 2, "name of a refusal", 20, many.place);
+    count(many.refusal == WS2S_REFUSED_TREE_POSITIONS && many.place == node[WS2S_MAX_POSITIONS].at, "name of a refusal", 20, many.place);
 
     static const struct {
         const char *rule;
         uint64_t p, kind;
     } kinds[] = { { "1201200040", 2, WS2S_SHOWN }, { "1201200040", 1, WS2S_LARGER }, { "1101200000", 255, WS2S_NONE } };
     for (size_t i = 0; i < sizeof kinds / sizeof kinds[0]; i++) {
-        read_hex(&rule, kinds[i].rule, 0);
+        read_strip(&rule, kinds[i].rule, 0);
         count(ws2s_decide(rule.byte, rule.length, 64, kinds[i].p, workspace, 1 << 16, out, sizeof out).kind == kinds[i].kind,
               "name of a verdict", i, 0);
     }
-    read_hex(&rule, "1101100000", 0); /* one X0 */
-    read_hex(&tree, "11C0", 0);
+    read_strip(&rule, "1101100000", 0); /* one X0 */
+    read_strip(&tree, "11C0", 0);
     count(ws2s_judge(rule.byte, rule.length, 64, workspace, 1 << 16, tree.byte, tree.length).kind == WS2S_YES, "name of yes", 0, 0);
-    read_hex(&tree, "1100", 0);
+    read_strip(&tree, "1100", 0);
     count(ws2s_judge(rule.byte, rule.length, 64, workspace, 1 << 16, tree.byte, tree.length).kind == WS2S_NO, "name of no", 0, 0);
 }
 
 /* ---- Texts ---- */
 
-static char typed[1 << 14];
+static struct typed typed;
 
 static void type(const char *words)
 {
-    strcat(typed, words);
+    typed.length = 0;
+    put_text(&typed, words);
 }
 
 /* What is typed has this refusal, at this token; with 0 so many variables and records. */
 static void try_typed(uint64_t refusal, uint64_t start, uint64_t length, uint64_t variables, uint64_t records)
 {
-    size_t size = strlen(typed);
+    size_t size = typed.length;
     uint8_t out[WS2S_MAX_RULE_BYTES];
-    lend_bytes(&lent, (const uint8_t *)typed, size, LENT_AT_END);
+    lend_bytes(&lent, typed.byte, size, LENT_AT_END);
     ws2s_written w = ws2s_import(lent.at, size, out, sizeof out), cut = ws2s_import(lent.at, size, out, sizeof out - 1);
     ws2s_fault f = ws2s_text_fault(lent.at, size);
     count(w.refusal == refusal && f.refusal == refusal, "name of a text's refusal", refusal, w.refusal);
@@ -251,31 +232,31 @@ static void try_typed(uint64_t refusal, uint64_t start, uint64_t length, uint64_
 static void try_typed_limits(void)
 {
     for (unsigned more = 0; more <= 1; more++) {
-        strcpy(typed, "ws2s;var2 X;");
+        type("ws2s;var2 X;");
         for (unsigned i = 0; i < WS2S_MAX_LEVELS + more; i++)
-            type("~");
-        type("X sub X;");
+            put_text(&typed, "~");
+        put_text(&typed, "X sub X;");
         try_typed(more ? WS2S_REFUSED_TEXT_GRAMMAR : 0, more ? 12 + WS2S_MAX_LEVELS : 0, more, more ? 0 : 1, more ? 0 : WS2S_MAX_LEVELS + 1);
 
-        strcpy(typed, "ws2s;var2 ");
+        type("ws2s;var2 ");
         for (unsigned i = 0; i < WS2S_MAX_VARIABLES + more; i++) {
             char name[3] = { (char)('A' + i), i + 1 < WS2S_MAX_VARIABLES + more ? ',' : ';', 0 };
-            type(name);
+            put_text(&typed, name);
         }
-        type("A sub A;");
+        put_text(&typed, "A sub A;");
         try_typed(more ? WS2S_REFUSED_TEXT_VARIABLES : 0, more ? 10 + 2 * WS2S_MAX_VARIABLES : 0, more, more ? 0 : WS2S_MAX_VARIABLES, !more);
 
-        strcpy(typed, more ? "ws2s;var2 X;~~X sub X" : "ws2s;var2 X;~X sub X"); /* and each "&" with its atom makes two records */
+        type(more ? "ws2s;var2 X;~~X sub X" : "ws2s;var2 X;~X sub X"); /* and each "&" with its atom makes two records */
         for (unsigned i = 1; i < WS2S_MAX_RECORDS / 2; i++)
-            type("&X sub X");
-        type(";");
+            put_text(&typed, "&X sub X");
+        put_text(&typed, ";");
         try_typed(more ? WS2S_REFUSED_TEXT_RECORDS : 0, 0, 0, more ? 0 : 1, more ? 0 : WS2S_MAX_RECORDS);
     }
-    strcpy(typed, "ws2s;var2 X;X sub Seat;");
+    type("ws2s;var2 X;X sub Seat;");
     try_typed(WS2S_REFUSED_TEXT_NAME, 18, 4, 0, 0);
-    strcpy(typed, "ws2s;var2 X;X sub X");
+    type("ws2s;var2 X;X sub X");
     try_typed(WS2S_REFUSED_TEXT_GRAMMAR, 19, 0, 0, 0);
-    typed[0] = 0;
+    type("");
     try_typed(WS2S_REFUSED_TEXT_GRAMMAR, 0, 0, 0, 0);
     ws2s_written none = ws2s_import(NULL, 0, NULL, 0);
     count(none.refusal == WS2S_REFUSED_RULE_OUT && ws2s_text_fault(NULL, 0).refusal == WS2S_REFUSED_TEXT_GRAMMAR, "no text", none.refusal, 0);
@@ -296,72 +277,43 @@ static void try_texts(void)
 
 /* ---- The walk ---- */
 
-struct node {
-    unsigned label, depth;
-    uint8_t path[WS2S_MAX_POSITIONS];
-};
-static struct node made[WS2S_MAX_POSITIONS];
-static unsigned nodes;
-
-/* Puts a tree of so many nodes at the place that the path leads to, labels at
- * random. bias: 0 a chain by the second branch, 1 one by the first, 2 any shape. */
-static void put_tree(struct strip *s, size_t *at, unsigned n, unsigned left, uint8_t *path, unsigned depth, unsigned bias)
+/* Whether the walk is at this node, with the way up from there as its path. */
+static bool same_node(const ws2s_walk *w, unsigned number, unsigned variables)
 {
-    put(s, at, 1, left > 0);
-    if (left == 0)
-        return;
-    struct node *here = &made[nodes++];
-    here->depth = depth;
-    here->label = 1 + below((1u << n) - 1);
-    memcpy(here->path, path, depth);
-    put(s, at, n, here->label);
-    unsigned first = bias == 0 ? 0 : bias == 1 ? left - 1 : below(left);
-    path[depth] = 1;
-    put_tree(s, at, n, first, path, depth + 1, bias);
-    path[depth] = 2;
-    put_tree(s, at, n, left - 1 - first, path, depth + 1, bias);
-}
-
-static bool same_node(const ws2s_walk *w, const struct node *n, unsigned variables)
-{
+    const struct node *here = &node[number], *up = here;
     unsigned inside = 0, label = 0;
-    for (unsigned i = 0; i < n->depth; i++)
-        inside += n->path[i] == 1;
     for (unsigned v = 0; v < variables; v++)
         label = 2 * label + (unsigned)ws2s_walk_has(w, v);
-    return w->depth == n->depth && w->inside == inside && w->label == n->label && label == n->label
-        && !ws2s_walk_has(w, variables) && w->branch == (n->depth ? n->path[n->depth - 1] : 0)
-        && memcmp(w->path, n->path, n->depth) == 0;
+    for (; up->depth && w->depth == here->depth && w->path[up->depth - 1] == up->branch; up = &node[up->above])
+        inside += up->branch == 1;
+    return up->depth == 0 && w->depth == here->depth && w->inside == inside && w->label == here->label && label == here->label
+        && !ws2s_walk_has(w, variables) && w->branch == here->branch;
 }
 
 /* The tree is walked with a stack that has no more bytes than there are nodes on its longest way down. */
-static void try_walk(unsigned n, unsigned left, unsigned bias, unsigned more)
+static void try_walk(unsigned n, unsigned left, enum shape shape, unsigned more)
 {
     static struct strip s;
-    uint8_t path[WS2S_MAX_POSITIONS + 1];
-    size_t at = 0;
-    nodes = 0;
-    put(&s, &at, 4, 1);
-    put(&s, &at, 4, n);
-    put_tree(&s, &at, n, left, path, 0, bias);
-    count(ws2s_check_tree(s.byte, s.length).positions == left, "a tree to walk over", n, left);
-    lend_bytes(&lent, s.byte, s.length, LENT_AT_END);
+    struct tree_plan plan = { .n = n, .nodes = left, .shape = shape };
     ws2s_walk w;
     unsigned met = 0, deep = 0;
     bool right = true;
+    make_tree(&s, &plan);
+    count(ws2s_check_tree(s.byte, s.length).positions == left, "a tree to walk over", n, left);
+    lend_bytes(&lent, s.byte, s.length, LENT_AT_END);
     for (unsigned i = 0; i < nodes; i++)
-        deep = made[i].depth + 1 > deep ? made[i].depth + 1 : deep;
+        deep = node[i].depth + 1 > deep ? node[i].depth + 1 : deep;
     lend(&lent_stack, deep, LENT_AT_END);
     ws2s_walk_begin(&w, lent.at, s.length, lent_stack.at);
     while (ws2s_walk_next(&w) && met < left)
-        right = same_node(&w, &made[met++], n) && right;
+        right = same_node(&w, met++, n) && right;
     count(right && met == left && !ws2s_walk_next(&w) && !ws2s_walk_next(&w), "walk", n, left);
     /* and a strip that was cut: a beginning of the same nodes */
     for (size_t length = 0; more && length < s.length; length++) {
         lend_bytes(&lent, s.byte, length, LENT_AT_END);
         ws2s_walk_begin(&w, length ? lent.at : NULL, length, lent_stack.at);
         for (met = 0, right = true; ws2s_walk_next(&w) && met < left; met++)
-            right = same_node(&w, &made[met], n) && right;
+            right = same_node(&w, met, n) && right;
         count(right && met <= left, "walk over a strip that was cut", n, length);
     }
 }
@@ -401,10 +353,10 @@ int main(void)
     try_texts();
     for (unsigned n = 1; n <= WS2S_MAX_VARIABLES; n++) {
         for (unsigned left = 0; left <= WS2S_MAX_POSITIONS; left++)
-            for (unsigned bias = 0; bias < 3; bias++)
-                try_walk(n, left, bias, left < 20);
+            for (enum shape shape = ANY_SHAPE; shape <= BY_SECOND; shape++)
+                try_walk(n, left, shape, left < 20);
         for (unsigned i = 0; i < 2000; i++)
-            try_walk(n, below(12), 2, 1);
+            try_walk(n, below(12), ANY_SHAPE, 1);
     }
     for (unsigned i = 0; i < 200000; i++)
         try_bytes(below(i % 5 ? 24 : 2 * WS2S_MAX_TREE_BYTES));

@@ -1,16 +1,13 @@
 /* Buffers to lend to the library. Each lies between two pages that nobody may
  * touch, at the end or the beginning of what is between them or apart from
  * both, and is filled, with the bytes around it, with a pattern of bytes none of
- * which is zero. */
+ * which is zero. What a request hands over is lent as its row of operations.h says. */
 #ifndef LENT_H
 #define LENT_H
 
+#include "request.h"
+
 #include <signal.h>
-#include <stdbool.h>
-#include <stdint.h>
-#include <stdio.h>
-#include <stdlib.h>
-#include <string.h>
 #include <sys/mman.h>
 #include <unistd.h>
 
@@ -106,6 +103,42 @@ static inline bool lent_zero(const struct lent *l, size_t length)
 {
     return length <= (size_t)(l->end - l->at) && lent_kept_after(l, length)
         && (length == 0 || (l->at[0] == 0 && memcmp(l->at, l->at + 1, length - 1) == 0));
+}
+
+/* Opens what requests hand over, with so many bytes of text and, unless it is the
+ * caller's own, of workspace. */
+static inline void lent_open_all(struct lent *lent, size_t text, size_t workspace)
+{
+    for (enum argument a = RULE; a < ARGUMENTS; a++)
+        if (is_read(a))
+            lent_open(&lent[a], a == TEXT ? text : MOST_STRIP);
+    lent_open(&lent[OUT], MOST_OUT);
+    if (workspace)
+        lent_open(&lent[WORKSPACE], workspace);
+}
+
+/* Lends what a request hands over, and says where it lies for the call: no bytes at
+ * NULL, if so wished. Bytes to write that were not opened here are the caller's. */
+static inline void lend_request(struct lent *lent, const struct request *r, enum lent_place place, bool null, uint8_t **at)
+{
+    for (const enum argument *a = operations[r->operation].word; *a; a++) {
+        if (is_read(*a))
+            lend_bytes(&lent[*a], r->byte[*a], r->number[*a], place);
+        else if (is_written(*a) && lent[*a].span)
+            lend(&lent[*a], r->number[*a], place);
+        else
+            continue;
+        at[*a] = null && r->number[*a] == 0 ? NULL : lent[*a].at;
+    }
+}
+
+/* Bytes of a request that are altered, though they were only to be read. */
+static inline enum argument lent_altered(const struct lent *lent, const struct request *r)
+{
+    const enum argument *a = operations[r->operation].word;
+    while (*a && (!is_read(*a) || lent_holds(&lent[*a], r->byte[*a], r->number[*a])))
+        a++;
+    return *a;
 }
 
 /* What is being done, told if a call breaks off or takes too long. */

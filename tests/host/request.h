@@ -1,8 +1,9 @@
-/* The lines of vector files (tests/vectors/README.md): what a line asks for, and
- * an answer as a line has it. */
+/* Requests: what an operation is asked, how a vector line asks it
+ * (tests/vectors/README.md), and how its answer is told in a line. */
 #ifndef REQUEST_H
 #define REQUEST_H
 
+#include "operations.h"
 #include "strip.h"
 #include "ws2s.h"
 
@@ -12,131 +13,144 @@
 #include <stdlib.h>
 #include <string.h>
 
-enum { MOST_LINE = 2 * MOST_STRIP, MOST_OUT = 1 << 16 };
-static const size_t MOST_WORKSPACE = (size_t)128 << 20;
+enum { MOST_LINE = 2 * MOST_STRIP, MOST_OUT = 1 << 16, MOST_WORDS = 8 };
 
 /* How the verdict program asks: it reads so many bytes, and lends so many. */
-enum { VERDICT_INPUT = 300, VERDICT_C = 16, VERDICT_P = 60, VERDICT_WORKSPACE = 32768,
-       VERDICT_OUT = 77 };
+enum { VERDICT_INPUT = 300, VERDICT_C = 16, VERDICT_P = 60, VERDICT_WORKSPACE = 32768, VERDICT_OUT = 77 };
 
-/* How texts that are imported are decided and judged. */
-enum { IMPORT_C = 64, IMPORT_P = 255 };
+/* ---- Operations ---- */
 
-struct text {
-    const uint8_t *byte;
-    size_t length;
+/* What an operation can be handed: bytes to read, which a line has in hex; bytes to
+ * write, of which a line has the length; numbers. After an answer and after 14 as much
+ * of the workspace is zero as 12 asks for, and out begins with the strip written. */
+enum argument { NO_ARGUMENT, RULE, TREE, TEXT, WORKSPACE, OUT, C, P, ARGUMENTS };
+
+static inline bool is_read(enum argument a) { return a >= RULE && a <= TEXT; }
+static inline bool is_written(enum argument a) { return a == WORKSPACE || a == OUT; }
+
+enum operation {
+    NO_OPERATION,
+#define ROW(name, ...) OP_##name,
+    OPERATIONS(ROW)
+#undef ROW
+    KINDS
+};
+
+union result {
+    ws2s_rule rule;
+    ws2s_tree tree;
+    ws2s_judgement judgement;
+    ws2s_verdict verdict;
+    ws2s_written written;
+    ws2s_fault fault;
 };
 
 struct request {
-    enum { CHECK_RULE, CHECK_TREE, DECIDE, JUDGE, IMPORT, TEXT_FAULT, IMPORT_STRIP, IMPORT_DECIDE, IMPORT_JUDGE } kind;
-    bool program; /* a decide request of the verdict program, whose input is the rule */
-    struct strip rule, tree, shown; /* shown: the strip expected in out */
-    struct text text;
-    uint64_t c, p, workspace, out;
+    enum operation operation, then; /* then: what is asked about the strip that is imported, if anything */
+    bool program;                   /* the verdict program is asked, whose input is the rule */
+    bool strip;                     /* the answer expected is the strip that is written alone */
+    const uint8_t *byte[ARGUMENTS]; /* what there is to read */
+    uint64_t number[ARGUMENTS];     /* a number, or the length of bytes */
     const char *expected;
 };
 
-/* Reads hex into so many bytes at most, which may be those of the word itself. */
-static inline bool read_hex(const char *word, uint8_t *byte, size_t most, size_t *length)
+/* Calls the library. at: where each of the request's bytes lie for it. */
+static inline void call_library(const struct request *r, uint8_t *const *at, union result *result)
 {
-    *length = 0;
-    if (!word)
-        return false;
-    if (strcmp(word, "-") == 0)
-        return true;
-    for (; word[0]; word += 2) {
-        static const char digits[] = "0123456789ABCDEF";
-        const char *high = strchr(digits, word[0]), *low = high && word[1] ? strchr(digits, word[1]) : NULL;
-        if (!low || *length == most)
-            return false;
-        byte[(*length)++] = (uint8_t)((high - digits) << 4 | (low - digits));
+    switch (r->operation) {
+#define BYTES(a) at[a], (size_t)r->number[a]
+#define NUMBER(a) r->number[a]
+#define ROW(name, member, refusals, words, ...) \
+    case OP_##name: \
+        result->member = ws2s_##name(__VA_ARGS__); \
+        break;
+        OPERATIONS(ROW)
+#undef ROW
+    default:
+        break;
     }
-    return true;
 }
 
-static inline bool read_bytes(const char *word, struct strip *b)
+/* ---- Answers ---- */
+
+/* Where a number stands in a result, counted from 1; 0 says that there is none. In a
+ * set of numbers, each the bit of its place, bit 0 is never looked at. */
+#define AT(type, name) (offsetof(type, name) / sizeof(uint64_t) + 1)
+#define TOLD(type, name) (1u << AT(type, name))
+
+/* What a line says for one kind of answer: a word, and these numbers in their order in
+ * the result. A strip may stand in out, and be told last. All other numbers are 0. */
+struct form {
+    const char *word;
+    unsigned told;
+    enum { NO_STRIP, STRIP, STRIP_TOLD } strip;
+};
+
+/* The numbers of a result: how many, and where those stand that many results have
+ * (length is that of the strip in out). Then the forms by kind, the first if there is
+ * no kind, and the form of a refusal if it is not the usual one. */
+struct answer {
+    unsigned numbers, kind, refusal, record, place, length;
+    struct form form[3], refused;
+};
+
+#define NUMBERS(type) .numbers = sizeof(type) / sizeof(uint64_t), .refusal = AT(type, refusal)
+static const struct answer answer_check_rule = {
+    NUMBERS(ws2s_rule), .place = AT(ws2s_rule, place),
+    .form = { { "ok", TOLD(ws2s_rule, variables) | TOLD(ws2s_rule, records), NO_STRIP } } };
+static const struct answer answer_check_tree = {
+    NUMBERS(ws2s_tree), .place = AT(ws2s_tree, place),
+    .form = { { "ok", TOLD(ws2s_tree, variables) | TOLD(ws2s_tree, positions), NO_STRIP } } };
+static const struct answer answer_decide = {
+    NUMBERS(ws2s_verdict), .kind = AT(ws2s_verdict, kind), .record = AT(ws2s_verdict, record),
+    .place = AT(ws2s_verdict, place), .length = AT(ws2s_verdict, length),
+    .form = { { "shown", TOLD(ws2s_verdict, positions) | TOLD(ws2s_verdict, states), STRIP_TOLD },
+              { "none", TOLD(ws2s_verdict, states), NO_STRIP }, { "larger", TOLD(ws2s_verdict, states), NO_STRIP } } };
+static const struct answer answer_judge = {
+    NUMBERS(ws2s_judgement), .kind = AT(ws2s_judgement, kind), .record = AT(ws2s_judgement, record),
+    .place = AT(ws2s_judgement, place), .form = { { "no", 0, NO_STRIP }, { "yes", 0, NO_STRIP } } };
+static const struct answer answer_import = {
+    NUMBERS(ws2s_written), .place = AT(ws2s_written, place), .length = AT(ws2s_written, length),
+    .form = { { "ok", TOLD(ws2s_written, variables) | TOLD(ws2s_written, records), STRIP } } };
+static const struct answer answer_text_fault = {
+    NUMBERS(ws2s_fault), .place = AT(ws2s_fault, start), .form = { { "ok", 0, NO_STRIP } },
+    .refused = { "", TOLD(ws2s_fault, refusal) | TOLD(ws2s_fault, start) | TOLD(ws2s_fault, length), NO_STRIP } };
+
+static const struct operation_row {
+    const char *name;
+    const struct answer *answer;
+    uint64_t refusals;                  /* a bit for each */
+    enum argument word[MOST_WORDS + 1]; /* a line's, up to NO_ARGUMENT */
+} operations[KINDS] = {
+    { "", NULL, 0, { NO_ARGUMENT } },
+#define FROM(first, last) ((UINT64_C(2) << (last)) - (UINT64_C(1) << (first)))
+#define WORDS(...) { __VA_ARGS__ }
+#define ROW(name, member, refusals, words, ...) { #name, &answer_##name, refusals, WORDS words },
+    OPERATIONS(ROW)
+#undef ROW
+#undef WORDS
+#undef FROM
+};
+
+static inline bool has(enum operation o, enum argument a)
 {
-    return read_hex(word, b->byte, sizeof b->byte, &b->length);
+    const enum argument *word = operations[o].word;
+    while (*word && *word != a)
+        word++;
+    return *word == a;
 }
 
-/* The text stays in the line. */
-static inline bool read_text(char *word, struct text *t)
+static inline uint64_t number_at(const union result *result, unsigned at)
 {
-    t->byte = (const uint8_t *)word;
-    return read_hex(word, (uint8_t *)word, SIZE_MAX, &t->length);
+    uint64_t number = 0;
+    if (at)
+        memcpy(&number, (const uint8_t *)result + (at - 1) * sizeof number, sizeof number);
+    return number;
 }
 
-static inline bool read_number(const char *word, uint64_t *value)
+static inline uint64_t refusal_of(enum operation o, const union result *result)
 {
-    char *end;
-    if (!word || word[0] < '0' || word[0] > '9')
-        return false;
-    *value = strtoull(word, &end, 10);
-    return *end == 0;
-}
-
-/* Takes a line apart; it is altered. Of the verdict program's input all bytes
- * are kept, however many it reads. */
-static inline bool read_request(char *line, struct request *r)
-{
-    char *expected = strstr(line, " = ");
-    if (!expected)
-        return false;
-    *expected = 0;
-    r->expected = expected + 3;
-    r->shown.length = 0;
-    r->text = (struct text){ NULL, 0 };
-    if (strncmp(r->expected, "shown ", 6) == 0 && !read_bytes(strrchr(r->expected, ' ') + 1, &r->shown))
-        return false;
-    char *word = strtok(line, " ");
-    if (!word)
-        return false;
-    bool read;
-    r->program = strcmp(word, "verdict") == 0;
-    if (strcmp(word, "check_rule") == 0) {
-        r->kind = CHECK_RULE;
-        read = read_bytes(strtok(NULL, " "), &r->rule);
-    } else if (strcmp(word, "check_tree") == 0) {
-        r->kind = CHECK_TREE;
-        read = read_bytes(strtok(NULL, " "), &r->tree);
-    } else if (strcmp(word, "decide") == 0) {
-        r->kind = DECIDE;
-        read = read_bytes(strtok(NULL, " "), &r->rule) && read_number(strtok(NULL, " "), &r->c)
-            && read_number(strtok(NULL, " "), &r->p) && read_number(strtok(NULL, " "), &r->workspace)
-            && read_number(strtok(NULL, " "), &r->out);
-    } else if (strcmp(word, "judge") == 0) {
-        r->kind = JUDGE;
-        read = read_bytes(strtok(NULL, " "), &r->rule) && read_number(strtok(NULL, " "), &r->c)
-            && read_number(strtok(NULL, " "), &r->workspace) && read_bytes(strtok(NULL, " "), &r->tree);
-        r->out = 0;
-    } else if (strcmp(word, "import") == 0) {
-        r->kind = IMPORT;
-        read = read_text(strtok(NULL, " "), &r->text) && read_number(strtok(NULL, " "), &r->out);
-    } else if (strcmp(word, "text_fault") == 0) {
-        r->kind = TEXT_FAULT;
-        read = read_text(strtok(NULL, " "), &r->text);
-    } else if (strcmp(word, "import_strip") == 0) {
-        r->kind = IMPORT_STRIP;
-        r->out = WS2S_MAX_RULE_BYTES;
-        read = read_text(strtok(NULL, " "), &r->text) && read_bytes(r->expected, &r->shown);
-    } else if (strcmp(word, "import_decide") == 0 || strcmp(word, "import_judge") == 0) {
-        r->kind = strcmp(word, "import_decide") == 0 ? IMPORT_DECIDE : IMPORT_JUDGE;
-        r->c = IMPORT_C;
-        r->p = IMPORT_P;
-        r->out = r->kind == IMPORT_DECIDE ? WS2S_MAX_TREE_BYTES : 0;
-        read = read_text(strtok(NULL, " "), &r->text) && (r->kind == IMPORT_DECIDE || read_bytes(strtok(NULL, " "), &r->tree));
-    } else if (r->program) {
-        r->kind = DECIDE;
-        read = read_bytes(strtok(NULL, " "), &r->rule);
-        r->c = VERDICT_C;
-        r->p = VERDICT_P;
-        r->workspace = VERDICT_WORKSPACE;
-        r->out = VERDICT_OUT;
-    } else {
-        return false;
-    }
-    return read && !strtok(NULL, " ") && (r->kind < DECIDE || r->out <= MOST_OUT)
-        && ((r->kind != DECIDE && r->kind != JUDGE) || r->workspace <= MOST_WORKSPACE);
+    return number_at(result, operations[o].answer->refusal);
 }
 
 /* Refusals of a strip have a place. */
@@ -145,75 +159,131 @@ static inline bool has_place(uint64_t refusal)
     return (refusal >= 1 && refusal <= 10) || (refusal >= 15 && refusal <= 21);
 }
 
-/* Each of these writes an answer to a text of MOST_LINE characters, and says
- * whether the fields that do not apply are 0. */
-static inline bool tell_refusal(char *text, uint64_t refusal, uint64_t record, uint64_t place)
+static inline struct form form_of(const struct answer *a, const union result *result)
 {
-    if (refusal == 14)
-        snprintf(text, MOST_LINE, "refused 14 %" PRIu64, record);
-    else if (has_place(refusal))
-        snprintf(text, MOST_LINE, "refused %" PRIu64 " %" PRIu64, refusal, place);
-    else
-        snprintf(text, MOST_LINE, "refused %" PRIu64, refusal);
-    return refusal != 0 && (refusal == 14 || record == 0) && (has_place(refusal) || place == 0);
+    uint64_t kind = number_at(result, a->kind), refusal = number_at(result, a->refusal);
+    if (a->kind ? kind != WS2S_REFUSED : refusal == 0)
+        return kind < 3 && a->form[kind].word ? a->form[kind] : (struct form){ "kind", 1u << a->kind, NO_STRIP };
+    if (a->refused.word)
+        return a->refused;
+    unsigned more = refusal == 14 ? a->record : has_place(refusal) ? a->place : 0;
+    return (struct form){ "refused", 1u << a->refusal | 1u << more, NO_STRIP };
 }
 
-static inline bool tell_check(char *text, uint64_t refusal, uint64_t variables, uint64_t count, uint64_t place)
+static inline int tell_bytes(char *line, const uint8_t *byte, size_t length)
 {
-    if (refusal)
-        return tell_refusal(text, refusal, 0, place) && variables == 0 && count == 0;
-    snprintf(text, MOST_LINE, "ok %" PRIu64 " %" PRIu64, variables, count);
-    return place == 0;
+    int used = 0;
+    for (size_t i = 0; i < length && used < MOST_LINE - 2; i++)
+        used += sprintf(line + used, "%02X", byte[i]);
+    return used;
 }
 
-static inline bool tell_written(char *text, const ws2s_written *w)
+/* Writes an answer to a line of 2 * MOST_LINE characters; whether the numbers that do
+ * not apply are 0. out: the buffer that was lent, and its length. */
+static inline bool tell(enum operation o, const union result *result, const uint8_t *out, size_t out_length, char *line)
 {
-    if (w->refusal) {
-        snprintf(text, MOST_LINE, "refused %" PRIu64, w->refusal);
-        return w->variables == 0 && w->records == 0 && w->length == 0 && w->place == 0 && w->strip == 0;
+    const struct answer *a = operations[o].answer;
+    struct form form = form_of(a, result);
+    uint64_t length = form.strip ? number_at(result, a->length) : 0;
+    unsigned apply = 1u << a->kind | form.told | (form.strip ? 1u << a->length : 0);
+    int used = sprintf(line, "%s", form.word);
+    bool idle = true;
+    for (unsigned at = 1; at <= a->numbers; at++) {
+        if (form.told >> at & 1)
+            used += sprintf(line + used, used ? " %" PRIu64 : "%" PRIu64, number_at(result, at));
+        idle = idle && (apply >> at & 1 || number_at(result, at) == 0);
     }
-    snprintf(text, MOST_LINE, "ok %" PRIu64 " %" PRIu64, w->variables, w->records);
-    return w->place == 0 && w->strip == 0;
+    if (form.strip == STRIP_TOLD) {
+        line[used++] = ' ';
+        line[used + tell_bytes(line + used, out, length < out_length ? length : out_length)] = 0;
+    }
+    return idle && length <= out_length;
 }
 
-static inline bool tell_fault(char *text, const ws2s_fault *f)
+/* ---- Lines ---- */
+
+/* Lines that are not an operation with all its words: what they ask for, and the
+ * numbers that they leave out. */
+static const struct {
+    const char *name;
+    struct request request;
+    enum argument word[MOST_WORDS + 1];
+} composed[] = {
+    { "verdict", { .operation = OP_decide, .program = true,
+                   .number = { [C] = VERDICT_C, [P] = VERDICT_P, [WORKSPACE] = VERDICT_WORKSPACE, [OUT] = VERDICT_OUT } }, { RULE } },
+    { "import_strip", { .operation = OP_import, .strip = true, .number = { [OUT] = WS2S_MAX_RULE_BYTES } }, { TEXT } },
+    { "import_decide", { .operation = OP_import, .then = OP_decide, .number = { [OUT] = WS2S_MAX_RULE_BYTES, [C] = 64, [P] = 255 } }, { TEXT } },
+    { "import_judge", { .operation = OP_import, .then = OP_judge, .number = { [OUT] = WS2S_MAX_RULE_BYTES, [C] = 64 } }, { TEXT, TREE } },
+};
+
+/* Reads hex into bytes, which may be those of the word itself. */
+static inline bool read_hex(const char *word, uint8_t *byte, uint64_t *length)
 {
-    if (f->refusal == 0) {
-        strcpy(text, "ok");
-        return f->start == 0 && f->length == 0;
+    static const char digits[] = "0123456789ABCDEF";
+    *length = 0;
+    if (strcmp(word, "-") == 0)
+        return true;
+    for (; word[0]; word += 2) {
+        const char *high = strchr(digits, word[0]), *low = high && word[1] ? strchr(digits, word[1]) : NULL;
+        if (!low)
+            return false;
+        byte[(*length)++] = (uint8_t)((high - digits) << 4 | (low - digits));
     }
-    snprintf(text, MOST_LINE, "%" PRIu64 " %" PRIu64 " %" PRIu64, f->refusal, f->start, f->length);
     return true;
 }
 
-static inline bool tell_judgement(char *text, const ws2s_judgement *j)
+/* A word of a line; bytes stay in it. */
+static inline bool read_word(char *word, enum argument a, struct request *r)
 {
-    if (j->kind == 3)
-        return tell_refusal(text, j->refusal, j->record, j->place);
-    if (j->kind > 1)
-        snprintf(text, MOST_LINE, "kind %" PRIu64, j->kind);
-    else
-        strcpy(text, j->kind == 1 ? "yes" : "no");
-    return j->refusal == 0 && j->record == 0 && j->place == 0;
+    char *end;
+    r->byte[a] = (uint8_t *)word;
+    if (is_read(a))
+        return word && read_hex(word, (uint8_t *)word, &r->number[a]);
+    if (!word || word[0] < '0' || word[0] > '9')
+        return false;
+    r->number[a] = strtoull(word, &end, 10);
+    return *end == 0 && (a != WORKSPACE || r->number[a] <= WS2S_MAX_WORKSPACE) && (a != OUT || r->number[a] <= MOST_OUT);
 }
 
-/* out: the buffer that was lent, and its length */
-static inline bool tell_verdict(char *text, const ws2s_verdict *v, const uint8_t *out, size_t length)
+/* What a line that begins with this name asks for, and the words after it; NULL if there is none. */
+static inline const enum argument *begin_request(const char *name, struct request *r)
 {
-    if (v->kind == 3)
-        return tell_refusal(text, v->refusal, v->record, v->place)
-            && v->positions == 0 && v->states == 0 && v->length == 0;
-    if (v->kind == 0) {
-        int used = snprintf(text, MOST_LINE, "shown %" PRIu64 " %" PRIu64 " ", v->positions, v->states);
-        for (uint64_t i = 0; i < v->length && i < length && used < MOST_LINE; i++)
-            used += snprintf(text + used, MOST_LINE - (size_t)used, "%02X", out[i]);
-        return v->refusal == 0 && v->record == 0 && v->place == 0 && v->length <= length;
-    }
-    if (v->kind > 3)
-        snprintf(text, MOST_LINE, "kind %" PRIu64, v->kind);
-    else
-        snprintf(text, MOST_LINE, "%s %" PRIu64, v->kind == 1 ? "none" : "larger", v->states);
-    return v->refusal == 0 && v->record == 0 && v->positions == 0 && v->length == 0 && v->place == 0;
+    for (enum operation o = 1; o < KINDS; o++)
+        if (strcmp(name, operations[o].name) == 0) {
+            *r = (struct request){ .operation = o };
+            return operations[o].word;
+        }
+    for (size_t i = 0; i < sizeof composed / sizeof composed[0]; i++)
+        if (strcmp(name, composed[i].name) == 0) {
+            *r = composed[i].request;
+            return composed[i].word;
+        }
+    return NULL;
+}
+
+/* Takes a line apart; it is altered, and must stay as long as the request. Of the
+ * verdict program's input all bytes are kept, however many it reads. */
+static inline bool read_request(char *line, struct request *r)
+{
+    char *expected = strstr(line, " = ");
+    if (!expected)
+        return false;
+    *expected = 0;
+    char *name = strtok(line, " ");
+    const enum argument *word = name ? begin_request(name, r) : NULL;
+    if (!word)
+        return false;
+    r->expected = expected + 3;
+    for (; *word; word++)
+        if (!read_word(strtok(NULL, " "), *word, r))
+            return false;
+    return !strtok(NULL, " ");
+}
+
+/* The bytes of workspace that 12 asks for, of a rule strip that is accepted. */
+static inline size_t space_asked(const uint8_t *rule, uint64_t c)
+{
+    return ((size_t)rule[1] << (rule[0] & 15)) * c * c;
 }
 
 #endif

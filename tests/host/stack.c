@@ -12,20 +12,16 @@
  * what fails, the most bytes of stack that each function used, counted from the
  * frame of its caller, and a count, and ends with status 1 if anything failed. */
 #define _DEFAULT_SOURCE
+#include "both.h"
 #include "lent.h"
-#include "oracle.h"
-#include "request.h"
+#include "typed.h"
 
 #include <pthread.h>
 
-enum { STACK = 1 << 16, GUARD = 1 << 16, MOST_SECONDS = 600, MOST_TEXT = 1 << 17, KINDS = TEXT_FAULT + 1 };
-static const char *const names[KINDS] = {
-    [CHECK_RULE] = "ws2s_check_rule", [CHECK_TREE] = "ws2s_check_tree",
-    [DECIDE] = "ws2s_decide", [JUDGE] = "ws2s_judge",
-    [IMPORT] = "ws2s_import", [TEXT_FAULT] = "ws2s_text_fault" };
+enum { STACK = 1 << 16, GUARD = 1 << 16, MOST_SECONDS = 600 };
 
 static uint8_t *stack, *workspace;
-static struct lent lent_rule, lent_tree, lent_text, lent_out;
+static struct lent lent[ARGUMENTS];
 
 /* The most that each function used, and where; how often it was called. */
 static struct {
@@ -35,73 +31,11 @@ static struct {
 } most[KINDS];
 static unsigned long passed, failed;
 
-/* ---- Calls ---- */
-
-union result {
-    ws2s_rule rule;
-    ws2s_tree tree;
-    ws2s_judgement judgement;
-    ws2s_verdict verdict;
-    ws2s_written written;
-    ws2s_fault fault;
-};
-
-static void ask(const struct request *r, bool library, union result *result)
-{
-    const uint8_t *rule = lent_rule.at, *tree = lent_tree.at, *text = lent_text.at;
-    switch (r->kind) {
-    case CHECK_RULE:
-        result->rule = (library ? ws2s_check_rule : oracle_check_rule)(rule, r->rule.length);
-        break;
-    case CHECK_TREE:
-        result->tree = (library ? ws2s_check_tree : oracle_check_tree)(tree, r->tree.length);
-        break;
-    case JUDGE:
-        result->judgement = (library ? ws2s_judge : oracle_judge)(
-            rule, r->rule.length, r->c, workspace, r->workspace, tree, r->tree.length);
-        break;
-    case IMPORT:
-        result->written = (library ? ws2s_import : oracle_import)(text, r->text.length, lent_out.at, r->out);
-        break;
-    case TEXT_FAULT:
-        result->fault = (library ? ws2s_text_fault : oracle_text_fault)(text, r->text.length);
-        break;
-    default:
-        result->verdict = (library ? ws2s_decide : oracle_decide)(
-            rule, r->rule.length, r->c, r->p, workspace, r->workspace, lent_out.at, r->out);
-    }
-}
-
-static void lend_all(const struct request *r)
-{
-    lend_bytes(&lent_rule, r->rule.byte, r->rule.length, LENT_AT_END);
-    lend_bytes(&lent_tree, r->tree.byte, r->tree.length, LENT_AT_END);
-    lend_bytes(&lent_text, r->text.byte, r->text.length, LENT_AT_END);
-    lend(&lent_out, r->out, LENT_AT_END);
-}
-
-static bool tell(const struct request *r, const union result *result, char *text)
-{
-    switch (r->kind) {
-    case CHECK_RULE:
-        return tell_check(text, result->rule.refusal, result->rule.variables, result->rule.records, result->rule.place);
-    case CHECK_TREE:
-        return tell_check(text, result->tree.refusal, result->tree.variables, result->tree.positions, result->tree.place);
-    case JUDGE:
-        return tell_judgement(text, &result->judgement);
-    case IMPORT:
-        return tell_written(text, &result->written);
-    case TEXT_FAULT:
-        return tell_fault(text, &result->fault);
-    default:
-        return tell_verdict(text, &result->verdict, lent_out.at, r->out);
-    }
-}
-
 /* ---- The small stack ---- */
 
 struct call {
     const struct request *request;
+    uint8_t *at[ARGUMENTS];
     union result result;
     size_t used;
 };
@@ -109,25 +43,22 @@ struct call {
 static void open_all(void)
 {
     uint8_t *all = mmap(NULL, GUARD + STACK, PROT_NONE, MAP_PRIVATE | MAP_ANONYMOUS, -1, 0);
-    workspace = malloc(MOST_WORKSPACE);
+    workspace = malloc(WS2S_MAX_WORKSPACE);
     if (!workspace || all == MAP_FAILED || mprotect(all + GUARD, STACK, PROT_READ | PROT_WRITE) != 0) {
         perror("stack");
         exit(2);
     }
     stack = all + GUARD;
-    lent_open(&lent_rule, MOST_STRIP);
-    lent_open(&lent_tree, MOST_STRIP);
-    lent_open(&lent_text, MOST_TEXT);
-    lent_open(&lent_out, MOST_OUT);
+    lent_open_all(lent, MOST_TYPED, 0); /* of the workspace no test here looks at a byte */
 }
 
 /* The use counts from the frame that calls the library down to the lowest byte
  * that no longer has the pattern. */
-__attribute__((noinline)) static void call_library(struct call *c)
+__attribute__((noinline)) static void call_measured(struct call *c)
 {
     const uint8_t *frame = __builtin_frame_address(0), *pattern = lent_pattern(0);
     size_t untouched = 0;
-    ask(c->request, true, &c->result);
+    call_library(c->request, c->at, &c->result);
     while (untouched < LENT_CHUNK && stack[untouched] == pattern[untouched])
         untouched++;
     c->used = (size_t)(frame - (stack + untouched));
@@ -136,7 +67,7 @@ __attribute__((noinline)) static void call_library(struct call *c)
 static void *run_thread(void *call)
 {
     lent_watch_thread();
-    call_library(call);
+    call_measured(call);
     return NULL;
 }
 
@@ -158,31 +89,37 @@ static void run_on_stack(struct call *c)
 
 /* ---- Trying ---- */
 
+static void lend_all(struct call *c)
+{
+    lend_request(lent, c->request, LENT_AT_END, false, c->at);
+    c->at[WORKSPACE] = workspace;
+}
+
 static void fails(const struct request *r, const char *what, const char *fault, const char *answer)
 {
     failed++;
-    printf("%s, %s: %s\n  expected %s\n  answer   %s\n", names[r->kind], what, fault, r->expected, answer);
+    printf("ws2s_%s, %s: %s\n  expected %s\n  answer   %s\n", operations[r->operation].name, what, fault, r->expected, answer);
 }
 
 static void try_request(const struct request *r, const char *what)
 {
-    static char answer[MOST_LINE];
+    static char answer[2 * MOST_LINE];
     struct call c = { .request = r };
-    snprintf(lent_doing, sizeof lent_doing, "%s, %s, on a stack of %d bytes", names[r->kind], what, STACK);
+    snprintf(lent_doing, sizeof lent_doing, "ws2s_%s, %s, on a stack of %d bytes", operations[r->operation].name, what, STACK);
     alarm(MOST_SECONDS);
-    lend_all(r);
+    lend_all(&c);
     run_on_stack(&c);
-    bool idle = tell(r, &c.result, answer);
+    bool idle = tell(r->operation, &c.result, lent[OUT].at, r->number[OUT], answer);
     if (strcmp(answer, r->expected) != 0)
         fails(r, what, "another answer", answer);
     else if (!idle)
         fails(r, what, "a field that does not apply is not 0", answer);
     else
         passed++;
-    most[r->kind].calls++;
-    if (c.used > most[r->kind].used) {
-        most[r->kind].used = c.used;
-        snprintf(most[r->kind].what, sizeof most[r->kind].what, "%s", what);
+    most[r->operation].calls++;
+    if (c.used > most[r->operation].used) {
+        most[r->operation].used = c.used;
+        snprintf(most[r->operation].what, sizeof most[r->operation].what, "%s", what);
     }
 }
 
@@ -190,85 +127,44 @@ static void try_request(const struct request *r, const char *what)
  * expected one if none is stated. */
 static void try_both(struct request *r, const char *what, const char *stated)
 {
-    static char answer[MOST_LINE];
-    union result result;
-    lend_all(r);
-    ask(r, false, &result);
-    tell(r, &result, answer);
+    static char answer[2 * MOST_LINE];
+    struct call c = { .request = r };
+    lend_all(&c);
+    call(false, r, c.at, &c.result);
+    tell(r->operation, &c.result, lent[OUT].at, r->number[OUT], answer);
     r->expected = stated ? stated : answer;
     if (strcmp(answer, r->expected) != 0)
         fails(r, what, "another answer of the oracle", answer);
     try_request(r, what);
 }
 
-/* ---- Strips ---- */
-
-struct record {
-    unsigned op, first, second;
-};
-
-/* Each record has the op if it can, and names variables in turn and the record
- * before; the first is X0 subset X0. With a last record given it ends in that. */
-static size_t make_rule(struct strip *s, unsigned n, unsigned records, unsigned op,
-                        const struct record *last)
-{
-    size_t at;
-    put_heading(s, &at, n, records);
-    for (unsigned i = 0; i < records; i++) {
-        struct record r = { i ? op : 0, i % n, i % n };
-        if (r.op >= 5 && r.op <= 7)
-            r.first = i - 1;
-        if (r.op >= 6)
-            r.second = i - 1;
-        if (r.op == 1 || r.op == 4 || r.op == 5)
-            r.second = 0;
-        if (last && i == records - 1)
-            r = *last;
-        put_record(s, &at, r.op, r.first, r.second);
-    }
-    return at;
-}
-
-enum { NODES = 255 };
-enum shape { BY_FIRST, BY_SECOND, BY_TURNS, BROAD, SHAPES };
-static const char *const shape_names[] = { "a chain by the first branch", "a chain by the second branch",
-                                           "a chain by turns", "a broad tree" };
-
-/* Where the node bit of the last node stands. */
-static size_t last_node;
-
-/* Labels have all their bits, but the last one has none if it is to be bare. */
-static void put_tree(struct strip *s, size_t *at, unsigned n, unsigned nodes, enum shape shape, bool bare)
-{
-    if (nodes == 0) {
-        put(s, at, 1, 0);
-        return;
-    }
-    unsigned rest = nodes - 1, first = rest;
-    if (shape == BY_SECOND || (shape == BY_TURNS && nodes % 2))
-        first = 0;
-    else if (shape == BROAD)
-        first = rest / 2;
-    last_node = *at;
-    put(s, at, 1, 1);
-    put(s, at, n, bare && nodes == 1 ? 0 : (1u << n) - 1);
-    put_tree(s, at, n, first, shape, bare && first == rest);
-    put_tree(s, at, n, rest - first, shape, bare && first < rest);
-}
-
-static size_t make_tree(struct strip *s, unsigned n, unsigned nodes, enum shape shape, bool bare)
-{
-    size_t at = 0;
-    put(s, &at, 4, 1);
-    put(s, &at, 4, n);
-    put_tree(s, &at, n, nodes, shape, bare);
-    return at;
-}
-
 /* ---- What goes deepest ---- */
 
+enum { NODES = 255 };
+static const struct {
+    enum shape shape;
+    const char *name;
+} shapes[] = { { BY_FIRST, "a chain by the first branch" }, { BY_SECOND, "a chain by the second branch" },
+               { BY_TURNS, "a chain by turns" }, { BROAD, "a broad tree" } };
+enum { SHAPES = sizeof shapes / sizeof shapes[0] };
+
+static struct strip rule, tree;
+static struct typed text;
 static struct request made;
 static char what[200];
+
+/* Tries what was made. */
+static void try_made(enum operation operation, const char *stated)
+{
+    made.operation = operation;
+    made.byte[RULE] = rule.byte;
+    made.number[RULE] = rule.length;
+    made.byte[TREE] = tree.byte;
+    made.number[TREE] = tree.length;
+    made.byte[TEXT] = text.byte;
+    made.number[TEXT] = text.length;
+    try_both(&made, what, stated);
+}
 
 static void try_rules(void)
 {
@@ -288,31 +184,31 @@ static void try_rules(void)
         { 0x18, 128, 0, "refused 1 0" }, { 0x18, 128, 1, "refused 1 8" }, { 0x28, 128, 290, "refused 2 0" },
         { 0x10, 128, 290, "refused 3 4" }, { 0x19, 128, 290, "refused 3 4" }, { 0x18, 0, 290, "refused 4 8" },
         { 0x18, 129, 290, "refused 4 8" }, { 0x18, 128, 289, "refused 5 2312" }, { 0x18, 128, 291, "refused 5 2328" } };
-    made.kind = CHECK_RULE;
     for (unsigned op = 0; op <= 8; op++) {
-        make_rule(&made.rule, 8, 128, op, NULL);
+        make_plain_rule(&rule, 8, 128, op, NULL);
         snprintf(what, sizeof what, "128 records of op %u", op);
-        try_both(&made, what, "ok 8 128");
+        try_made(OP_check_rule, "ok 8 128");
     }
     for (size_t i = 0; i < sizeof bad / sizeof bad[0]; i++) {
-        make_rule(&made.rule, 8, 128, 7, &bad[i].last);
+        make_plain_rule(&rule, 8, 128, 7, &bad[i].last);
         snprintf(what, sizeof what, "a last record %u %u %u", bad[i].last.op, bad[i].last.first,
                  bad[i].last.second);
-        try_both(&made, what, bad[i].stated);
+        try_made(OP_check_rule, bad[i].stated);
     }
     for (size_t i = 0; i < sizeof heads / sizeof heads[0]; i++) {
-        make_rule(&made.rule, 8, 128, 7, NULL);
-        made.rule.byte[0] = heads[i].heading;
-        made.rule.byte[1] = heads[i].records;
-        made.rule.byte[290] = 0;
-        made.rule.length = heads[i].length;
+        make_plain_rule(&rule, 8, 128, 7, NULL);
+        rule.byte[0] = heads[i].heading;
+        rule.byte[1] = heads[i].records;
+        rule.byte[290] = 0;
+        rule.length = heads[i].length;
         snprintf(what, sizeof what, "a strip %02X%02X... of %zu bytes", heads[i].heading,
                  heads[i].records, heads[i].length);
-        try_both(&made, what, heads[i].stated);
+        try_made(OP_check_rule, heads[i].stated);
     }
-    size_t end = make_rule(&made.rule, 8, 127, 7, NULL);
-    put(&made.rule, &end, 1, 1);
-    try_both(&made, "127 records and a padding bit", "refused 6 2302");
+    size_t end = make_plain_rule(&rule, 8, 127, 7, NULL);
+    put(&rule, &end, 1, 1);
+    snprintf(what, sizeof what, "127 records and a padding bit");
+    try_made(OP_check_rule, "refused 6 2302");
 }
 
 /* Trees of as many nodes as there may be, and what is refused only after them. */
@@ -328,26 +224,26 @@ static const struct {
 /* Returns the place of its refusal. */
 static size_t make_deep(unsigned n, enum shape shape, int which)
 {
-    struct strip *t = &made.tree;
-    size_t end = make_tree(t, n, which == TOO_MANY ? NODES + 1 : NODES, shape, which == BARE), place = end;
+    struct tree_plan plan = { .n = n, .nodes = which == TOO_MANY ? NODES + 1 : NODES, .shape = shape, .full = true, .bare = which == BARE };
+    size_t end = make_tree(&tree, &plan), place = end;
     switch (which) {
     case LEFT_OVER:
-        place = 8 * t->length;
-        t->byte[t->length++] = 0;
+        place = 8 * tree.length;
+        tree.byte[tree.length++] = 0;
         break;
     case PADDED:
-        put(t, &end, 1, 1); /* neither with 1 nor with 8 variables does a tree fill its last byte */
+        put(&tree, &end, 1, 1); /* neither with 1 nor with 8 variables does a tree fill its last byte */
         break;
     case BARE:
     case TOO_MANY:
-        place = last_node;
+        place = node[nodes - 1].at;
         break;
     case CUT:
-        place = 8 * --t->length;
+        place = 8 * --tree.length;
         break;
     case CUT_DEEP:
-        t->length = (8 + NODES * ((size_t)n + 1)) / 8;
-        place = 8 * t->length;
+        tree.length = (8 + NODES * ((size_t)n + 1)) / 8;
+        place = 8 * tree.length;
         break;
     }
     return place;
@@ -356,10 +252,10 @@ static size_t make_deep(unsigned n, enum shape shape, int which)
 /* Lends what a rule needs, if the state ceiling is within range. */
 static void set_ceilings(uint64_t c)
 {
-    made.c = c;
-    made.p = NODES;
-    made.workspace = ((size_t)made.rule.byte[1] << (made.rule.byte[0] & 15)) * c * c;
-    made.out = 320;
+    made.number[C] = c;
+    made.number[P] = NODES;
+    made.number[WORKSPACE] = space_asked(rule.byte, c);
+    made.number[OUT] = WS2S_MAX_TREE_BYTES;
 }
 
 static const struct {
@@ -376,37 +272,34 @@ static void try_trees(unsigned n)
 {
     char ok[40], refused[60];
     snprintf(ok, sizeof ok, "ok %u %d", n, NODES);
-    for (enum shape shape = BY_FIRST; shape < SHAPES; shape++)
+    for (int shape = 0; shape < SHAPES; shape++)
         for (int which = WHOLE; which < TREES; which++) {
-            size_t place = make_deep(n, shape, which);
+            size_t place = make_deep(n, shapes[shape].shape, which);
             snprintf(refused, sizeof refused, "refused %u %zu", trees[which].refusal, place);
-            int used = snprintf(what, sizeof what, "n = %u, %s %s", n, shape_names[shape], trees[which].how);
-            made.kind = CHECK_TREE;
-            try_both(&made, what, which == WHOLE ? ok : refused);
-            made.kind = JUDGE;
+            int used = snprintf(what, sizeof what, "n = %u, %s %s", n, shapes[shape].name, trees[which].how);
+            try_made(OP_check_tree, which == WHOLE ? ok : refused);
             for (int i = 0; i < RULES; i++) {
-                make_rule(&made.rule, n, rules[i].records, rules[i].op, NULL);
+                make_plain_rule(&rule, n, rules[i].records, rules[i].op, NULL);
                 set_ceilings(rules[i].c);
                 snprintf(what + used, sizeof what - (size_t)used, ", records %u, op %u, c = %d",
                          rules[i].records, rules[i].op, (int)rules[i].c);
-                try_both(&made, what, which == WHOLE ? rules[i].answer : refused);
+                try_made(OP_judge, which == WHOLE ? rules[i].answer : refused);
             }
-            make_rule(&made.rule, 9 - n, 128, 0, NULL);
+            make_plain_rule(&rule, 9 - n, 128, 0, NULL);
             set_ceilings(1);
             snprintf(what + used, sizeof what - (size_t)used, ", a rule of another n");
-            try_both(&made, what, which == WHOLE ? "refused 22" : refused);
+            try_made(OP_judge, which == WHOLE ? "refused 22" : refused);
         }
 }
 
 static void try_decide(unsigned n)
 {
-    made.kind = DECIDE;
     for (int i = 0; i < RULES; i++) {
-        make_rule(&made.rule, n, rules[i].records, rules[i].op, NULL);
+        make_plain_rule(&rule, n, rules[i].records, rules[i].op, NULL);
         set_ceilings(rules[i].c);
         snprintf(what, sizeof what, "n = %u, records %u, op %u, c = %d", n, rules[i].records,
                  rules[i].op, (int)rules[i].c);
-        try_both(&made, what, NULL);
+        try_made(OP_decide, NULL);
     }
 }
 
@@ -417,57 +310,38 @@ static void try_shown(unsigned nodes)
 {
     size_t at;
     unsigned last = 0;
-    put_heading(&made.rule, &at, 2, 3 * nodes - 2);
-    put_record(&made.rule, &at, 4, 0, 0);
+    put_heading(&rule, &at, 2, 3 * nodes - 2);
+    put_record(&rule, &at, 4, 0, 0);
     for (unsigned i = 1; i < nodes; i++, last += 3) {
-        put_record(&made.rule, &at, 2, i % 2, (i - 1) % 2);
-        put_record(&made.rule, &at, 7, last, last + 1);
-        put_record(&made.rule, &at, 8, (i - 1) % 2, last + 2);
+        put_record(&rule, &at, 2, i % 2, (i - 1) % 2);
+        put_record(&rule, &at, 7, last, last + 1);
+        put_record(&rule, &at, 8, (i - 1) % 2, last + 2);
     }
-    made.kind = DECIDE;
     set_ceilings(64);
     snprintf(what, sizeof what, "a chain of %u nodes to be shown", nodes);
-    try_both(&made, what, NULL);
+    try_made(OP_decide, NULL);
 }
 
 /* Judges the deepest trees by a rule that has an answer. */
 static void judge_by(const struct request *decide, const char *name)
 {
-    unsigned n = decide->rule.byte[0] & 15;
-    made.kind = JUDGE;
-    made.rule = decide->rule;
-    set_ceilings(decide->c);
-    for (enum shape shape = BY_FIRST; shape < SHAPES; shape++) {
-        make_deep(n, shape, WHOLE);
-        snprintf(what, sizeof what, "%s, %s", name, shape_names[shape]);
-        try_both(&made, what, NULL);
+    rule.length = decide->number[RULE];
+    memcpy(rule.byte, decide->byte[RULE], rule.length);
+    set_ceilings(decide->number[C]);
+    for (int shape = 0; shape < SHAPES; shape++) {
+        make_deep(variables(&rule), shapes[shape].shape, WHOLE);
+        snprintf(what, sizeof what, "%s, %s", name, shapes[shape].name);
+        try_made(OP_judge, NULL);
     }
 }
 
 /* ---- Texts ---- */
 
-static char text[MOST_TEXT];
-static size_t text_length;
-
-static void put_text(const char *words)
-{
-    size_t length = strlen(words);
-    if (length > MOST_TEXT - text_length) {
-        fprintf(stderr, "a text of more than %d bytes\n", MOST_TEXT);
-        exit(2);
-    }
-    memcpy(text + text_length, words, length);
-    text_length += length;
-}
-
 static void try_text(const char *stated)
 {
-    made.text = (struct text){ (const uint8_t *)text, text_length };
-    made.out = WS2S_MAX_RULE_BYTES;
-    made.kind = IMPORT;
-    try_both(&made, what, stated);
-    made.kind = TEXT_FAULT;
-    try_both(&made, what, NULL);
+    made.number[OUT] = WS2S_MAX_RULE_BYTES;
+    try_made(OP_import, stated);
+    try_made(OP_text_fault, NULL);
 }
 
 /* What opens a level or more, what closes it, and the answer to as many as make 32
@@ -498,24 +372,24 @@ static const struct {
 static void make_nest(size_t kind, unsigned levels, const char *quantifier, unsigned quantifiers, bool end)
 {
     unsigned times = (levels - quantifiers + nests[kind].levels - 1) / nests[kind].levels;
-    text_length = 0;
-    put_text("ws2s;var2 X;");
+    text.length = 0;
+    put_text(&text, "ws2s;var2 X;");
     for (unsigned i = 0; i < quantifiers; i++)
-        put_text(quantifier);
+        put_text(&text, quantifier);
     for (unsigned i = 0; i < times; i++)
-        put_text(nests[kind].opens);
+        put_text(&text, nests[kind].opens);
     if (!end)
         return;
-    put_text("X sub X");
+    put_text(&text, "X sub X");
     for (unsigned i = 0; i < times; i++)
-        put_text(nests[kind].closes);
-    put_text(";");
+        put_text(&text, nests[kind].closes);
+    put_text(&text, ";");
 }
 
 static void try_nests(void)
 {
     static const char *const quantifiers[] = { "ex1 y:", "ex2 Y:", "all1 y:", "all2 Y:", "(X sub X)&ex1 y:", "X sub X|X sub X&~all2 Y:" };
-    enum { LEVELS = WS2S_MAX_LEVELS, QUANTIFIERS = WS2S_MAX_VARIABLES - 1 };
+    enum { QUANTIFIERS = WS2S_MAX_VARIABLES - 1 };
     for (size_t kind = 0; kind < sizeof nests / sizeof nests[0]; kind++) {
         unsigned whole = LEVELS / nests[kind].levels * nests[kind].levels; /* as many as fit */
         int used = snprintf(what, sizeof what, "levels of %s", nests[kind].opens);
@@ -550,22 +424,22 @@ static void try_long_texts(void)
         { "(", "", "refused 23" }, { "~", "", "refused 23" }, { "X sub X=>", "", "refused 23" }, { "ex1 x:", "", "refused 25" },
         { "LongName", " sub X;", "refused 24" }, { ".0", "", "refused 23" }, { ";", "", "refused 23" } };
     for (size_t i = 0; i < sizeof chains / sizeof chains[0]; i++) {
-        text_length = 0;
-        put_text("ws2s;var2 X;");
-        while (text_length < MOST_TEXT / 2)
-            put_text(chains[i].again);
-        put_text(chains[i].end);
+        text.length = 0;
+        put_text(&text, "ws2s;var2 X;");
+        while (text.length < MOST_TYPED / 2)
+            put_text(&text, chains[i].again);
+        put_text(&text, chains[i].end);
         snprintf(what, sizeof what, "64 KiB of %s", chains[i].again[0] == ' ' ? "separators" : chains[i].again);
         try_text(chains[i].stated);
     }
     /* so many records, one and six for each, that a count of one byte or two would come to 3 */
     static const unsigned wraps[] = { 43, 10923 };
     for (size_t i = 0; i < sizeof wraps / sizeof wraps[0]; i++) {
-        text_length = 0;
-        put_text("ws2s;var2 X;X sub X");
+        text.length = 0;
+        put_text(&text, "ws2s;var2 X;X sub X");
         for (unsigned times = 0; times < wraps[i]; times++)
-            put_text("<=>X sub X");
-        put_text(";");
+            put_text(&text, "<=>X sub X");
+        put_text(&text, ";");
         snprintf(what, sizeof what, "%u records", 1 + 6 * wraps[i]);
         try_text("refused 26");
     }
@@ -587,13 +461,11 @@ static void run_file(const char *name)
         r = (struct request){ .expected = "" };
         if (!read_request(line, &r)) {
             fails(&r, place, "not a line of this form", "");
-        } else if (r.kind > TEXT_FAULT) {
-            r.kind = IMPORT;
-            r.out = WS2S_MAX_RULE_BYTES;
+        } else if (r.then || r.strip) {
             try_both(&r, place, NULL);
         } else if (!r.program) {
             try_request(&r, place);
-            if (r.kind == DECIDE && strncmp(r.expected, "refused ", 8) != 0)
+            if (r.operation == OP_decide && strncmp(r.expected, "refused ", 8) != 0)
                 judge_by(&r, place);
         }
     }
@@ -615,8 +487,8 @@ int main(int argc, char **argv)
     try_long_texts();
     for (int i = 1; i < argc; i++)
         run_file(argv[i]);
-    for (int kind = 0; kind < KINDS; kind++)
-        printf("%s: at most %zu bytes of stack in %lu calls (%s)\n", names[kind], most[kind].used,
+    for (int kind = 1; kind < KINDS; kind++)
+        printf("ws2s_%s: at most %zu bytes of stack in %lu calls (%s)\n", operations[kind].name, most[kind].used,
                most[kind].calls, most[kind].what);
     printf("stack of %d bytes: %lu passed, %lu failed\n", STACK, passed, failed);
     return failed || !passed;

@@ -1,11 +1,12 @@
-/* Strips, and how one is written bit by bit. */
+/* Rule and tree strips: written bit by bit, made to measure, made at random. */
 #ifndef STRIP_H
 #define STRIP_H
 
-#include <stddef.h>
-#include <stdint.h>
+#include "chance.h"
 
-enum { MOST_STRIP = 2048 };
+#include <stddef.h>
+
+enum { MOST_STRIP = 2048, MOST_NODES = 512 };
 
 struct strip {
     uint8_t byte[MOST_STRIP];
@@ -24,6 +25,25 @@ static inline void put(struct strip *s, size_t *at, unsigned bits, unsigned valu
     s->length = (*at + 7) / 8;
 }
 
+static inline unsigned bits_at(const struct strip *s, size_t at, unsigned bits)
+{
+    unsigned value = 0;
+    for (; bits; bits--, at++)
+        value = value << 1 | (s->byte[at / 8] >> (7 - at % 8) & 1u);
+    return value;
+}
+
+/* ---- Rules ---- */
+
+struct record {
+    unsigned op, first, second;
+};
+
+/* Rule strips that were accepted have their n and m at the front. */
+static inline unsigned variables(const struct strip *s) { return s->byte[0] & 15; }
+static inline unsigned records(const struct strip *s) { return s->byte[1]; }
+static inline size_t record_at(unsigned number) { return 16 + 18 * (size_t)number; }
+
 /* The heading of a rule strip, at its front. */
 static inline void put_heading(struct strip *s, size_t *at, unsigned n, unsigned m)
 {
@@ -38,6 +58,262 @@ static inline void put_record(struct strip *s, size_t *at, unsigned op, unsigned
     put(s, at, 4, op);
     put(s, at, 7, first);
     put(s, at, 7, second);
+}
+
+static inline bool names_second_variable(unsigned op)
+{
+    return op == 0 || op == 2 || op == 3;
+}
+
+/* Each record has the op if it can, and names variables in turn and the record before;
+ * the first is X0 subset X0. With a last record given it ends in that. Returns the bit
+ * where the records end. */
+static inline size_t make_plain_rule(struct strip *s, unsigned n, unsigned m, unsigned op, const struct record *last)
+{
+    size_t at;
+    put_heading(s, &at, n, m);
+    for (unsigned i = 0; i < m; i++) {
+        struct record r = { i ? op : 0, i % n, i % n };
+        if (r.op >= 5 && r.op <= 7)
+            r.first = i - 1;
+        if (!names_second_variable(r.op))
+            r.second = r.op >= 6 ? i - 1 : 0;
+        if (last && i == m - 1)
+            r = *last;
+        put_record(s, &at, r.op, r.first, r.second);
+    }
+    return at;
+}
+
+/* One of the records below this one, late ones more often. */
+static inline unsigned some_record(unsigned below_this)
+{
+    return once_in(2) ? below(below_this) : below_this - 1 - below(below_this < 3 ? below_this : 3);
+}
+
+/* A valid record after so many others. */
+static inline struct record make_record(unsigned n, unsigned number)
+{
+    struct record r = { .op = number == 0 || below(100) < 35 ? below(5) : 5 + below(4) };
+    if (r.op == 5 && once_in(2))
+        r.op = 6 + below(3);
+    r.first = r.op <= 4 || r.op == 8 ? below(n) : some_record(number);
+    r.second = names_second_variable(r.op) ? below(n) : r.op >= 6 ? some_record(number) : 0;
+    return r;
+}
+
+static inline unsigned some_variables(void)
+{
+    return once_in(6) ? 1 + below(8) : 1 + below(3);
+}
+
+static inline unsigned some_records(void)
+{
+    return once_in(60) ? 1 + below(128) : once_in(3) ? 1 + below(32) : 1 + below(10);
+}
+
+/* A rule strip of valid records; at times one record has fields of any kind. */
+static inline void make_any_rule(struct strip *s)
+{
+    size_t at;
+    unsigned n = some_variables(), m = some_records();
+    unsigned odd = once_in(8) ? below(m) : m;
+    put_heading(s, &at, n, m);
+    for (unsigned i = 0; i < m; i++) {
+        struct record r = make_record(n, i);
+        if (i == odd) {
+            if (once_in(3))
+                r.op = below(16);
+            if (once_in(2))
+                r.first = once_in(2) ? below(128) : below(2 * n + 1);
+            if (once_in(2))
+                r.second = once_in(2) ? below(128) : i + below(2);
+        }
+        put_record(s, &at, r.op, r.first, r.second);
+    }
+}
+
+/* A rule strip with many states: several atoms joined one after the other, at
+ * times under a "not" or "exists". */
+static inline void make_broad_rule(struct strip *s)
+{
+    size_t at;
+    unsigned n = 2 + below(4), atoms = 2 + below(5), more = below(3), m = 2 * atoms - 1 + more;
+    unsigned kind = below(8); /* 5 and above: mixed atoms */
+    put_heading(s, &at, n, m);
+    for (unsigned i = 0; i < atoms; i++) {
+        unsigned op = kind < 5 ? kind : below(5);
+        unsigned first = (i + below(2)) % n, second = (first + 1 + below(n - 1)) % n;
+        put_record(s, &at, op, first, names_second_variable(op) ? second : 0);
+    }
+    for (unsigned i = 1; i < atoms; i++)
+        put_record(s, &at, 6 + below(2), i == 1 ? 0 : atoms + i - 2, i);
+    for (unsigned i = m - more; i < m; i++)
+        if (once_in(3))
+            put_record(s, &at, 5, i - 1, 0);
+        else
+            put_record(s, &at, 8, below(n), i - 1);
+}
+
+/* Puts records that the last one does not reach among those of an accepted rule
+ * strip: valid ones, that name any before them. */
+static inline void add_leftovers(struct strip *s)
+{
+    struct strip old = *s;
+    size_t at;
+    unsigned n = variables(&old), m = records(&old), room = 128 - m, number_of[128];
+    unsigned more = once_in(20) ? room : 1 + below(6);
+    if (more > room)
+        more = room;
+    put_heading(s, &at, n, m + more);
+    for (unsigned i = 0, number = 0; i < m; number++) {
+        struct record r;
+        if (more && below(more + m - 1 - i) < more) {
+            r = make_record(n, number);
+            more--;
+        } else {
+            r = (struct record){ bits_at(&old, record_at(i), 4), bits_at(&old, record_at(i) + 4, 7),
+                                 bits_at(&old, record_at(i) + 11, 7) };
+            if (r.op >= 5 && r.op <= 7)
+                r.first = number_of[r.first];
+            if (r.op >= 6)
+                r.second = number_of[r.second];
+            number_of[i++] = number;
+        }
+        put_record(s, &at, r.op, r.first, r.second);
+    }
+}
+
+/* ---- Trees ---- */
+
+enum shape { ANY_SHAPE, BY_FIRST, BY_SECOND, BY_CHANCE, BY_TURNS, BROAD };
+
+/* A tree to be made. Its labels are any, and then one bare leaf in so many is left bare,
+ * none with 0; or they have all their bits, and the last node has none if it is to be
+ * bare. */
+struct tree_plan {
+    unsigned n, nodes;
+    enum shape shape;
+    bool full;
+    unsigned bare;
+};
+
+/* The nodes of the tree made last, in the order of its strip: the place of the node
+ * bit, the label, below which node it hangs by which branch (0 for the root), and how
+ * deep. */
+static struct node {
+    size_t at;
+    unsigned label, above, branch, depth;
+} node[MOST_NODES];
+static unsigned nodes;
+
+static inline unsigned some_label(const struct tree_plan *t, bool leaf)
+{
+    unsigned all = (1u << t->n) - 1;
+    if (t->full)
+        return t->bare && nodes == t->nodes - 1 ? 0 : all;
+    unsigned label = below(all + UINT64_C(1));
+    if (once_in(3))
+        label &= below(all + UINT64_C(1));
+    return leaf && label == 0 && (t->bare == 0 || !once_in(t->bare)) ? 1 + below(all) : label;
+}
+
+/* How many of the nodes below one are below its first branch. */
+static inline unsigned some_first(enum shape shape, unsigned rest)
+{
+    switch (shape) {
+    case BY_FIRST: return rest;
+    case BY_SECOND: return 0;
+    case BY_CHANCE: return once_in(2) ? rest : 0;
+    case BY_TURNS: return rest % 2 ? rest : 0;
+    case BROAD: return rest / 2;
+    default: return below(rest + UINT64_C(1));
+    }
+}
+
+static inline void put_tree(struct strip *s, size_t *at, const struct tree_plan *t, unsigned left, unsigned above, unsigned branch)
+{
+    unsigned here = nodes;
+    put(s, at, 1, left > 0);
+    if (left == 0)
+        return;
+    unsigned label = some_label(t, left == 1), first = some_first(t->shape, left - 1);
+    node[nodes++] = (struct node){ *at - 1, label, above, branch, branch ? node[above].depth + 1 : 0 };
+    put(s, at, t->n, label);
+    put_tree(s, at, t, first, here, 1);
+    put_tree(s, at, t, left - 1 - first, here, 2);
+}
+
+/* Returns the bit where the tree ends. */
+static inline size_t make_tree(struct strip *s, const struct tree_plan *t)
+{
+    size_t at = 0;
+    nodes = 0;
+    put(s, &at, 4, 1);
+    put(s, &at, 4, t->n);
+    put_tree(s, &at, t, t->nodes, 0, 0);
+    return at;
+}
+
+/* A tree strip; at times it has bare leaves or too many nodes, and may then end
+ * in the byte with the node bit that is one too many, or just before it. */
+static inline void make_any_tree(struct strip *s, unsigned n)
+{
+    struct tree_plan t = { .n = n };
+    t.nodes = once_in(12) ? 250 + below(10) : once_in(5) ? below(256) : below(9);
+    t.bare = once_in(8) ? 4 : 1u << 20;
+    t.shape = below(4); /* those that are made at random and the chains */
+    make_tree(s, &t);
+    if (t.nodes > 255 && once_in(2))
+        s->length = node[255].at / 8 + !once_in(3);
+}
+
+/* ---- Any bytes ---- */
+
+/* Bytes of any kind, at times with a heading and length that fit. */
+static inline void make_bytes(struct strip *s)
+{
+    s->length = once_in(4) ? below(330) : below(24);
+    for (size_t i = 0; i < s->length; i++)
+        s->byte[i] = (uint8_t)(once_in(8) ? 0 : once_in(8) ? 255 : any());
+    if (s->length >= 1 && !once_in(4))
+        s->byte[0] = (uint8_t)(16 + below(10));
+    if (s->length >= 2 && !once_in(4)) {
+        s->byte[1] = (uint8_t)below(12);
+        if (!once_in(4))
+            s->length = (16 + 18 * (size_t)s->byte[1] + 7) / 8;
+        if (!once_in(4))
+            s->byte[s->length - 1] &= 0xC0;
+    }
+}
+
+/* Alters a strip; more: how many bytes may follow it at most. */
+static inline void damage(struct strip *s, unsigned more)
+{
+    switch (below(6)) {
+    case 0:
+        for (unsigned times = 1 + below(4); times && s->length; times--)
+            s->byte[below(s->length)] ^= (uint8_t)(1u << below(8));
+        break;
+    case 1:
+        if (s->length)
+            s->byte[below(s->length < 3 ? s->length : 3)] = (uint8_t)any();
+        break;
+    case 2:
+        s->length = below(s->length + 1);
+        break;
+    case 3:
+        s->length -= s->length > 0;
+        break;
+    case 4:
+        for (unsigned times = 1 + below(more); times && s->length < MOST_STRIP; times--)
+            s->byte[s->length++] = (uint8_t)(once_in(2) ? 0 : any());
+        break;
+    case 5:
+        if (s->length)
+            s->byte[s->length - 1] |= (uint8_t)(1u << below(8));
+        break;
+    }
 }
 
 #endif

@@ -6,9 +6,10 @@
 #include "chance.h"
 
 #include <stddef.h>
+#include <stdio.h>
 #include <string.h>
 
-enum { MOST_TYPED = 1 << 17, MOST_TOKENS = 1 << 13, MOST_NAME = 3000, LONG_NAMES = 3, MOST_ALIVE = 24 };
+enum { MOST_TYPED = 1 << 17, MOST_TOKENS = 1 << 13, MOST_NAME = 3000, LONG_NAMES = 3, MOST_ALIVE = 24, MOST_OWN = 1 << 10 };
 enum { TRACKS = 8, LEVELS = 32, RECORDS = 128 };
 
 struct typed {
@@ -36,6 +37,15 @@ static struct {
     unsigned levels, most_levels, deepest;
     unsigned records;
     int atoms_left; /* below 1 there are only those that must be */
+    /* if each variable is to have a name of its own: those given so far, with their variables, and all that stand in atoms */
+    bool own_names;
+    struct {
+        char name[8];
+        bool first_order;
+        unsigned variable;
+    } own[MOST_OWN];
+    unsigned owned;
+    char in_atoms[8 * MOST_TOKENS];
 } making;
 
 static char long_name[LONG_NAMES][MOST_NAME];
@@ -90,6 +100,16 @@ static inline struct token some_name(void)
     return word_of(names[below(once_in(2) ? 8 : sizeof names / sizeof names[0])]);
 }
 
+/* A name that the text has not had, for the next variable: p or S, for a place or a set, and its number. */
+static inline struct token own_name(bool first_order)
+{
+    unsigned i = making.owned < MOST_OWN - 1 ? making.owned++ : MOST_OWN - 1;
+    snprintf(making.own[i].name, sizeof making.own[i].name, "%c%u", first_order ? 'p' : 'S', i);
+    making.own[i].first_order = first_order;
+    making.own[i].variable = making.names;
+    return word_of(making.own[i].name);
+}
+
 static inline struct token some_token(void)
 {
     static const char *const tokens[] = { "ws2s", "var1", "var2", "ex1", "ex2", "all1", "all2", "sub", "in", "root", ";", ",", ":", "(", ")", "~",
@@ -135,7 +155,12 @@ static inline int visible(bool first_order)
 
 static inline void put_name(int alive)
 {
-    put_token(alive < 0 ? some_name() : making.alive[alive].name);
+    struct token name = alive < 0 ? some_name() : making.alive[alive].name;
+    put_token(name);
+    if (making.own_names) {
+        strncat(making.in_atoms, name.at, name.length);
+        strcat(making.in_atoms, " ");
+    }
 }
 
 static inline void put_atom(void)
@@ -170,6 +195,8 @@ static inline void put_quantifier(void)
 {
     bool all = once_in(2), first_order = once_in(2);
     struct token name = once_in(3) && making.names ? making.alive[below(making.names)].name : some_name();
+    if (making.own_names)
+        name = own_name(first_order);
     open_level(all ? first_order ? "all1" : "all2" : first_order ? "ex1" : "ex2");
     making.records += all ? first_order ? 5 : 3 : first_order ? 3 : 1;
     put_token(name);
@@ -182,13 +209,19 @@ static inline bool may_open(void)
     return making.levels < making.most_levels && making.tokens < MOST_TOKENS - 256;
 }
 
+/* A quantifier reaches over all that follows it here, which may be more than what is
+ * made for it; with names of their own, variables end where they are made to. */
 static inline void put_quantified(void)
 {
-    unsigned names = making.names;
+    unsigned names = making.names, levels = making.levels;
+    if (making.own_names)
+        open_level("(");
     put_quantifier();
     put_formula();
+    if (making.own_names)
+        put_word(")");
     making.names = names;
-    making.levels--;
+    making.levels = levels;
 }
 
 static inline void put_factor(void)
@@ -278,6 +311,8 @@ static inline void put_declarations(unsigned count)
         }
         put_word(open ? "," : first_order ? "var1" : "var2");
         open = true;
+        if (making.own_names)
+            name = own_name(first_order);
         put_token(name);
         name_alive(name, first_order);
         making.records += first_order ? 2 : 0;
@@ -402,6 +437,13 @@ static inline void put_byte(struct typed *t, uint8_t byte)
         t->byte[t->length++] = byte;
 }
 
+/* What does not fit is left out. */
+static inline void put_text(struct typed *t, const char *words)
+{
+    while (*words)
+        put_byte(t, (uint8_t)*words++);
+}
+
 /* The tokens' bytes, with something between two words, but for once in a while. */
 static inline void write_tokens(struct typed *t)
 {
@@ -462,15 +504,12 @@ static inline void make_long_text(struct typed *t)
     static const char *const parts[] = { "(X sub X)&", "X sub X|", "X sub X<=>", "X sub X=>X sub X<=>", "~X sub X&", "(", "~", "X sub X=>", "(ex1 y:y in X)&",
                                          "ex2 X:", " ", "\n", "Xx", "X sub X=>(", "all1 x:x in X=>(" };
     const char *part = parts[below(sizeof parts / sizeof parts[0])], *begin = "ws2s;var2 X;", *end = once_in(4) ? "" : "X sub X;";
-    size_t length = once_in(4) ? 1 << 16 : 1 + below(1 << 12), k;
+    size_t length = once_in(4) ? 1 << 16 : 1 + below(1 << 12);
     t->length = 0;
-    for (k = 0; begin[k]; k++)
-        put_byte(t, (uint8_t)begin[k]);
+    put_text(t, begin);
     while (t->length < length)
-        for (k = 0; part[k]; k++)
-            put_byte(t, (uint8_t)part[k]);
-    for (k = 0; end[k]; k++)
-        put_byte(t, (uint8_t)end[k]);
+        put_text(t, part);
+    put_text(t, end);
 }
 
 static inline void make_any_bytes(struct typed *t)
@@ -480,16 +519,40 @@ static inline void make_any_bytes(struct typed *t)
         put_byte(t, once_in(2) ? some_byte() : (uint8_t)any());
 }
 
-static inline void make_typed(struct typed *t)
+static inline void begin_typed(struct typed *t)
 {
     making.tokens = 0;
-    making.names = making.levels = making.deepest = making.records = 0;
+    making.names = making.levels = making.deepest = making.records = making.owned = 0;
     making.most_names = TRACKS;
     making.most_levels = LEVELS;
     making.atoms_left = 1 + (int)below(once_in(8) ? 60 : 8);
+    making.own_names = false;
+    making.in_atoms[0] = 0;
     t->levels = 0;
     make_long_names();
+}
+
+/* A text in which each variable has a name of its own, seldom one that is refused. */
+static inline void make_named(struct typed *t)
+{
+    begin_typed(t);
+    making.own_names = true;
+    making.most_levels = 8;
+    if (once_in(20)) {
+        put_declarations(1 + below(4));
+        put_broad(RECORDS - 8 + below(16));
+    } else {
+        put_declarations(below(5));
+        put_formula();
+    }
+    put_word(";");
+    write_tokens(t);
+}
+
+static inline void make_typed(struct typed *t)
+{
     bool known = true;
+    begin_typed(t);
     switch (below(64)) {
     case 0:
         make_any_bytes(t);

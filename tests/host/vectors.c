@@ -11,13 +11,11 @@
  * fails and a count, and ends with status 1 if anything did. */
 #define _DEFAULT_SOURCE
 #include "lent.h"
-#include "request.h"
 
-enum { MOST_SECONDS = 600 };
-static const size_t SMALL_WORKSPACE = (size_t)1 << 20;
+enum { MOST_SECONDS = 600, SMALL_WORKSPACE = 1 << 20 };
 
-static struct lent lent_rule, lent_tree, lent_text, lent_strip, lent_workspace, lent_out;
-static char fault[160], answer[MOST_LINE];
+static struct lent lent[ARGUMENTS];
+static char fault[160], answer[2 * MOST_LINE];
 static bool skipped; /* the line at hand */
 
 static bool fails(const char *what)
@@ -25,12 +23,6 @@ static bool fails(const char *what)
     if (!fault[0])
         snprintf(fault, sizeof fault, "%s", what);
     return false;
-}
-
-/* The pointer handed in: NULL for no bytes in some of the runs. */
-static uint8_t *handed(const struct lent *l, enum lent_place place)
-{
-    return l->at == l->end && place == LENT_AT_BEGINNING ? NULL : l->at;
 }
 
 /* Takes the number of states, its last number, out of a verdict. */
@@ -45,206 +37,114 @@ static void leave_out_states(char *verdict)
     }
 }
 
-/* The workspace after a refusal (0 for an answer). */
-static bool workspace_right(const struct request *r, uint64_t refusal)
+/* What a call leaves in the buffers. */
+static bool buffers_right(const struct request *r, const union result *result)
 {
+    uint64_t refusal = refusal_of(r->operation, result);
+    enum argument altered = lent_altered(lent, r);
+    if (altered)
+        return fails(altered == RULE ? "rule altered" : altered == TREE ? "tree altered" : "text altered");
+    if (has(r->operation, OUT)) /* the strip at its front is told, or checked as import_right has it */
+        if (!lent_kept_after(&lent[OUT], refusal ? 0 : number_at(result, operations[r->operation].answer->length)))
+            return fails("out not as it must be left");
+    if (!has(r->operation, WORKSPACE))
+        return true;
     if (refusal != 0 && refusal != 14)
-        return lent_kept_after(&lent_workspace, 0) || fails("workspace altered by a refusal before the build");
-    size_t asked = (size_t)r->rule.byte[1] << (r->rule.byte[0] & 15);
-    return lent_zero(&lent_workspace, asked * r->c * r->c) || fails("workspace not as it must be left");
+        return lent_kept_after(&lent[WORKSPACE], 0) || fails("workspace altered by a refusal before the build");
+    return lent_zero(&lent[WORKSPACE], space_asked(r->byte[RULE], r->number[C])) || fails("workspace not as it must be left");
 }
 
-static bool run_decide(const struct request *r, enum lent_place place)
+/* The text's fault is the import's, if its out buffer was long enough, and lies at a
+ * token in the text; a strip is one, of the numbers told. */
+static bool import_right(const struct request *r, uint8_t *const *at, const ws2s_written *w)
 {
-    ws2s_verdict v = ws2s_decide(handed(&lent_rule, place), r->rule.length, r->c, r->p,
-                                 handed(&lent_workspace, place), r->workspace,
-                                 handed(&lent_out, place), r->out);
-    bool idle = tell_verdict(answer, &v, lent_out.at, r->out);
-    if (strcmp(answer, r->expected) != 0)
-        return fails("another answer");
-    if (!idle)
-        return fails("a field that does not apply is not 0");
-    if (!lent_holds(&lent_out, r->shown.byte, r->shown.length))
-        return fails("out not as it must be left");
-    return workspace_right(r, v.refusal);
-}
-
-static bool run_judge(const struct request *r, enum lent_place place)
-{
-    ws2s_judgement j = ws2s_judge(handed(&lent_rule, place), r->rule.length, r->c,
-                                  handed(&lent_workspace, place), r->workspace,
-                                  handed(&lent_tree, place), r->tree.length);
-    bool idle = tell_judgement(answer, &j);
-    if (strcmp(answer, r->expected) != 0)
-        return fails("another answer");
-    if (!idle)
-        return fails("a field that does not apply is not 0");
-    return workspace_right(r, j.refusal);
-}
-
-static bool run_check(const struct request *r, enum lent_place place)
-{
-    uint64_t refusal, variables, count, at;
-    if (r->kind == CHECK_RULE) {
-        ws2s_rule c = ws2s_check_rule(handed(&lent_rule, place), r->rule.length);
-        refusal = c.refusal, variables = c.variables, count = c.records, at = c.place;
-    } else {
-        ws2s_tree c = ws2s_check_tree(handed(&lent_tree, place), r->tree.length);
-        refusal = c.refusal, variables = c.variables, count = c.positions, at = c.place;
+    uint64_t length = r->number[TEXT];
+    ws2s_fault f = ws2s_text_fault(at[TEXT], length);
+    if (w->refusal == 0) {
+        ws2s_rule c = ws2s_check_rule(lend_bytes(&lent[RULE], at[OUT], w->length, LENT_AT_END), w->length);
+        if (!lent_holds(&lent[RULE], at[OUT], w->length))
+            return fails("rule altered");
+        if (w->length != (16 + 18 * w->records + 7) / 8)
+            return fails("another length of the strip");
+        if (c.refusal != 0 || c.variables != w->variables || c.records != w->records)
+            return fails("the strip does not check with these numbers");
     }
-    bool idle = tell_check(answer, refusal, variables, count, at);
-    if (strcmp(answer, r->expected) != 0)
-        return fails("another answer");
-    return idle || fails("a field that does not apply is not 0");
-}
-
-/* The text's fault is the import's, if its out buffer was long enough, and lies at
- * a token in the text. */
-static bool fault_right(const struct request *r, uint64_t refusal, enum lent_place place)
-{
-    ws2s_fault f = ws2s_text_fault(handed(&lent_text, place), r->text.length);
-    if (refusal != 27 && f.refusal != refusal)
+    if (w->refusal != 27 && f.refusal != w->refusal)
         return fails("another refusal as the text's fault");
     if (f.refusal < 23 || f.refusal > 25)
         return (f.start == 0 && f.length == 0) || fails("a token told without a fault at one");
     if (f.length == 0)
-        return f.start == r->text.length || fails("a token of no bytes before the end");
-    return (f.start < r->text.length && f.length <= r->text.length - f.start) || fails("a token outside the text");
+        return f.start == length || fails("a token of no bytes before the end");
+    return (f.start < length && f.length <= length - f.start) || fails("a token outside the text");
 }
 
-/* Imports into out, which is lent here; it holds the strip afterwards. */
-static bool run_import(const struct request *r, struct lent *out, size_t length, enum lent_place place, ws2s_written *w)
+/* One call, with its buffers in one place. */
+static bool run_call(const struct request *r, enum lent_place place, union result *result)
 {
-    lend(out, length, place);
-    *w = ws2s_import(handed(&lent_text, place), r->text.length, handed(out, place), length);
-    bool idle = tell_written(answer, w);
-    if (r->kind == IMPORT && strcmp(answer, r->expected) != 0)
-        return fails("another answer");
-    if (!idle)
-        return fails("a field that does not apply is not 0");
-    if (w->refusal)
-        return (lent_kept_after(out, 0) || fails("out altered by a refusal")) && fault_right(r, w->refusal, place);
-    if (w->length != (16 + 18 * w->records + 7) / 8 || w->length > length)
-        return fails("another length of the strip");
-    if (!lent_kept_after(out, w->length))
-        return fails("out altered after the strip");
-    ws2s_rule c = ws2s_check_rule(out->at, w->length);
-    if (c.refusal != 0 || c.variables != w->variables || c.records != w->records)
-        return fails("the strip does not check with these numbers");
-    return fault_right(r, 0, place);
-}
-
-static bool run_text_fault(const struct request *r, enum lent_place place)
-{
-    ws2s_fault f = ws2s_text_fault(handed(&lent_text, place), r->text.length);
-    bool idle = tell_fault(answer, &f);
-    ws2s_written w;
-    if (strcmp(answer, r->expected) != 0)
-        return fails("another answer");
-    if (!idle)
-        return fails("a field that does not apply is not 0");
-    return run_import(r, &lent_strip, WS2S_MAX_RULE_BYTES, place, &w);
-}
-
-static bool run_import_strip(const struct request *r, enum lent_place place)
-{
-    ws2s_written w;
-    if (!run_import(r, &lent_strip, WS2S_MAX_RULE_BYTES, place, &w))
-        return false;
-    return lent_holds(&lent_strip, r->shown.byte, r->shown.length) || fails("another strip");
-}
-
-/* Decides or judges what was imported, by meaning: its states are no part of the answer. */
-static bool run_imported(const struct request *line, enum lent_place place)
-{
-    static struct request r;
-    ws2s_written w;
-    if (!run_import(line, &lent_strip, WS2S_MAX_RULE_BYTES, place, &w))
-        return false;
-    if (w.refusal)
-        return fails("refused, where a strip is expected");
-    r = *line;
-    r.rule.length = w.length;
-    memcpy(r.rule.byte, lent_strip.at, w.length);
-    r.workspace = (w.records << w.variables) * r.c * r.c;
-    lend(&lent_workspace, r.workspace, place);
-    lend(&lent_out, r.out, place);
-    uint64_t refusal;
-    bool idle;
-    if (r.kind == IMPORT_JUDGE) {
-        ws2s_judgement j = ws2s_judge(lent_strip.at, w.length, r.c, lent_workspace.at, r.workspace,
-                                      handed(&lent_tree, place), r.tree.length);
-        refusal = j.refusal;
-        idle = tell_judgement(answer, &j);
-    } else {
-        ws2s_verdict v = ws2s_decide(lent_strip.at, w.length, r.c, r.p, lent_workspace.at, r.workspace, lent_out.at, r.out);
-        refusal = v.refusal;
-        idle = tell_verdict(answer, &v, lent_out.at, r.out);
+    uint8_t *at[ARGUMENTS] = { NULL };
+    lend_request(lent, r, place, place == LENT_AT_BEGINNING, at);
+    call_library(r, at, result);
+    bool idle = tell(r->operation, result, lent[OUT].at, r->number[OUT], answer);
+    if (r->strip && idle)
+        answer[tell_bytes(answer, lent[OUT].at, result->written.length)] = 0;
+    if (r->then) /* by meaning: states are no part of the answer */
         leave_out_states(answer);
-    }
-    skipped = refusal == 14;
-    if (!skipped && strcmp(answer, r.expected) != 0)
+    skipped = r->then && refusal_of(r->operation, result) == 14;
+    if (r->expected && !skipped && strcmp(answer, r->expected) != 0)
         return fails("another answer");
     if (!idle)
         return fails("a field that does not apply is not 0");
-    if (!lent_holds(&lent_strip, r.rule.byte, r.rule.length))
-        return fails("rule altered");
-    if (!lent_holds(&lent_out, r.shown.byte, skipped ? 0 : r.shown.length))
-        return fails("out not as it must be left");
-    return workspace_right(&r, refusal);
+    return buffers_right(r, result) && (r->operation != OP_import || import_right(r, at, &result->written));
 }
 
-static bool run_request(const struct request *r, enum lent_place place)
+/* Asks what a line wants to know about the strip that was imported for it. */
+static bool run_then(const struct request *line, enum lent_place place)
 {
-    ws2s_written w;
-    switch (r->kind) {
-    case CHECK_RULE: case CHECK_TREE: return run_check(r, place);
-    case DECIDE: return run_decide(r, place);
-    case JUDGE: return run_judge(r, place);
-    case IMPORT: return run_import(r, &lent_strip, r->out, place, &w);
-    case TEXT_FAULT: return run_text_fault(r, place);
-    case IMPORT_STRIP: return run_import_strip(r, place);
-    case IMPORT_DECIDE: case IMPORT_JUDGE: return run_imported(r, place);
-    }
-    return fails("not a line of this form");
+    uint8_t strip[WS2S_MAX_RULE_BYTES];
+    struct request import = *line, then = *line;
+    union result result;
+    import.then = NO_OPERATION;
+    import.expected = NULL;
+    if (!run_call(&import, place, &result))
+        return false;
+    if (result.written.refusal)
+        return fails("refused, where a strip is expected");
+    memcpy(strip, lent[OUT].at, result.written.length);
+    then.operation = line->then;
+    then.byte[RULE] = strip;
+    then.number[RULE] = result.written.length;
+    then.number[WORKSPACE] = space_asked(strip, then.number[C]);
+    then.number[OUT] = has(then.operation, OUT) ? WS2S_MAX_TREE_BYTES : 0;
+    return run_call(&then, place, &result);
 }
 
 static bool run(const struct request *r, enum lent_place place)
 {
-    bool has_text = r->kind >= IMPORT, has_rule = !has_text && r->kind != CHECK_TREE;
-    bool has_tree = r->kind == CHECK_TREE || r->kind == JUDGE || r->kind == IMPORT_JUDGE;
-    if (has_rule)
-        lend_bytes(&lent_rule, r->rule.byte, r->rule.length, place);
-    if (has_tree)
-        lend_bytes(&lent_tree, r->tree.byte, r->tree.length, place);
-    if (has_text)
-        lend_bytes(&lent_text, r->text.byte, r->text.length, place);
-    if (r->kind == DECIDE || r->kind == JUDGE) {
-        lend(&lent_workspace, r->workspace, place);
-        lend(&lent_out, r->out, place);
-    }
-    bool right = run_request(r, place);
-    if (has_rule && !lent_holds(&lent_rule, r->rule.byte, r->rule.length))
-        right = fails("rule altered");
-    if (has_tree && !lent_holds(&lent_tree, r->tree.byte, r->tree.length))
-        right = fails("tree altered");
-    if (has_text && !lent_holds(&lent_text, r->text.byte, r->text.length))
-        right = fails("text altered");
-    return right;
+    union result result;
+    struct request import = *r;
+    if (r->then)
+        return run_then(r, place);
+    if (!run_call(r, place, &result))
+        return false;
+    if (r->operation != OP_text_fault)
+        return true;
+    import.operation = OP_import;
+    import.number[OUT] = WS2S_MAX_RULE_BYTES;
+    import.expected = NULL;
+    return run_call(&import, place, &result);
 }
 
 /* Runs one line with its buffers in every place, or in one if they are large. */
 static bool run_line(char *line)
 {
-    static struct request r;
+    struct request r;
     fault[0] = answer[0] = 0;
     skipped = false;
     if (!read_request(line, &r))
         return fails("not a line of this form");
-    if (r.program && r.rule.length > VERDICT_INPUT)
-        r.rule.length = VERDICT_INPUT;
-    bool large = (r.kind == DECIDE || r.kind == JUDGE) && r.workspace > SMALL_WORKSPACE;
-    for (enum lent_place place = LENT_AT_END; place < (large ? 1 : LENT_PLACES); place++)
+    if (r.program && r.number[RULE] > VERDICT_INPUT)
+        r.number[RULE] = VERDICT_INPUT;
+    for (enum lent_place place = LENT_AT_END; place < (r.number[WORKSPACE] > SMALL_WORKSPACE ? 1 : LENT_PLACES); place++)
         if (!run(&r, place))
             return false;
     return true;
@@ -255,12 +155,7 @@ int main(int argc, char **argv)
     static char line[MOST_LINE], copy[MOST_LINE];
     unsigned long passed = 0, failed = 0, skips = 0;
     lent_watch();
-    lent_open(&lent_rule, MOST_STRIP);
-    lent_open(&lent_tree, MOST_STRIP);
-    lent_open(&lent_text, MOST_LINE);
-    lent_open(&lent_strip, MOST_OUT);
-    lent_open(&lent_workspace, MOST_WORKSPACE);
-    lent_open(&lent_out, MOST_OUT);
+    lent_open_all(lent, MOST_LINE, WS2S_MAX_WORKSPACE);
     for (int i = 1; i < argc; i++) {
         FILE *file = fopen(argv[i], "r");
         unsigned long number = 0, skips_before = skips;

@@ -10,8 +10,7 @@
  * oracle must give it too. Other lines of the files are passed over. It prints
  * what fails and a count, and ends with status 1 if anything did. */
 #define _DEFAULT_SOURCE
-#include "oracle.h"
-#include "request.h"
+#include "both.h"
 
 #include <errno.h>
 #include <fcntl.h>
@@ -237,7 +236,7 @@ static void try_all(const char *what, const uint8_t *bytes, size_t length, const
 static void run_file(const char *name)
 {
     static char line[MOST_LINE];
-    static struct request r;
+    struct request r;
     char what[300];
     FILE *file = fopen(name, "r");
     if (!file)
@@ -248,7 +247,7 @@ static void run_file(const char *name)
         if (strncmp(line, "verdict ", 8) != 0)
             continue;
         if (read_request(line, &r))
-            try_all(what, r.rule.byte, r.rule.length, r.expected);
+            try_all(what, r.byte[RULE], r.number[RULE], r.expected);
         else
             count(what, "not run", "not a line of this form", "");
     }
@@ -262,13 +261,15 @@ static uint8_t input[MOST_INPUT];
 /* The line of a result of decide, as the program asks. */
 static const char *line_of(bool library, size_t length)
 {
-    static char text[MOST_LINE];
+    static char text[2 * MOST_LINE];
     static uint8_t workspace[VERDICT_WORKSPACE], out[VERDICT_OUT];
+    struct request r;
+    union result result;
+    begin_request("verdict", &r);
+    r.number[RULE] = length < VERDICT_INPUT ? length : VERDICT_INPUT;
     memset(workspace, 0, sizeof workspace);
-    ws2s_verdict v = (library ? ws2s_decide : oracle_decide)(
-        input, length < VERDICT_INPUT ? length : VERDICT_INPUT, VERDICT_C, VERDICT_P,
-        workspace, sizeof workspace, out, sizeof out);
-    tell_verdict(text, &v, out, sizeof out);
+    call(library, &r, (uint8_t *[ARGUMENTS]){ [RULE] = input, [WORKSPACE] = workspace, [OUT] = out }, &result);
+    tell(r.operation, &result, out, sizeof out, text);
     return text;
 }
 
