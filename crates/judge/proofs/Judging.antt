@@ -2,7 +2,7 @@
 use Prim.Native.Nat.{ℕ, _-_}
 use mathlib.Core.Path.{_≡_, refl, sym, ap, _∙_}
 use mathlib.Core.Logic.{_⊎_, inl, inr, ⊎-elim}
-use mathlib.Core.Bool.{Bool}
+use mathlib.Core.Bool.{Bool, true, false}
 use mathlib.Core.List.{List}
 use native.Mathlib.Omega.{arith}
 use lib.ListN.{length}
@@ -30,7 +30,7 @@ use Rattle.rules.proofs.Rooms.{ceiling-free, workspace-free}
 use Rattle.rules.proofs.TreeRefusals.{tree-free, tree-facts}
 use Rattle.judge.specs.Judge.{judgeRefusal, judgedOf, rulingJudgement, judgementFor, workspaceFor, JudgeClaim}
 use Rattle.judge.specs.declared.Judgement.{Judgement}
-use Rattle.judge.specs.declared.Judgement.the-variants.{Refused}
+use Rattle.judge.specs.declared.Judgement.the-variants.{No, Yes, Refused}
 
 -- ---- the answer
 module _ {rule : List ℕ} {c room : ℕ} (w : Workable rule c room) {tree : List ℕ} (a : AcceptedTree tree (variablesOf rule)) where
@@ -54,6 +54,15 @@ module _ {rule : List ℕ} {c room : ℕ} (w : Workable rule c room) {tree : Lis
       ap say (accepts (h .machine) (a .tree) (h .stored) (f .proper) (facts-stand tree n (a .tree) f))
       ∙ judge-any 2 n (recordsOf rule) (rule-accepted rule (w .sound) .records-accepted) c (d .roomy) _ (d .decides) (a .tree) (A .0) (A .1)
       ∙ sym is-judged
+
+module _ {b : Bool} {j : Ruled} (e : say b ≡ j) where
+  pub told-yes : b ≡ true → Yes ≡ rulingJudgement j
+  unfolding say rulingJudgement
+  told-yes h = rw (← e, h)
+
+  pub told-no : b ≡ false → No ≡ rulingJudgement j
+  unfolding say rulingJudgement
+  told-no h = rw (← e, h)
 
 -- ---- the end, by the refusals
 module _ (rule : List ℕ) (c : ℕ) (ws tree : List ℕ) where

@@ -16,6 +16,9 @@ pub room-shares : (n m c : ℕ) → Shaped (shapeOf n c) → shareAt (shapeOf n 
 unfolding shareAt
 room-shares n m c h = ap (λ (z : ℕ). m * z) (share-two (shapeOf n c) h)
 
+pub room-same : {n n′ m m′ : ℕ} (c : ℕ) → n ≡ n′ → m ≡ m′ → roomFor n m c ≡ roomFor n′ m′ c
+room-same c e f = rw (e, f)
+
 pub shaped : {n c : ℕ} → 1 ≤ n → n ≤ 8 → 1 ≤ c → c ≤ 64 → Shaped (shapeOf n c)
 shaped a b d e = record { some-variable = a; variables = b; some-state = d; ceiling = e; branches = refl }
 

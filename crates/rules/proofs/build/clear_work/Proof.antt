@@ -1,8 +1,9 @@
 -- `rules::build::clear_work` meets its contract. Assumes nothing.
-use mathlib.Core.Path.{_≡_, refl}
+use mathlib.Core.Path.{_≡_, _∙_}
 use native.Mathlib.Omega.{arith}
 use borrow.Author.Needs.{needs}
 use Rattle.rules.specs.Room.{roomOf}
+use Rattle.rules.proofs.Rooms.{room-same}
 use Rattle.rules.proofs.Rules.{rule-sizes}
 use Rattle.rules.proofs.build.clear_work.Statement.{statement}
 use Rattle.rules.proofs.build.clear_work.Tie as tie
@@ -21,7 +22,7 @@ needed-requires c κs =
 -- what is cleared is what 12 asks for
 room : (c : tie.After-needed)
     → let s = c .before .before .before .before .before .before in c .needed .result ≡ roomOf (s .args .rule .now) (s .args .c)
-room c = rw (c .needed .ensures, c .before .before .before .variables-of .ensures, c .before .before .count-of .ensures) refl
+room c = c .needed .ensures ∙ room-same _ (c .before .before .before .variables-of .ensures) (c .before .before .count-of .ensures)
 
 clear-requires : tie.Need-clear-requires
 clear-requires c κs = rw (room c) (c .before .before .before .before .before .before .pre .long)
