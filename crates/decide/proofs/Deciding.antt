@@ -1,4 +1,4 @@
--- From a rule's machine and the search over it to decide's answer and the bytes in out. Assumes nothing.
+-- From what was built and found to decide's answer and the bytes in out. Assumes nothing.
 use Prim.Native.Nat.{ℕ, _+_, _-_, _≤_}
 use mathlib.Core.Path.{_≡_, refl, sym, ap, _∙_}
 use mathlib.Core.List.{List, _++_}
@@ -7,20 +7,16 @@ use native.Mathlib.Omega.{arith}
 use lib.ListN.{length, take, drop}
 use lib.Seq.{length-take-le}
 use Rattle.logic.specs.Tree.{Tree, positions}
-use Rattle.logic.specs.Claims.{Outcome, refused14, shown, FirstOver}
-use Rattle.logic.specs.Search.{Sought, tree, large, absent}
+use Rattle.logic.specs.Claims.{refused14, shown, FirstOver}
+use Rattle.logic.specs.Search.{tree}
 use Rattle.logic.specs.Decide.{report}
 use Rattle.logic.proofs.Answers.{decide-answers, shown-fits}
-use Rattle.logic.proofs.Builders.{decide-any}
-use Rattle.reading.specs.Reading.{Finds}
-use Rattle.records.specs.declared.Summary.{Summary}
 use Rattle.search.specs.Rounds.{answerBy, answerOf, Ended}
 use Rattle.search.specs.declared.Found.{Found}
 use Rattle.search.specs.declared.Finding.the-variants.{None as Absent, Larger as Large, Shown as Tree-found}
-use Rattle.rule_strip.specs.RuleStrip.{variablesOf, countOf, recordsOf, ruleFault}
+use Rattle.rule_strip.specs.RuleStrip.{variablesOf, recordsOf, ruleFault}
 use Rattle.rule_strip.proofs.RuleLaws.{rule-accepted}
 use Rattle.bits.specs.declared.Fault.the-variants.{Sound}
-use Rattle.rules.specs.Building.{ruleShape, Decider}
 use Rattle.tree_strip.specs.Ranks.{treeOfRank}
 use Rattle.tree_strip.specs.TreeStrip.{treeStrip, treeBytes}
 use Rattle.tree_strip.proofs.TreeLaws.{treeStrip-length}
@@ -40,19 +36,6 @@ module _ (rule : List ℕ) (sound : ruleFault rule ≡ Sound) (c P : ℕ) where
       let w = shown-fits 2 (variablesOf rule) (recordsOf rule) c P (rule-accepted rule sound .records-accepted) places states t f in
       let e = mul-le-mul-right (variablesOf rule + 1) (w .1) in
       (let a = w .1 in omega arith, let a = w .1 in omega arith)
-
-  -- what the search over the last record's machine found
-  module _ {k : Summary} {ws : List ℕ} (d : Decider rule c k ws) (f : Found) (finds : Finds ws (ruleShape rule c) (countOf rule - 1) k P f) where
-    pub found-ended : Ended (answerOf f) f
-    found-ended =
-        let e = finds (d .readable .machine) (d .readable .stored) in
-        record { answer = refl; counted = λ t h. e .counted t (sym (e .answer) ∙ h); back = e .back; low = e .low; high = e .high }
-
-    pub found-decided : report (k .count) (answerOf f) ≡ decidedOf rule c P
-    found-decided =
-        let h = d .readable in
-        rw (h .stored .count, finds (h .machine) (h .stored) .answer)
-        (decide-any 2 (variablesOf rule) (recordsOf rule) (rule-accepted rule sound .records-accepted) c P (d .roomy) _ (d .decides) _ (d .full))
 
 -- what a finding tells, and what stands in out then
 module _ (n states : ℕ) (f : Found) (out : List ℕ) where

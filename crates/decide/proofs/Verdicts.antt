@@ -18,8 +18,8 @@ use Rattle.refusals.specs.Refusal.{answerUnless}
 use Rattle.refusals.specs.declared.Refusal.{Refusal}
 use Rattle.refusals.specs.declared.Refusal.the-variants.{Nothing, Placed, Plain, TooManyStates}
 use Rattle.refusals.proofs.Refusals.{checked-free, tested-free, unless-refused, checked-placed, tested-unplaced, nothing-unplaced}
-use Rattle.rules.specs.Room.{roomOf, cleared, ceilingRefusal, placesRefusal, workspaceRefusal, outRefusal, Workable}
-use Rattle.rules.proofs.Rooms.{ceiling-free, places-free, workspace-free, out-free}
+use Rattle.rules.specs.Room.{roomOf, cleared, placesRefusal, outRefusal, Workable}
+use Rattle.rules.proofs.Rooms.{places-free, out-free, work-free, work-unplaced}
 use Rattle.decide.specs.Decide.{roomRefusal, decideRefusal, decidedOf, outcomeVerdict, outAfter, verdictOf, workspaceOf, outOf, DecideClaim}
 use Rattle.decide.specs.declared.Verdict.{Verdict}
 use Rattle.decide.specs.declared.Verdict.the-variants.{Refused}
@@ -28,9 +28,7 @@ use Rattle.decide.specs.declared.Verdict.the-variants.{Refused}
 room-unplaced : (n m c P room outRoom : ℕ) {k p : ℕ} → roomRefusal n m c P room outRoom ≡ Placed k p → ⊥
 unfolding roomRefusal
 room-unplaced n m c P room outRoom e =
-    nothing-unplaced
-    (tested-unplaced (outRefusal n P outRoom) _
-    (tested-unplaced (workspaceRefusal n m c room) _ (tested-unplaced (placesRefusal P) _ (tested-unplaced (ceilingRefusal c) _ e))))
+    nothing-unplaced (tested-unplaced (outRefusal n P outRoom) _ (work-unplaced n m c room _ (tested-unplaced (placesRefusal P) _ e)))
 
 module _ (rule : List ℕ) (c P : ℕ) (ws out : List ℕ) where
   -- decide ends so
@@ -53,18 +51,11 @@ module _ (rule : List ℕ) (c P : ℕ) (ws out : List ℕ) where
     early-free =
         let s = checked-free (ruleFault rule) _ e in
         let n = variablesOf rule in
-        let a = tested-free (ceilingRefusal c) _ (s .1) in
-        let b = tested-free (placesRefusal P) _ (a .1) in
-        let d = tested-free (workspaceRefusal n (countOf rule) c (length ws)) _ (b .1) in
-        let w = ceiling-free c (a .0) in (
-          record {
-            sound = s .0;
-            some-state = w .0;
-            few-states = w .1;
-            long = workspace-free n (countOf rule) c (length ws) (d .0);
-          },
-          places-free P (b .0),
-          out-free n P (length out) (tested-free (outRefusal n P (length out)) _ (d .1) .0),
+        let a = tested-free (placesRefusal P) _ (s .1) in
+        let w = work-free n (countOf rule) c (length ws) _ (a .1) in (
+          record { sound = s .0; some-state = w .0; few-states = w .1; long = w .2 },
+          places-free P (a .0),
+          out-free n P (length out) (tested-free (outRefusal n P (length out)) _ (w .3) .0),
         )
 
     pub ends-told : {x : Verdict} → x ≡ outcomeVerdict (variablesOf rule) (decidedOf rule c P) → {ws′ : List ℕ} → ws′ ≡ cleared (roomOf rule c) ws

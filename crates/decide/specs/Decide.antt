@@ -13,14 +13,15 @@ use Rattle.tree_strip.specs.TreeStrip.{treeStrip, treeBytes, readTree, parsed}
 use Rattle.refusals.specs.Refusal.{checked, tested, unlessRefused, answerUnless}
 use Rattle.refusals.specs.declared.Refusal.{Refusal}
 use Rattle.refusals.specs.declared.Refusal.the-variants.{Nothing, Placed, TooManyStates}
-use Rattle.rules.specs.Room.{roomOf, cleared, ceilingRefusal, placesRefusal, workspaceRefusal, outRefusal}
+use Rattle.rules.specs.Room.{roomOf, cleared, placesRefusal, workRefusal, outRefusal}
 use Rattle.decide.specs.declared.Verdict.{Verdict}
 use Rattle.decide.specs.declared.Verdict.the-variants.{Shown, None, Larger, Refused}
 
--- "11 c not 1 to 64 or P above 255; 12 workspace shorter [..]; 13 out buffer shorter [..]", of a strip of m records over n variables
+-- "11 c not 1 to 64 or P above 255; 12 workspace shorter [..]; 13 out buffer shorter [..]", of a strip of m records over n variables. 11 is
+-- the same for either ceiling
 unfoldable pub roomRefusal : ℕ → ℕ → ℕ → ℕ → ℕ → ℕ → Refusal
 roomRefusal n m c P room outRoom =
-    tested (ceilingRefusal c) (tested (placesRefusal P) (tested (workspaceRefusal n m c room) (tested (outRefusal n P outRoom) Nothing)))
+    tested (placesRefusal P) (workRefusal n m c room (tested (outRefusal n P outRoom) Nothing))
 
 -- the refusals tested before any machine is built: 1 to 10, then 11 to 13
 unfoldable pub decideRefusal : List ℕ → ℕ → ℕ → ℕ → ℕ → Refusal

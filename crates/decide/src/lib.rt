@@ -35,18 +35,14 @@ fn room_refusal(n: usize, m: usize, c: u64, p: u64, room: usize, outroom: usize)
     requires { ⌜ (1 ≤ n) × (n ≤ 8) × (m ≤ 128) ⌝ }
     ensures { λ r. ⌜ r ≡ roomRefusal n m c p room outroom ⌝ }
 {
-    let states = rules::room::ceiling_refusal(c);
-    if states != 0 {
-        return Refusal::Plain(states);
-    }
     let places = rules::room::places_refusal(p);
     if places != 0 {
         return Refusal::Plain(places);
     }
-    let work = rules::room::workspace_refusal(n, m, c as usize, room);
-    if work != 0 {
-        return Refusal::Plain(work);
-    }
+    let work = rules::room::work_refusal(n, m, c, room);
+    let Refusal::Nothing = work else {
+        return work;
+    };
     let short = rules::room::out_refusal(n, p as usize, outroom);
     if short != 0 {
         return Refusal::Plain(short);
@@ -112,10 +108,8 @@ fn decide_accepted(rule: &[u8], c: usize, p: u64, ws: &mut [u8], out: &mut [u8])
     match rules::build::build_rule(rule, c, ws) {
         Built::Over(r) => Verdict::Refused(Refusal::TooManyStates(r as u64)),
         Built::Ready(k) => {
-            let n = rule_strip::variables_of(rule);
-            let last = rule_strip::count_of(rule) - 1;
-            let f = reading::earliest(ws, layout::shape_for(n, c), last, k, p);
-            conclude(n, k.count as u64, f, out)
+            let f = rules::read::earliest(rule, c, ws, k, p);
+            conclude(rule_strip::variables_of(rule), k.count as u64, f, out)
         }
     }
 }

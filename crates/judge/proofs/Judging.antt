@@ -1,6 +1,6 @@
 -- From an accepted rule strip and an accepted tree strip to judge's answer, and its claim. Assumes nothing.
-use Prim.Native.Nat.{ℕ, _-_}
-use mathlib.Core.Path.{_≡_, refl, sym, ap, _∙_}
+use Prim.Native.Nat.{ℕ}
+use mathlib.Core.Path.{_≡_, sym, _∙_}
 use mathlib.Core.Logic.{_⊎_, inl, inr, ⊎-elim}
 use mathlib.Core.Bool.{Bool, true, false}
 use mathlib.Core.List.{List}
@@ -9,24 +9,19 @@ use lib.ListN.{length}
 use Rattle.logic.specs.Claims.{Judgement as Ruled, unbuilt, yes, no, FirstOver}
 use Rattle.logic.specs.Decide.{say, judgeOf}
 use Rattle.logic.proofs.Answers.{judge-judges, trimmed-iff}
-use Rattle.logic.proofs.Builders.{judge-any}
-use Rattle.reading.specs.Reading.{Accepts}
-use Rattle.records.specs.declared.Summary.{Summary}
 use Rattle.bits.specs.declared.Fault.the-variants.{At}
 use Rattle.rule_strip.specs.RuleStrip.{variablesOf, countOf, recordsOf, ruleFault}
 use Rattle.rule_strip.proofs.RuleLaws.{rule-accepted}
 use Rattle.rule_strip.proofs.RulePlaces.{place-told}
 use Rattle.tree_strip.specs.TreeStrip.{readTree, treeFault}
 use Rattle.tree_strip.proofs.TreePlaces.{place-told as tree-told}
-use Rattle.tree_strip.proofs.TreeWalk.{facts-stand}
 use Rattle.refusals.specs.Refusal.{answerUnless}
 use Rattle.refusals.specs.declared.Refusal.{Refusal}
 use Rattle.refusals.specs.declared.Refusal.the-variants.{Nothing, Placed, Plain, TooManyStates}
-use Rattle.refusals.proofs.Refusals.{checked-free, tested-free, unless-refused, checked-placed, tested-unplaced, nothing-unplaced}
-use Rattle.rules.specs.Building.{ruleShape, Decider}
-use Rattle.rules.specs.Room.{roomOf, cleared, ceilingRefusal, workspaceRefusal, Workable}
+use Rattle.refusals.proofs.Refusals.{checked-free, unless-refused, checked-placed, tested-unplaced, nothing-unplaced}
+use Rattle.rules.specs.Room.{roomOf, cleared, Workable}
 use Rattle.rules.specs.Trees.{otherVariables, treeRefusal, AcceptedTree}
-use Rattle.rules.proofs.Rooms.{ceiling-free, workspace-free}
+use Rattle.rules.proofs.Rooms.{work-free, work-unplaced}
 use Rattle.rules.proofs.TreeRefusals.{tree-free, tree-facts}
 use Rattle.judge.specs.Judge.{judgeRefusal, judgedOf, rulingJudgement, judgementFor, workspaceFor, JudgeClaim}
 use Rattle.judge.specs.declared.Judgement.{Judgement}
@@ -34,7 +29,7 @@ use Rattle.judge.specs.declared.Judgement.the-variants.{No, Yes, Refused
 
 -- ---- the answer
 module _ {rule : List ℕ} {c room : ℕ} (w : Workable rule c room) {tree : List ℕ} (a : AcceptedTree tree (variablesOf rule)) where
-  is-judged : judgedOf rule c tree ≡ judgeOf (variablesOf rule) (recordsOf rule) c (a .tree)
+  pub is-judged : judgedOf rule c tree ≡ judgeOf (variablesOf rule) (recordsOf rule) c (a .tree)
   unfolding judgedOf
   is-judged = rw (a .read)
 
@@ -42,18 +37,6 @@ module _ {rule : List ℕ} {c room : ℕ} (w : Workable rule c room) {tree : Lis
   pub rule-over : (r : ℕ) → FirstOver 2 (variablesOf rule) (recordsOf rule) c r → judgedOf rule c tree ≡ unbuilt r
   rule-over r h =
       is-judged ∙ ((judge-judges 2 (variablesOf rule) (recordsOf rule) c 0 (rule-accepted rule (w .sound) .records-accepted) (a .tree)) .unbuilt-is r) .1 h
-
-  -- what the last record's machine says of the tree
-  pub rule-judged : {k : Summary} {ws : List ℕ} → Decider rule c k ws → (b : Bool) → Accepts ws (ruleShape rule c) (countOf rule - 1) k tree b
-      → say b ≡ judgedOf rule c tree
-  rule-judged d b accepts =
-      let n = variablesOf rule in
-      let f = tree-facts a in
-      let h = d .readable in
-      let A = (trimmed-iff n (a .tree) (f .proper)) .0 (f .trimmed) in
-      ap say (accepts (h .machine) (a .tree) (h .stored) (f .proper) (facts-stand tree n (a .tree) f))
-      ∙ judge-any 2 n (recordsOf rule) (rule-accepted rule (w .sound) .records-accepted) c (d .roomy) _ (d .decides) (a .tree) (A .0) (A .1)
-      ∙ sym is-judged
 
 module _ {b : Bool} {j : Ruled} (e : say b ≡ j) where
   pub told-yes : b ≡ true → Yes ≡ rulingJudgement j
@@ -83,17 +66,8 @@ module _ (rule : List ℕ) (c : ℕ) (ws tree : List ℕ) where
     unfolding judgeRefusal
     early-free =
         let s = checked-free (ruleFault rule) _ e in
-        let a = tested-free (ceilingRefusal c) _ (s .1) in
-        let b = tested-free (workspaceRefusal (variablesOf rule) (countOf rule) c (length ws)) _ (a .1) in
-        let w = ceiling-free c (a .0) in (
-          record {
-            sound = s .0;
-            some-state = w .0;
-            few-states = w .1;
-            long = workspace-free (variablesOf rule) (countOf rule) c (length ws) (b .0);
-          },
-          tree-free tree (variablesOf rule) (b .1),
-        )
+        let w = work-free (variablesOf rule) (countOf rule) c (length ws) _ (s .1) in
+        (record { sound = s .0; some-state = w .0; few-states = w .1; long = w .2 }, tree-free tree (variablesOf rule) (w .3))
 
     pub ends-told : {x : Judgement} → x ≡ rulingJudgement (judgedOf rule c tree) → {ws′ : List ℕ} → ws′ ≡ cleared (roomOf rule c) ws → Ends x ws′
     unfolding judgementFor workspaceFor
@@ -105,8 +79,7 @@ module _ (rule : List ℕ) (c : ℕ) (ws tree : List ℕ) where
   placed-is {k} {p} e =
       ⊎-elim inl
       (λ f. ⊎-elim inr (λ g. absurd (nothing-unplaced (tested-unplaced (otherVariables tree (variablesOf rule)) _ g)))
-      (checked-placed (treeFault tree) _
-      (tested-unplaced (workspaceRefusal (variablesOf rule) (countOf rule) c (length ws)) _ (tested-unplaced (ceilingRefusal c) _ f))))
+      (checked-placed (treeFault tree) _ (work-unplaced (variablesOf rule) (countOf rule) c (length ws) _ f)))
       (checked-placed (ruleFault rule) _ (go early (judgedOf rule c tree) e))
     where
       go : (r : Refusal) (o : Ruled) → answerUnless Refused r (rulingJudgement o) ≡ Refused (Placed k p) → r ≡ Placed k p

@@ -12,10 +12,10 @@ use Rattle.rule_strip.specs.RuleStrip.{variablesOf, countOf, recordsOf, ruleFau
 use Rattle.rule_strip.specs.RulePlaces.{RuleOffends}
 use Rattle.tree_strip.specs.TreePlaces.{OffendsAt}
 use Rattle.tree_strip.specs.TreeStrip.{Parsed, parsed, refused, readTree}
-use Rattle.refusals.specs.Refusal.{checked, tested, unlessRefused, answerUnless}
+use Rattle.refusals.specs.Refusal.{checked, unlessRefused, answerUnless}
 use Rattle.refusals.specs.declared.Refusal.{Refusal}
 use Rattle.refusals.specs.declared.Refusal.the-variants.{Nothing, Placed, TooManyStates}
-use Rattle.rules.specs.Room.{roomOf, cleared, ceilingRefusal, workspaceRefusal}
+use Rattle.rules.specs.Room.{roomOf, cleared, workRefusal}
 use Rattle.rules.specs.Trees.{treeRefusal}
 use Rattle.judge.specs.declared.Judgement.{Judgement}
 use Rattle.judge.specs.declared.Judgement.the-variants.{No, Yes, Refused}
@@ -23,8 +23,7 @@ use Rattle.judge.specs.declared.Judgement.the-variants.{No, Yes, Refused
 -- "In order: 1 to 10; 11 for c alone; 12; 15 to 21 in that operation's order; 22 the two n differ"
 unfoldable pub judgeRefusal : List ℕ → ℕ → ℕ → List ℕ → Refusal
 judgeRefusal rule c room tree =
-    checked (ruleFault rule)
-    (tested (ceilingRefusal c) (tested (workspaceRefusal (variablesOf rule) (countOf rule) c room) (treeRefusal tree (variablesOf rule))))
+    checked (ruleFault rule) (workRefusal (variablesOf rule) (countOf rule) c room (treeRefusal tree (variablesOf rule)))
 
 -- the tree of an accepted strip
 abbrev pub treeIn : Parsed → Tree 2

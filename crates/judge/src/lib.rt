@@ -25,14 +25,10 @@ fn judge_refusal(rule: &[u8], c: u64, room: usize, tree: &[u8]) -> Refusal
     match rule_strip::check_rule(rule) {
         RuleCheck::Refused { number, place } => Refusal::Placed { number, place },
         RuleCheck::Accepted { variables, records } => {
-            let states = rules::room::ceiling_refusal(c);
-            if states != 0 {
-                return Refusal::Plain(states);
-            }
-            let work = rules::room::workspace_refusal(variables, records, c as usize, room);
-            if work != 0 {
-                return Refusal::Plain(work);
-            }
+            let work = rules::room::work_refusal(variables, records, c, room);
+            let Refusal::Nothing = work else {
+                return work;
+            };
             rules::trees::tree_refusal(tree, variables)
         }
     }
@@ -48,9 +44,7 @@ fn judge_accepted(rule: &[u8], c: usize, ws: &mut [u8], tree: &[u8]) -> Judgemen
     match rules::build::build_rule(rule, c, ws) {
         Built::Over(r) => Judgement::Refused(Refusal::TooManyStates(r as u64)),
         Built::Ready(k) => {
-            let s = layout::shape_for(rule_strip::variables_of(rule), c);
-            let last = rule_strip::count_of(rule) - 1;
-            if reading::accepted(ws, s, last, k, tree) {
+            if rules::read::satisfied(rule, c, ws, k, tree) {
                 return Judgement::Yes;
             }
             Judgement::No

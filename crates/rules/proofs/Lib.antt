@@ -2,3 +2,4 @@ pub mod Rooms
 pub mod Decodes
 pub mod Rules
 pub mod TreeRefusals
+pub mod RuleAnswers

@@ -1,6 +1,6 @@
 -- The room that machines and strips take: the sums fit, and what no refusal for want of it says. Assumes nothing.
-use Prim.Native.Nat.{ℕ, _+_, _*_, _≤_, _<_}
-use mathlib.Core.Path.{_≡_, refl, ap}
+use Prim.Native.Nat.{ℕ, zero, suc, _+_, _*_, _≤_, _<_}
+use mathlib.Core.Path.{_≡_, refl, sym, ap, _∙_}
 use mathlib.Core.Bool.{Bool, true, false, _&&_, cond}
 use native.Mathlib.Nat.{mul-le-mul}
 use native.Mathlib.Omega.{arith}
@@ -8,8 +8,12 @@ use borrow.Author.Tests.{lt-ltb, le-ltb, ltb-false, leb-true}
 use lib.Dec.{ltb, leb}
 use Rattle.layout.specs.Shape.{Shaped, shareAt, shapeOf}
 use Rattle.layout.proofs.Places.{share-two}
+use Rattle.refusals.specs.Refusal.{tested}
+use Rattle.refusals.specs.declared.Refusal.{Refusal}
+use Rattle.refusals.specs.declared.Refusal.the-variants.{Nothing, Placed}
+use Rattle.refusals.proofs.Refusals.{tested-free, tested-stops, tested-unplaced}
 use Rattle.tree_strip.specs.TreeStrip.{treeBytes}
-use Rattle.rules.specs.Room.{roomFor, ceilingRefusal, placesRefusal, workspaceRefusal, outRefusal}
+use Rattle.rules.specs.Room.{roomFor, ceilingRefusal, placesRefusal, workspaceRefusal, outRefusal, workRefusal}
 
 -- "m × 2^n × c × c bytes" are m shares
 pub room-shares : (n m c : ℕ) → Shaped (shapeOf n c) → shareAt (shapeOf n c) m ≡ roomFor n m c
@@ -61,3 +65,31 @@ workspace-free n m c room e = short-free room (roomFor n m c) 12 (omega arith) e
 pub out-free : (n P room : ℕ) → outRefusal n P room ≡ 0 → treeBytes n P ≤ room
 unfolding outRefusal
 out-free n P room e = short-free room (treeBytes n P) 13 (omega arith) e
+
+-- 11 for c and 12: what they leave to the later refusals, and what they say where none applies
+module _ (n m c room : ℕ) where
+  pub work-stops : {r : Refusal} (later : Refusal) → r ≡ workRefusal n m c room Nothing → (r ≡ Nothing → ⊥) → r ≡ workRefusal n m c room later
+  unfolding workRefusal
+  work-stops {r} later e h = go (ceilingRefusal c) (workspaceRefusal n m c room) e
+    where
+      go : (i j : ℕ) → r ≡ tested i (tested j Nothing) → r ≡ tested i (tested j later)
+      go zero zero f = absurd (h f)
+      go zero (suc j) f = f ∙ sym (tested-stops (suc j) Nothing (λ z. omega arith)) ∙ tested-stops (suc j) later (λ z. omega arith)
+      go (suc i) j f = f ∙ sym (tested-stops (suc i) _ (λ z. omega arith)) ∙ tested-stops (suc i) _ (λ z. omega arith)
+
+  pub work-passes : (later : Refusal) → workRefusal n m c room Nothing ≡ Nothing → later ≡ workRefusal n m c room later
+  unfolding workRefusal
+  work-passes later e =
+      let a = tested-free (ceilingRefusal c) _ e in let b = tested-free (workspaceRefusal n m c room) _ (a .1) in rw (a .0, b .0)
+
+  pub work-free : (later : Refusal) → workRefusal n m c room later ≡ Nothing → (1 ≤ c) × (c ≤ 64) × (roomFor n m c ≤ room) × (later ≡ Nothing)
+  unfolding workRefusal
+  work-free later e =
+      let a = tested-free (ceilingRefusal c) _ e in
+      let b = tested-free (workspaceRefusal n m c room) _ (a .1) in
+      let w = ceiling-free c (a .0) in
+      (w .0, w .1, workspace-free n m c room (b .0), b .1)
+
+  pub work-unplaced : (later : Refusal) {k p : ℕ} → workRefusal n m c room later ≡ Placed k p → later ≡ Placed k p
+  unfolding workRefusal
+  work-unplaced later e = tested-unplaced (workspaceRefusal n m c room) _ (tested-unplaced (ceilingRefusal c) _ e)

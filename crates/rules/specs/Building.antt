@@ -1,15 +1,22 @@
--- A rule strip's machines, built: refusal 14, or the last record's machine, which decides the rule. Assumes nothing.
+-- A rule strip's machines, built: refusal 14, or the last record's machine, which decides the rule; and what is read off it. Assumes nothing.
 use Prim.Native.Nat.{ℕ, _-_}
+use mathlib.Core.Path.{_≡_}
+use mathlib.Core.Bool.{Bool}
 use mathlib.Core.List.{List}
 use lib.ListN.{length}
 use Rattle.logic.specs.Rule.{formulaAt, lastOf}
+use Rattle.logic.specs.Tree.{Tree}
 use Rattle.logic.specs.Alike.{MachineOf, Full}
 use Rattle.logic.specs.Claims.{FirstOver, Roomy}
+use Rattle.logic.specs.Decide.{report, decideOf, say, judgeOf}
 use Rattle.layout.specs.Shape.{shapeOf}
 use Rattle.layout.specs.declared.Shape.{Shape}
 use Rattle.records.specs.Rule.{machOf}
 use Rattle.records.specs.declared.Summary.{Summary}
 use Rattle.reading.specs.Reading.{HasMachine}
+use Rattle.search.specs.Rounds.{answerOf, Ended}
+use Rattle.search.specs.declared.Found.{Found}
+use Rattle.tree_strip.specs.TreeStrip.{parsed, readTree}
 use Rattle.rule_strip.specs.RuleStrip.{variablesOf, countOf, recordsOf}
 use Rattle.rules.specs.declared.build.Built.{Built}
 use Rattle.rules.specs.declared.build.Built.the-variants.{Over, Ready}
@@ -30,3 +37,13 @@ pub record Decider (rule : List ℕ) (c : ℕ) (k : Summary) (ws : List ℕ) : T
 abbrev pub BuiltRule : List ℕ → ℕ → Built → List ℕ → Type 0
 BuiltRule rule c (Over r) ws = FirstOver 2 (variablesOf rule) (recordsOf rule) c r
 BuiltRule rule c (Ready k) ws = Decider rule c k ws
+
+-- what a search over that machine found: decide's answer, and ranks that a writer can follow down
+pub record FoundFor (rule : List ℕ) (c P : ℕ) (k : Summary) (f : Found) : Type 0 where
+  pub ended : Ended (answerOf f) f
+  pub decided : report (k .count) (answerOf f) ≡ decideOf 2 (variablesOf rule) (recordsOf rule) c P
+
+-- b: judge's answer to the tree that the strip holds
+abbrev pub Says : List ℕ → ℕ → List ℕ → Bool → Type 0
+Says rule c strip b =
+    (t : Tree 2) (met : ℕ) (rest : List ℕ) → readTree strip ≡ parsed t met rest → say b ≡ judgeOf (variablesOf rule) (recordsOf rule) c t

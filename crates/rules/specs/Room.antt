@@ -8,6 +8,8 @@ use lib.Dec.{ltb}
 use lib.ListN.{drop, replicate}
 use Rattle.bits.specs.Bits.{between}
 use Rattle.bits.specs.declared.Fault.the-variants.{Sound}
+use Rattle.refusals.specs.Refusal.{tested}
+use Rattle.refusals.specs.declared.Refusal.{Refusal}
 use Rattle.rule_strip.specs.RuleStrip.{variablesOf, countOf, ruleFault}
 use Rattle.tree_strip.specs.TreeStrip.{treeBytes}
 
@@ -26,6 +28,10 @@ placesRefusal P = cond (ltb 255 P) 11 0
 -- "12 workspace shorter than m × 2^n × c × c bytes"
 unfoldable pub workspaceRefusal : ℕ → ℕ → ℕ → ℕ → ℕ
 workspaceRefusal n m c room = cond (ltb room (roomFor n m c)) 12 0
+
+-- "11 for c alone; 12", and then come the later ones
+unfoldable pub workRefusal : ℕ → ℕ → ℕ → ℕ → Refusal → Refusal
+workRefusal n m c room later = tested (ceilingRefusal c) (tested (workspaceRefusal n m c room) later)
 
 -- "13 out buffer shorter than 8 + P(n+1) + P + 1 bits rounded up"
 unfoldable pub outRefusal : ℕ → ℕ → ℕ → ℕ

@@ -2,7 +2,9 @@
 ghost use mathlib.Core.Path.{_≡_};
 ghost use Prim.Native.Nat.{_≤_, _<_};
 ghost use Rattle.tree_strip.specs.TreeStrip.{treeBytes};
-ghost use Rattle.rules.specs.Room.{roomFor, ceilingRefusal, placesRefusal, workspaceRefusal, outRefusal};
+ghost use Rattle.refusals.specs.declared.Refusal.the-variants.{Nothing};
+ghost use Rattle.rules.specs.Room.{roomFor, ceilingRefusal, placesRefusal, workspaceRefusal, outRefusal, workRefusal};
+use refusals::Refusal;
 
 // The bytes of workspace that m records of n variables and c states take.
 pub fn needed(n: usize, m: usize, c: usize) -> usize
@@ -52,6 +54,22 @@ pub fn workspace_refusal(n: usize, m: usize, c: usize, room: usize) -> u64
         return 12;
     }
     0
+}
+
+// 11 for the state ceiling, and then 12: what every operation tests that builds machines.
+pub fn work_refusal(n: usize, m: usize, c: u64, room: usize) -> Refusal
+    requires { ⌜ (1 ≤ n) × (n ≤ 8) × (m < 256) ⌝ }
+    ensures { λ r. ⌜ r ≡ workRefusal n m c room Nothing ⌝ }
+{
+    let states = ceiling_refusal(c);
+    if states != 0 {
+        return Refusal::Plain(states);
+    }
+    let short = workspace_refusal(n, m, c as usize, room);
+    if short != 0 {
+        return Refusal::Plain(short);
+    }
+    Refusal::Nothing
 }
 
 // 13, for a tree of p positions.

@@ -2,10 +2,10 @@
 use mathlib.Core.Path.{sym, _∙_}
 use native.Mathlib.Omega.{arith}
 use borrow.Author.Needs.{needs}
-use Rattle.refusals.proofs.Refusals.{tested-stops}
+use Rattle.refusals.proofs.Refusals.{nothing-else}
 use Rattle.rule_strip.specs.RuleStrip.{AcceptedRule}
 use Rattle.rule_strip.proofs.RuleLaws.{rule-accepted, checked-accepted, checked-refused}
-use Rattle.rules.proofs.Rooms.{ceiling-free}
+use Rattle.rules.proofs.Rooms.{work-stops, work-passes}
 use Rattle.judge.specs.Judge.{judgeRefusal}
 use Rattle.judge.proofs.judge_refusal.Statement.{statement}
 use Rattle.judge.proofs.judge_refusal.Tie as tie
@@ -18,38 +18,25 @@ accepted c = checked-accepted _ _ _ (sym (c .before .before .before .check-rule 
 returns : tie.Need-returns
 unfolding judgeRefusal
 returns c =
-    let h = accepted (c .before .before) in rw (h .unrefused, ← c .before .ceiling-refusal .ensures) (tested-stops _ _ (c .if1 .taken))
-
-workspace-refusal-requires : tie.Need-workspace-refusal-requires
-workspace-refusal-requires c κs =
     let h = accepted (c .before .before) in
-    let f = rule-accepted _ (h .unrefused) in
-    let w = ceiling-free _ (sym (c .before .ceiling-refusal .ensures) ∙ c .if1 .left) in
-    (omega arith, omega arith, omega arith, w .0, w .1)
+    rw (h .unrefused, ← h .variables, ← h .count)
+    (work-stops _ _ _ _ _ (c .before .work-refusal .ensures) (λ e. nothing-else (rw e at (c .match2 .keys2))))
 
 returns-2 : tie.Need-returns-2
 unfolding judgeRefusal
-returns-2 c =
-    let b = c .before .before in
-    let h = accepted (b .before .before) in
-    rw (h .unrefused, ← h .variables, ← h .count, ← b .before .ceiling-refusal .ensures, b .if1 .left, ← c .before .workspace-refusal .ensures)
-    (tested-stops _ _ (c .if2 .taken))
+returns-2 c = rw (checked-refused _ _ _ (sym (c .before .before .before .check-rule .ensures) ∙ c .before .number .given .1))
 
 returns-3 : tie.Need-returns-3
 unfolding judgeRefusal
-returns-3 c = rw (checked-refused _ _ _ (sym (c .before .before .before .check-rule .ensures) ∙ c .before .number .given .1))
-
-returns-4 : tie.Need-returns-4
-unfolding judgeRefusal
-returns-4 c =
-    let d = c .before in
-    let b = d .before .before in
-    let h = accepted (b .before .before) in
-    rw (h .unrefused, ← h .variables, ← h .count, ← b .before .ceiling-refusal .ensures, b .if1 .left, ← d .before .workspace-refusal .ensures, d .if2 .left)
-    (c .tree-refusal .ensures)
+returns-3 c =
+    let b = c .before .before .before in
+    let h = accepted (b .before) in
+    rw (h .unrefused, ← h .variables, ← h .count)
+    (c .tree-refusal .ensures ∙ work-passes _ _ _ _ _ (sym (b .work-refusal .ensures) ∙ c .before .enum-told .given .1))
 
 pub judge-refusal-spec : {M : Type 1} → statement M
 judge-refusal-spec =
     tie.close
-    (tie.spec (λ c κs. search needs) (λ c. search needs) (λ c. search needs) (λ c κs. search needs) returns workspace-refusal-requires returns-2
-    (λ c κs. search needs) returns-3 returns-4)
+    (tie.spec (λ c κs. search needs) (λ c. search needs) (λ c. search needs)
+    (λ c κs. let h = accepted c in let f = rule-accepted _ (h .unrefused) in (omega arith, omega arith, omega arith)) (λ c. search needs) returns
+    (λ c κs. search needs) returns-2 returns-3)
