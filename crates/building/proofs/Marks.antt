@@ -167,7 +167,7 @@ module _ (xs : List Decoded) (m : ℕ) (few : m ≤ 128) (order : (r : ℕ) → 
 
   -- and such marks are closed
   pub used-closed : (ms : List Bool) → Marks (usedIn xs m) m ms → Closed xs ms m
-  used-closed ms is r i h t e =
+  used-closed ms is r h t i e =
       subst T (sym (is .below i (omega (arith, earlier r h i e)))) (reached-parts names m earlier r i (subst T (is .below r h) t) e)
 
 -- ---- the next record that is used

@@ -29,6 +29,10 @@ namedBy Exists a b = a ∷ []
 abbrev pub namesOf : Decoded → List ℕ
 namesOf x = namedBy (x .kind) (x .first) (x .second)
 
+-- those that a decoded record names are used
+abbrev pub NamesUsed : (ℕ → Bool) → Decoded → Type 0
+NamesUsed used x = (i : ℕ) → T (elem i (namesOf x)) → T (used i)
+
 -- those that each record names, by its number
 abbrev pub namesIn : List Decoded → ℕ → List ℕ
 namesIn xs i = namesOf (getD xs i noDecoded)
@@ -54,7 +58,7 @@ pub record Marks (used : ℕ → Bool) (m : ℕ) (ms : List Bool) : Type 0 where
 
 -- whatever a marked record, of the first m, names has a mark
 abbrev pub Closed : List Decoded → List Bool → ℕ → Type 0
-Closed xs ms m = (r i : ℕ) → r < m → T (marked ms r) → T (elem i (namesIn xs r)) → T (marked ms i)
+Closed xs ms m = (r : ℕ) → r < m → T (marked ms r) → NamesUsed (marked ms) (getD xs r noDecoded)
 
 -- the marks, and one for each of these records
 unfoldable pub marking : List ℕ → List Bool → List Bool

@@ -13,7 +13,7 @@ use Rattle.layout.specs.Shape.{Shaped, shareAt}
 use Rattle.layout.specs.declared.Shape.{Shape}
 use Rattle.records.specs.Rule.{noDecoded}
 use Rattle.records.specs.declared.Decoded.{Decoded}
-use Rattle.building.specs.Build.{Buildable}
+use Rattle.building.specs.OneRecord.{Buildable}
 use Rattle.building.specs.declared.Ending.{Ending}
 use Rattle.building.specs.declared.Ending.the-variants.{Over, Ready}
 use Rattle.search.specs.Rounds.{answerOf}
