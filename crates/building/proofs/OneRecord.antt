@@ -1,12 +1,12 @@
 -- One record built, over the machines of any records: the others stay stored, whether they come before it or after it. Assumes nothing.
-use Rattle.words.proofs.Vocabulary.{ℕ, _≤_, _<_, _+_, _-_, _≡_, _∙_, refl, sym, ap, subst, List, Bool, true, false, T, length, getD, set, length-set}
+use Rattle.words.proofs.Vocabulary.{ℕ, _≤_, _<_, _+_, _-_, _≡_, _∙_, refl, sym, ap, List, Bool, true, false, T, getD, set, length-set}
 use Rattle.words.proofs.Vocabulary.{getD-set-other, getD-set-same, getD-drop, drop, ℕ-discrete, eq-eqb, ne-eqb, arith}
 use Rattle.layout.specs.Shape.{shareOf, shareAt, placeIn}
 use Rattle.layout.specs.declared.Shape.{Shape}
 use Rattle.layout.proofs.Places.{tuple-up, place-in, share-next}
-use Rattle.table.specs.Entry.{entry, seen}
+use Rattle.table.specs.Entry.{entry, through, seen}
 use Rattle.table.proofs.Masks.{seen-le}
-use Rattle.records.specs.Rule.{Mach, Stored, PartsStored, Placed, Adds, Spared}
+use Rattle.records.specs.Rule.{Mach, Stored, PartsStored, Adds, Spared}
 use Rattle.records.specs.declared.Decoded.{Decoded}
 use Rattle.records.specs.declared.Summary.{Summary}
 use Rattle.logic.proofs.Orders.{less, same as equal, more, ℕ-tri}
@@ -40,7 +40,7 @@ spared-at {s} {r} {ws} {ws′} sp a q d from to = elim (ℕ-tri a r) [
 -- a machine stays stored where only another share is changed
 stored-spared : {s : Shape} (a : ℕ) {r : ℕ} {m : Mach} {k : Summary} {ws ws′ : List ℕ} → (a ≡ r → ⊥) → Spared s r ws ws′
     → Stored s (shareAt s a) m k ws → Stored s (shareAt s a) m k ws′
-unfolding entry
+unfolding entry through
 stored-spared {s} a {r} {m} {k} {ws} {ws′} d sp st = record {
   count = st .count;
   accept = st .accept;

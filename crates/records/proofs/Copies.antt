@@ -5,7 +5,7 @@ use Rattle.words.proofs.Vocabulary.{set, drop, length-set, length-drop, getD-se
 use Rattle.layout.specs.Shape.{Shaped, labelsIn, shareOf, shareAt, placeIn, Tuple}
 use Rattle.layout.specs.declared.Shape.{Shape}
 use Rattle.layout.proofs.Places.{tuple-up, pair-in, pairs-of, place-in, place-one, place-two}
-use Rattle.table.specs.Entry.{seen, entry}
+use Rattle.table.specs.Entry.{seen, entry, through}
 use Rattle.table.specs.Succ.{looksOf}
 use Rattle.table.specs.declared.plan.Kind.{Kind}
 use Rattle.table.specs.declared.plan.Kind.the-variants.{Not}
@@ -127,7 +127,7 @@ module _ (x : Decoded) (r : ℕ) (s : Shape) (kf kg : Summary) (ws : List ℕ) (
     as-counted t = tuple-up (omega (arith, part .count)) t
 
     holds : Holds s ws′ (shareAt s r) (kf .looks) (length (f .codes)) (f .step)
-    unfolding entry
+    unfolding entry through
     holds l is hl t =
         let b = kf .looks in
         let old = part .holds l is hl t in

@@ -95,7 +95,7 @@ module _ (s : Shape) (r : ℕ) (m : Mach) (k : Summary) (ws ws′ : List ℕ) (s
 
   byte : (q : ℕ) → q < shareOf s → (u v : Bool) → leb (labelAt s q) (seen (k .looks) (labelAt s q)) ≡ u → areBelow n (statesAt s q) ≡ v
       → getD ws′ (shareAt s r + q) 0 ≡ cond (u && v) (m .step (labelAt s q) (statesAt s q)) (getD ws (shareAt s r + q) 0)
-  unfolding entry
+  unfolding entry through
   byte q h u v eu ev = go u v eu ev
     where
       l : ℕ
@@ -214,7 +214,7 @@ module _ (x : Decoded) (r : ℕ) (s : Shape) (kf kg : Summary) (ws : List ℕ) (
           (found .some-code, found .few)
 
       new-holds : Holds s ws′ (shareAt s r) (plan .looks) (length cs) (mach .step)
-      unfolding entry stepOf successorOf
+      unfolding entry stepOf successorOf through
       new-holds l is hl t =
           let cell : Entered (succIn ws plan) plan cs ws′ (record { label = l; states = is }) =
           subst (λ (o : Option (List ℕ)). Cell (succIn ws plan) plan o ws′ (record { label = l; states = is })) is-cs

@@ -11,7 +11,7 @@ use lib.ListN.{length, getD}
 use Rattle.layout.specs.Shape.{labelsIn, labelAt, statesAt, Tuple}
 use Rattle.layout.specs.declared.Shape.{Shape}
 use Rattle.words.specs.Word.{mem, any, wordOf}
-use Rattle.table.specs.Entry.{seen, Step, entry}
+use Rattle.table.specs.Entry.{seen, Step, stepIn}
 use Rattle.table.specs.Succ.{firstPart, secondPart, kindCode, startCode}
 use Rattle.table.specs.declared.plan.Kind.{Kind}
 use Rattle.table.specs.declared.plan.Kind.the-variants.{Subset, Single, Child1, Child2, Root, Not, Or, And, Exists}
@@ -28,7 +28,7 @@ stepOf succ cs l is = position (succ l (codesAt cs is)) cs
 
 -- the table at place a holds the steps of a machine of n states that looks at the bits b
 abbrev pub Holds : Shape → List ℕ → ℕ → ℕ → ℕ → Step → Type 0
-Holds s low a b n f = (l : ℕ) (is : List ℕ) → l < labelsIn s → Tuple (s .branches) n is → (entry s low a (seen b l) is ≡ f l is) × (f l is < n)
+Holds s low a b n f = (l : ℕ) (is : List ℕ) → l < labelsIn s → Tuple (s .branches) n is → (stepIn s low a b l is ≡ f l is) × (f l is < n)
 
 -- the byte at place q of a share in which a machine of n states is stored that looks at the bits b: where an entry stands, its step, and
 -- else the byte that was there

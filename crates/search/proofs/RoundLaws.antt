@@ -19,7 +19,8 @@ use Rattle.search.specs.declared.Pick.{Pick}
 use Rattle.search.specs.declared.Finding.{Finding}
 use Rattle.search.specs.declared.Found.{Found}
 use Rattle.search.specs.declared.Finding.the-variants.{None, Larger, Shown}
-use Rattle.search.specs.Table.{stepIn, machineIn, Whole}
+use Rattle.table.specs.Entry.{stepIn}
+use Rattle.table.specs.Whole.{machineIn, Whole}
 use Rattle.search.specs.Scan.{codeView, bestOf, bestIn, sizeOf, Held, Ready, scanSecond, scanFirst, scanLabel}
 use Rattle.search.specs.Rounds.{answerBy, foundAs, Ended}
 use Rattle.search.proofs.ScanLaws.{pick-loops}
@@ -354,7 +355,7 @@ module _ {sh : Shape} {looks : ℕ} {table : List ℕ} {count accept P : ℕ} (w
         unfolding verdict
         round-on p a = rw (le-ltb P (positions t) (rw (← size-is) p), a) at verdict-is
 
-        pub round-target : {x y q′ : ℕ} → x ≡ getD state (r .first) 0 → y ≡ getD state (r .second) 0 → q′ ≡ stepIn sh looks table (r .label) (x ∷ y ∷ [])
+        pub round-target : {x y q′ : ℕ} → x ≡ getD state (r .first) 0 → y ≡ getD state (r .second) 0 → q′ ≡ stepIn sh table 0 looks (r .label) (x ∷ y ∷ [])
             → q′ ≡ q
         unfolding run
         round-target ex ey e = e ∙ rw (ex, ey, v .arrays .states (r .first), v .arrays .states (r .second))
@@ -364,7 +365,7 @@ module _ {sh : Shape} {looks : ℕ} {table : List ℕ} {count accept P : ℕ} (w
         round-below = wh .steps (r .label) (run M (at s (r .first)) ∷ run M (at s (r .second)) ∷ []) (round-range .label-in)
             (pair-in sh (wh .shape) (rw (v .arrays .states) at (v .tame (r .first))) (rw (v .arrays .states) at (v .tame (r .second))))
 
-        pub round-small : {x y q′ : ℕ} → x ≡ getD state (r .first) 0 → y ≡ getD state (r .second) 0 → q′ ≡ stepIn sh looks table (r .label) (x ∷ y ∷ [])
+        pub round-small : {x y q′ : ℕ} → x ≡ getD state (r .first) 0 → y ≡ getD state (r .second) 0 → q′ ≡ stepIn sh table 0 looks (r .label) (x ∷ y ∷ [])
             → q′ < 64
         round-small ex ey e = omega (arith, round-target ex ey e, round-below, wh .within, wh .shape .ceiling)
 

@@ -4,3 +4,4 @@ pub mod Masks
 pub mod RowLaws
 pub mod Sets
 pub mod Start
+pub mod Wholes

@@ -8,8 +8,8 @@ use mathlib.Core.Path.{_≡_}
 use lib.ListN.{length, getD}
 use Rattle.layout.specs.Shape.{labelsIn, shareOf, Tuple}
 use Rattle.layout.specs.declared.Shape.{Shape}
-use Rattle.table.specs.Entry.{seen, Bit, Step, Within, entry, on}
-use Rattle.table.specs.Succ.{hit, hitRow}
+use Rattle.table.specs.Entry.{Bit, Step, Within, on}
+use Rattle.table.specs.Succ.{hit, hitRow, firstStep}
 use Rattle.words.specs.Word.{mem, any, wordOf, Below}
 use Rattle.table.specs.declared.plan.Plan.{Plan}
 use Rattle.table.specs.declared.plan.Kind.the-variants.{Exists}
@@ -66,7 +66,7 @@ pub record Inside (low : List ℕ) (p : Plan) (n : ℕ) : Type 0 where
   pub share : p .first + shareOf (p .shape) ≤ length low
   pub bit : Bit (p .wx) (labelsIn (p .shape))
   pub stays : (l : ℕ) (is : List ℕ) → l < labelsIn (p .shape) → Tuple (p .shape .branches) n is
-      → entry (p .shape) low (p .first) (seen (p .look1) l) is < n
+      → firstStep low p l is < n
 
 -- the part's table is there, if the record is an "exists"
 abbrev pub Led : List ℕ → Plan → Type 0

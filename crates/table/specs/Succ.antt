@@ -11,7 +11,7 @@ use lib.Dec.{eqb}
 use lib.ListN.{take, getD, replicate}
 use Rattle.layout.specs.Shape.{Shaped, shareOf}
 use Rattle.words.specs.Word.{mem, wordOf, any}
-use Rattle.table.specs.Entry.{seen, Step, off, through, entry, on}
+use Rattle.table.specs.Entry.{seen, Step, off, on, stepIn}
 use Rattle.table.specs.declared.plan.Plan.{Plan}
 use Rattle.table.specs.declared.plan.Kind.{Kind}
 use Rattle.table.specs.declared.plan.Kind.the-variants.{Subset, Single, Child1, Child2, Root, Not, Or, And, Exists}
@@ -139,10 +139,10 @@ looksOf Exists wx wy f g = off wx f
 
 -- the steps of a plan's parts, from their tables
 abbrev pub firstStep : List ℕ → Plan → Step
-firstStep low p = through (p .look1) (entry (p .shape) low (p .first))
+firstStep low p = stepIn (p .shape) low (p .first) (p .look1)
 
 abbrev pub secondStep : List ℕ → Plan → Step
-secondStep low p = through (p .look2) (entry (p .shape) low (p .second))
+secondStep low p = stepIn (p .shape) low (p .second) (p .look2)
 
 unfoldable pub successorOf : List ℕ → Plan → Step
 successorOf low p l xs = kindCode (p .kind) (firstStep low p) (secondStep low p) (p .wx) (p .wy) l xs

@@ -9,7 +9,7 @@ ghost use Rattle.layout.specs.Shape.{Shaped, labelsIn};
 ghost use Rattle.words.specs.Word.{Below, mem, any};
 ghost use Rattle.table.specs.Rows.{Inside, Full, Readable, Ready, hitColumn, unionOf, Follows, Serves, UnionsUpTo};
 ghost use Rattle.table.specs.Succ.{atomCode, tabled, hit, hitRow, hitSet, pairCode, existsCode, existsStart, firstStep, successorOf, Ranged};
-ghost use Rattle.table.specs.Entry.{Within, entry, through};
+ghost use Rattle.table.specs.Entry.{Within, entry, stepIn};
 use crate::atoms::child1_at;
 use crate::atoms::child2_at;
 use crate::atoms::root_at;
@@ -211,7 +211,7 @@ fn exists_rows(
     requires { ⌜ Ready sh (now low) a w l (now sets) k ⌝ }
     requires { ⌜ Full (now left) (now right) ⌝ }
     ensures { λ _. ⌜ Full (now (left .exit)) (now (right .exit)) ⌝ }
-    ensures { λ _. ⌜ Serves (existsCode (through f (entry sh (now (low .entry)) a)) w) l (now (sets .entry)) k (now (left .exit)) (now (right .exit)) ⌝ }
+    ensures { λ _. ⌜ Serves (existsCode (stepIn sh (now (low .entry)) a f) w) l (now (sets .entry)) k (now (left .exit)) (now (right .exit)) ⌝ }
 {
     let off = cleared(w, l);
     let on = off + w;
@@ -246,7 +246,7 @@ fn pair_code(
 ) -> u64
     requires { ⌜ Shaped sh ⌝ }
     requires { ⌜ (l < 256) × (a < 4294967296) × (b < 4294967296) ⌝ }
-    ensures { λ r. ⌜ r ≡ pairCode (through f (entry sh (now (low .entry)) a)) (through g (entry sh (now (low .entry)) b)) l (x ∷ y ∷ []) ⌝ }
+    ensures { λ r. ⌜ r ≡ pairCode (stepIn sh (now (low .entry)) a f) (stepIn sh (now (low .entry)) b g) l (x ∷ y ∷ []) ⌝ }
 {
     let first = entry_at(
         low,
@@ -278,7 +278,7 @@ fn pair_rows(
     requires { ⌜ (l < 256) × (a < 4294967296) × (b < 4294967296) × (k < 64) ⌝ }
     requires { ⌜ Full (now left) (now right) ⌝ }
     ensures { λ _. ⌜ Full (now (left .exit)) (now (right .exit)) ⌝ }
-    ensures { λ _. ⌜ Serves (pairCode (through f (entry sh (now (low .entry)) a)) (through g (entry sh (now (low .entry)) b)))
+    ensures { λ _. ⌜ Serves (pairCode (stepIn sh (now (low .entry)) a f) (stepIn sh (now (low .entry)) b g))
         l (now (codes .entry)) k (now (left .exit)) (now (right .exit)) ⌝ }
 {
     let new = codes[k];
