@@ -13,7 +13,7 @@ use Rattle.building.specs.declared.Ending.the-variants.{Over, Ready}
 use Rattle.building.specs.declared.Machines.{Machines}
 use Rattle.building.specs.Named.{NamesUsed, nextOf}
 use Rattle.building.specs.OneRecord.{Buildable, AllStored, Tried, Builds}
-use Rattle.building.specs.Build.{Outcome, built, over, more, after, passed, upto, Made, MadeBy, Untouched, entryOf}
+use Rattle.building.specs.Build.{Progress, built, over, more, after, passed, upto, Made, MadeBy, Untouched, entryOf}
 use Rattle.records.proofs.Shares.{drop-later}
 use Rattle.layout.proofs.Places.{share-next}
 use Rattle.logic.proofs.Connectives.{and-iff}
@@ -114,7 +114,7 @@ unfolding after passed
 over-rest xs used s r k zero e = ap (upto xs used s) (add-zero r) ∙ e
 over-rest xs used s r k (suc d) e =
     ap (upto xs used s) (add-suc r d ∙ sym (add-one (r + d))) ∙ upto-next xs used s (r + d)
-    ∙ ap (λ (o : Outcome). cond (used (r + d)) (after s (r + d) (getD xs (r + d) noDecoded) o) (passed o)) (over-rest xs used s r k d e)
+    ∙ ap (λ (o : Progress). cond (used (r + d)) (after s (r + d) (getD xs (r + d) noDecoded) o) (passed o)) (over-rest xs used s r k d e)
     ∙ either (used (r + d))
   where
     either : (v : Bool) → cond v (over k) (over k) ≡ over k
@@ -211,7 +211,7 @@ upto-cong : (xs : List Decoded) (u v : ℕ → Bool) (s : Shape) (r : ℕ) → (
 unfolding upto
 upto-cong xs u v s zero h = refl
 upto-cong xs u v s (suc r) h =
-    ap₂ (λ (b : Bool) (o : Outcome). cond b (after s r (getD xs r noDecoded) o) (passed o)) (h r (omega arith))
+    ap₂ (λ (b : Bool) (o : Progress). cond b (after s r (getD xs r noDecoded) o) (passed o)) (h r (omega arith))
     (upto-cong xs u v s r (λ i l. h i (omega arith)))
 
 pub untouched-cong : (u v : ℕ → Bool) {s : Shape} {m : ℕ} {ws ws′ : List ℕ} → ((i : ℕ) → i < m → u i ≡ v i)
@@ -220,8 +220,8 @@ untouched-cong u v h w = record { same = λ r q l bare. w .same r q l (h r l ∙
 
 pub made-cong : (xs : List Decoded) (u v : ℕ → Bool) (s : Shape) (m : ℕ) (t : Machines) (ws : List ℕ) → ((i : ℕ) → i < m → u i ≡ v i)
     → MadeBy u xs s m t ws → MadeBy v xs s m t ws
-made-cong xs u v s m t ws h w = subst (λ (o : Outcome). Made v o s m t ws) (upto-cong xs u v s m h) (go (upto xs u s m) w)
+made-cong xs u v s m t ws h w = subst (λ (o : Progress). Made v o s m t ws) (upto-cong xs u v s m h) (go (upto xs u s m) w)
   where
-    go : (o : Outcome) → Made u o s m t ws → Made v o s m t ws
+    go : (o : Progress) → Made u o s m t ws → Made v o s m t ws
     go (over k) e = e
     go (built ms) e = (e .0, e .1, λ a l p. e .2 a l (subst T (sym (h a l)) p))

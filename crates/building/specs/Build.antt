@@ -18,17 +18,17 @@ use Rattle.building.specs.declared.Ending.the-variants.{Over, Ready}
 use Rattle.building.specs.declared.Machines.{Machines}
 
 -- the machines so far, or the number of the first record with too many states
-pub data Outcome : Type 0 where
-  built : List Mach → Outcome
-  over : ℕ → Outcome
+pub data Progress : Type 0 where
+  built : List Mach → Progress
+  over : ℕ → Progress
 
 -- the machines with one more, or the record's number
-abbrev pub more : ℕ → List Mach → Option Mach → Outcome
+abbrev pub more : ℕ → List Mach → Option Mach → Progress
 more r ms none = over r
 more r ms (some m) = built (ms ++ (m ∷ []))
 
 -- after record r
-unfoldable pub after : Shape → ℕ → Decoded → Outcome → Outcome
+unfoldable pub after : Shape → ℕ → Decoded → Progress → Progress
 after s r x (over k) = over k
 after s r x (built ms) = more r ms (machineOf s x (getD ms (x .first) noMach) (getD ms (x .second) noMach))
 
@@ -41,18 +41,18 @@ abbrev pub entryOf : Machines → ℕ → Summary
 entryOf t = keptIn (t .counts) (t .accepts) (t .looks)
 
 -- the machines of the first r records, those of them that are used, are stored; or the first with too many states is named
-abbrev pub Made : (ℕ → Bool) → Outcome → Shape → ℕ → Machines → List ℕ → Type 0
+abbrev pub Made : (ℕ → Bool) → Progress → Shape → ℕ → Machines → List ℕ → Type 0
 Made used (over k) s r t ws = t .ending ≡ Over k
 Made used (built ms) s r t ws =
     (t .ending ≡ Ready) × (length ms ≡ r) × ((a : ℕ) → a < r → T (used a) → Stored s (shareAt s a) (getD ms a noMach) (entryOf t a) ws)
 
 -- a record that is not used is passed over: no machine stands for it
-unfoldable pub passed : Outcome → Outcome
+unfoldable pub passed : Progress → Progress
 passed (over k) = over k
 passed (built ms) = built (ms ++ (noMach ∷ []))
 
 -- the machines of the first r records, those of them that are used
-unfoldable pub upto : List Decoded → (ℕ → Bool) → Shape → ℕ → Outcome
+unfoldable pub upto : List Decoded → (ℕ → Bool) → Shape → ℕ → Progress
 upto xs used s zero = built []
 upto xs used s (suc r) = cond (used r) (after s r (getD xs r noDecoded) (upto xs used s r)) (passed (upto xs used s r))
 

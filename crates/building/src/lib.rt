@@ -5,7 +5,7 @@ ghost use Prim.Native.Nat.{ℕ, _-_, _≤_, _<_};
 ghost use lib.ListN.{length, getD, drop};
 ghost use Rattle.layout.specs.Shape.{shareAt};
 ghost use Rattle.records.specs.Rule.{noDecoded, SomeParts};
-ghost use Rattle.building.specs.Named.{namesOf, usedIn, InOrder, marked, Marks, Closed, marking, nextOf};
+ghost use Rattle.building.specs.Named.{namedOf, usedIn, InOrder, marked, Marks, MarksClosed, marking, nextOf};
 ghost use Rattle.building.specs.OneRecord.{keptIn, Wide, Buildable, Builds};
 ghost use Rattle.building.specs.Build.{machinesIn, MadeBy, Untouched};
 use layout::Shape;
@@ -17,7 +17,7 @@ use table::plan::Kind;
 // A mark for each record that x names.
 fn mark_named(marks: &mut [bool; 129], x: Decoded)
     requires { ⌜ (x .first < 128) × (x .second < 128) ⌝ }
-    ensures { λ u. ⌜ now (marks .exit) ≡ marking (namesOf x) (now (marks .entry)) ⌝ }
+    ensures { λ u. ⌜ now (marks .exit) ≡ marking (namedOf x) (now (marks .entry)) ⌝ }
 {
     let a = x.first as usize;
     let b = x.second as usize;
@@ -146,7 +146,7 @@ pub fn build_marked(
     requires { ⌜ m ≤ 128 ⌝ }
     requires { ⌜ Wide (now counts) (now accepts) (now looks) ⌝ }
     requires { ⌜ ((r : ℕ) → r < m → Buildable (getD records r noDecoded) r s (length (now ws))) ⌝ }
-    requires { ⌜ (marked (now marks) m ≡ true) × Closed records (now marks) m ⌝ }
+    requires { ⌜ (marked (now marks) m ≡ true) × MarksClosed records (now marks) m ⌝ }
     ensures { λ e. ⌜ MadeBy (marked (now (marks .entry))) records s m
         (machinesIn (now (counts .exit)) (now (accepts .exit)) (now (looks .exit)) e) (now (ws .exit)) ⌝ }
     ensures { λ e. ⌜ drop (shareAt s m) (now (ws .exit)) ≡ drop (shareAt s m) (now (ws .entry)) ⌝ }

@@ -16,7 +16,7 @@ use Rattle.table.specs.Entry.{stepIn, entry, through, seen}
 use Rattle.records.specs.Rule.{Mach, machOf, Stored}
 use Rattle.records.specs.declared.Summary.{Summary}
 use Rattle.table.specs.Whole.{machineIn, tableIn, Whole}
-use Rattle.reading.specs.Reading.{tableOf}
+use Rattle.reading.specs.Reading.{machTable}
 
 -- a part of a workspace that goes to its end
 pub part-all : (n : ℕ) (ws : List ℕ) → take (length ws - n) (drop n ws) ≡ drop n ws
@@ -51,7 +51,7 @@ module _ (s : Shape) (shape : Shaped s) (base : ℕ) (m : Mach) (k : Summary) (w
     within = omega (arith, st .count, st .few);
   }
 
-  pub searched-alike : (P : ℕ) → search (labelsIn s) (tableIn s (k .looks) table (k .accept) (k .count)) P ≡ search (labelsIn s) (tableOf m) P
+  pub searched-alike : (P : ℕ) → search (labelsIn s) (tableIn s (k .looks) table (k .accept) (k .count)) P ≡ search (labelsIn s) (machTable m) P
   searched-alike P =
       ap (λ (c : ℕ). search (labelsIn s) (tableIn s (k .looks) table (k .accept) c) P) (st .count)
       ∙ sym (search-agrees (s .variables) (length (m .codes)) (machOf m) (machineIn s (k .looks) table (k .accept)) bounded agrees P)

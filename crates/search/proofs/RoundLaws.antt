@@ -21,7 +21,7 @@ use Rattle.search.specs.declared.Found.{Found}
 use Rattle.search.specs.declared.Finding.the-variants.{None, Larger, Shown}
 use Rattle.table.specs.Entry.{stepIn}
 use Rattle.table.specs.Whole.{machineIn, Whole}
-use Rattle.search.specs.Scan.{codeView, bestOf, bestIn, sizeOf, Held, Ready, scanSecond, scanFirst, scanLabel}
+use Rattle.search.specs.Scan.{codeView, bestOf, bestIn, sizeOf, Held, ScanReady, scanSecond, scanFirst, scanLabel}
 use Rattle.search.specs.Rounds.{answerBy, foundAs, Ended}
 use Rattle.search.proofs.ScanLaws.{pick-loops}
 
@@ -267,7 +267,7 @@ module _ {sh : Shape} {looks : ℕ} {table : List ℕ} {count accept P : ℕ} (w
     abbrev goal : Sought 2
     goal = rounds labels M P (count - 1) (empty ∷ [])
 
-    pub round-ready : P ≤ 255 → Ready sh looks table state size n
+    pub round-ready : P ≤ 255 → ScanReady sh looks table state size n
     round-ready small = record {
       bound = count;
       table-whole = wh;

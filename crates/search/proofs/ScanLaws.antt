@@ -14,7 +14,7 @@ use Rattle.logic.proofs.Repeats.{label-repeats}
 use Rattle.search.specs.declared.Pick.{Pick}
 use Rattle.table.specs.Entry.{stepIn, entry, through, seen}
 use Rattle.table.proofs.Masks.{seen-seen}
-use Rattle.search.specs.Scan.{kept, codeView, bestOf, bestIn, sizeOf, Held, Ready, scanSecond, scanFirst, scanLabel}
+use Rattle.search.specs.Scan.{kept, codeView, bestOf, bestIn, sizeOf, Held, ScanReady, scanSecond, scanFirst, scanLabel}
 
 -- the definition's loops are these
 pub pick-loops : (v : View 2) (labels n : ℕ) → pick labels n v ≡ scanLabel v n labels nothing
@@ -124,7 +124,7 @@ pick-passed s looks table done state size n l b p h w =
 pub pick-done : (v : View 2) (n l labels : ℕ) (b : Best) (r : Pick) → l ≤ labels → labels ≤ l → Held v (scanLabel v n l b) r → Held v (scanLabel v n labels b) r
 pick-done v n l labels b r p q h = subst (λ (k : ℕ). Held v (scanLabel v n k b) r) (omega arith) h
 
-pub ready-steps : {s : Shape} {looks : ℕ} {table state size : List ℕ} {n : ℕ} (v : Ready s looks table state size n) (l a b : ℕ)
+pub ready-steps : {s : Shape} {looks : ℕ} {table state size : List ℕ} {n : ℕ} (v : ScanReady s looks table state size n) (l a b : ℕ)
     → l < labelsIn s → a < v .bound → b < v .bound → stepIn s table 0 looks l (a ∷ b ∷ []) < 64
 ready-steps {s} v l a b hl ha hb =
     let w = v .table-whole in

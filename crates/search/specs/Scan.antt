@@ -58,7 +58,7 @@ pub record Held (v : View 2) (b : Best) (p : Pick) : Type 0 where
   pub fair : p .size ≡ sizeOf v b
 
 -- the arrays are as they should be: n settled trees, of states below a bound under which the steps stay, each of at most 255 positions
-pub record Ready (s : Shape) (looks : ℕ) (table state size : List ℕ) (n : ℕ) : Type 0 where
+pub record ScanReady (s : Shape) (looks : ℕ) (table state size : List ℕ) (n : ℕ) : Type 0 where
   pub bound : ℕ
   pub table-whole : Whole s looks table bound
   pub settled-few : n ≤ 64

@@ -7,7 +7,7 @@ ghost use Rattle.words.specs.Word.{mem};
 ghost use Rattle.logic.specs.Tree.{empty};
 ghost use Rattle.logic.specs.Search.{nothing, anyBelow, rounds, search};
 ghost use Rattle.table.specs.Whole.{machineIn, tableIn, Whole};
-ghost use Rattle.search.specs.Scan.{kept, Ready, Turn, Held, codeView, bestIn, scanSecond, scanFirst, scanLabel};
+ghost use Rattle.search.specs.Scan.{kept, ScanReady, Turn, Held, codeView, bestIn, scanSecond, scanFirst, scanLabel};
 ghost use Rattle.search.specs.Rounds.{Ended, foundAs};
 use layout::Shape;
 use table::entries::step_in;
@@ -61,7 +61,7 @@ fn row(
     i: usize,
     best: Pick,
 ) -> Pick
-    requires { ⌜ Ready s looks (now table) (now state) (now size) n ⌝ }
+    requires { ⌜ ScanReady s looks (now table) (now state) (now size) n ⌝ }
     requires { ⌜ Turn s n l i ⌝ }
     requires { ⌜ Held (codeView s looks (now table) (now done) (now state) (now size)) (bestIn best) best ⌝ }
     ensures { λ r. ⌜ Held (codeView s looks (now (table .entry)) (now (done .entry)) (now (state .entry)) (now (size .entry)))
@@ -97,7 +97,7 @@ fn rows(
     l: usize,
     best: Pick,
 ) -> Pick
-    requires { ⌜ Ready s looks (now table) (now state) (now size) n ⌝ }
+    requires { ⌜ ScanReady s looks (now table) (now state) (now size) n ⌝ }
     requires { ⌜ l < labelsIn s ⌝ }
     requires { ⌜ Held (codeView s looks (now table) (now done) (now state) (now size)) (bestIn best) best ⌝ }
     ensures { λ r. ⌜ Held (codeView s looks (now (table .entry)) (now (done .entry)) (now (state .entry)) (now (size .entry)))
@@ -122,7 +122,7 @@ fn scan(
     size: &[u64; 64],
     n: usize,
 ) -> Pick
-    requires { ⌜ Ready s looks (now table) (now state) (now size) n ⌝ }
+    requires { ⌜ ScanReady s looks (now table) (now state) (now size) n ⌝ }
     ensures { λ r. ⌜ Held (codeView s looks (now (table .entry)) (now (done .entry)) (now (state .entry)) (now (size .entry)))
         (scanLabel (codeView s looks (now (table .entry)) (now (done .entry)) (now (state .entry)) (now (size .entry))) n (labelsIn s) nothing) r ⌝ }
 {

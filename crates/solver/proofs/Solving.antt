@@ -13,8 +13,8 @@ use Rattle.logic.proofs.Answers.{trimmed-iff}
 use Rattle.logic.proofs.ReachedRecords.{last-reached}
 use Rattle.records.specs.Rule.{Mach, noMach, Stored}
 use Rattle.records.specs.declared.Decoded.{Decoded}
-use Rattle.building.specs.Named.{namesIn, usedIn}
-use Rattle.building.specs.Build.{Outcome as Made-outcome, built, over, entryOf, Made, MadeBy, upto}
+use Rattle.building.specs.Named.{namedIn, usedIn}
+use Rattle.building.specs.Build.{Progress as Made-outcome, built, over, entryOf, Made, MadeBy, upto}
 use Rattle.building.specs.declared.Ending.{Ending}
 use Rattle.building.specs.declared.Ending.the-variants.{Over, Ready}
 use Rattle.building.specs.declared.Machines.{Machines}
@@ -59,7 +59,7 @@ module _ (records : List Decoded) (m : ℕ) (s : Shape) (shape : Shaped s) (some
   last-stored : (e : t .ending ≡ Ready) → let w = no-over used outcome s m t ws made e in
       Stored s (shareAt s (m - 1)) (getD (w .0) (m - 1) noMach) (entryOf t (m - 1)) ws
   last-stored e = no-over used outcome s m t ws made e .2 .2 (m - 1) (omega arith)
-      (last-reached (namesIn records) m some)
+      (last-reached (namedIn records) m some)
 
   -- the last record's machine can be read
   pub last-machine : m ≤ 128 → shareAt s m ≤ length ws → t .ending ≡ Ready → HasMachine ws s (m - 1) (entryOf t (m - 1))
