@@ -156,10 +156,6 @@ module _ (s : Shape) where
   unfolding placeIn
   place-one l m is js t u e = digits-one (s .ceiling) l m is js (t .long ∙ sym (u .long)) (t .below) (u .below) e
 
-  -- an entry's place in its record's share lies before a later share
-  pub place-before : (a r l : ℕ) (is : List ℕ) → a < r → l < labelsIn s → Tuple (s .branches) (s .ceiling) is → shareAt s a + placeIn s l is < shareAt s r
-  place-before a r l is h hl t = omega (arith, place-in l is hl t, share-next s a r h)
-
   -- what stands at a place
   pub place-at : (q : ℕ) → placeIn s (labelAt s q) (tupleAt s q) ≡ q
   unfolding placeIn labelAt tupleAt

@@ -44,8 +44,7 @@ module _ (s : Shape) (shape : Shaped s) (base : ℕ) (m : Mach) (k : Summary) (w
   -- the table may be searched and run
   pub whole-of : base + shareOf s ≤ length ws → Whole s (k .looks) table (k .count)
   whole-of h = record {
-    shape = shape;
-    whole = omega (arith, ap length et, length-drop base ws);
+    inside = record { shape = shape; small = omega arith; share = omega (arith, ap length et, length-drop base ws) };
     steps = λ l is hl t. let w = step-is l is hl (tuple-up (omega (arith, st .count)) t) in omega (arith, w .0, w .1, st .count);
     some-state = omega (arith, st .count, st .some-state);
     within = omega (arith, st .count, st .few);

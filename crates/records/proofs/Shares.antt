@@ -3,7 +3,7 @@ use Rattle.words.proofs.Vocabulary.{ℕ, _≤_, _<_, _+_, _-_, Bool, true, fals
 use Rattle.words.proofs.Vocabulary.{le-leb, lt-leb, leb-false, leb-true, leb, length, getD, take, drop, length-take-le, getD-take, drop-drop, pow-pos, arith}
 use Rattle.layout.specs.Shape.{labelsIn, shareOf, shareAt, placeIn, labelAt, tupleAt, Tuple}
 use Rattle.layout.specs.declared.Shape.{Shape}
-use Rattle.layout.proofs.Places.{tuple-up, shares-small, share-next, place-one, place-before, place-at, states-at, label-at}
+use Rattle.layout.proofs.Places.{tuple-up, shares-small, share-next, place-one, place-in, place-at, states-at, label-at}
 use Rattle.table.specs.Entry.{Power, Step, seen, Bare, entry, through}
 use Rattle.table.specs.Rows.{Led}
 use Rattle.table.specs.Succ.{PlanRoom, firstStep, secondStep, kindCode, successorOf, succIn, startCode, startOf}
@@ -141,8 +141,8 @@ module _ (x : Decoded) (r : ℕ) (s : Shape) (kf kg : Summary) (ws : List ℕ) (
     few = omega (arith, st .few, fits .shape .ceiling);
     same = λ l is hl t.
         let b = seen (k .looks) l in
-        let near = place-before s a r b is h (omega (arith, seen-le (k .looks) l)) (tuple-up (st .few) t) in
-        (getD-take (shareAt s r) ws (shareAt s a + placeIn s b is) 0 near ∙ st .holds l is hl t .0, st .holds l is hl t .1);
+        let near = place-in s b is (omega (arith, seen-le (k .looks) l)) (tuple-up (st .few) t) in
+        (getD-take (shareAt s r) ws (shareAt s a + placeIn s b is) 0 (omega (arith, share-next s a r h)) ∙ st .holds l is hl t .0, st .holds l is hl t .1);
   }
 
   -- the parts that the kind has come before the record, and are stored

@@ -13,7 +13,6 @@ use Rattle.layout.specs.declared.Shape.{Shape}
 use Rattle.layout.specs.Shape.{labelsIn}
 use Rattle.layout.proofs.Places.{pair-in}
 use Rattle.table.specs.Entry.{stepIn, Within}
-use Rattle.table.proofs.Wholes.{whole-within}
 use Rattle.table.specs.Whole.{machineIn}
 use Rattle.running.specs.declared.Ran.{Ran}
 use Rattle.running.specs.Run.{Runnable, Came}
@@ -95,14 +94,14 @@ module _ {strip : List ℕ} {at : ℕ} {s : Shape} {looks : ℕ} {table : List �
         module _ {v : ℕ} (ev : v ≡ field strip (at + 1) n) where
           pub in-table : Within s table 0 × ((v < labelsIn s) × (x .state < s .ceiling) × (y .state < s .ceiling))
           in-table =
-              (whole-within (w .whole), (rw ev label-small, omega (arith, cx .below, w .whole .within), omega (arith, cy .below, w .whole .within)))
+              (w .whole .inside, (rw ev label-small, omega (arith, cx .below, w .whole .within), omega (arith, cy .below, w .whole .within)))
 
           pub came-node : {q : ℕ} → q ≡ stepIn s table 0 looks v (x .state ∷ y .state ∷ [])
               → Came strip at s looks table count (record { state = q; next = y .next })
           unfolding run treeBits Proper
           came-node {q} e = record {
             ran = here;
-            below = rw e (w .whole .steps v (x .state ∷ y .state ∷ []) (rw ev label-small) (pair-in s (w .whole .shape) (cx .below) (cy .below)));
+            below = rw e (w .whole .steps v (x .state ∷ y .state ∷ []) (rw ev label-small) (pair-in s (w .whole .inside .shape) (cx .below) (cy .below)));
           }
             where
               here : (accept : ℕ) (t : Tree 2) → Proper n t → Stands strip n at t

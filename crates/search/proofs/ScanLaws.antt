@@ -128,4 +128,4 @@ pub ready-steps : {s : Shape} {looks : ℕ} {table state size : List ℕ} {n : �
     → l < labelsIn s → a < v .bound → b < v .bound → stepIn s table 0 looks l (a ∷ b ∷ []) < 64
 ready-steps {s} v l a b hl ha hb =
     let w = v .table-whole in
-    omega (arith, w .steps l (a ∷ b ∷ []) hl (pair-in s (w .shape) ha hb), w .within, w .shape .ceiling)
+    omega (arith, w .steps l (a ∷ b ∷ []) hl (pair-in s (w .inside .shape) ha hb), w .within, w .inside .shape .ceiling)

@@ -4,4 +4,3 @@ pub mod Masks
 pub mod RowLaws
 pub mod Sets
 pub mod Start
-pub mod Wholes

@@ -1,14 +1,13 @@
 -- The machine that a whole table in bytes stands for. Assumes nothing.
 use mathlib.Core.List.{List}
 use Prim.Native.Nat.{ℕ, _≤_, _<_}
-use lib.ListN.{length}
 use Rattle.logic.specs.Machine.{Machine}
 use Rattle.logic.specs.Table.{Table}
 use Rattle.logic.specs.Two.{binary}
 use Rattle.words.specs.Word.{mem}
 use Rattle.layout.specs.declared.Shape.{Shape}
-use Rattle.layout.specs.Shape.{Shaped, labelsIn, shareOf, Tuple}
-use Rattle.table.specs.Entry.{stepIn}
+use Rattle.layout.specs.Shape.{labelsIn, Tuple}
+use Rattle.table.specs.Entry.{Within, stepIn}
 
 -- the machine that the table and the set of accepting states stand for
 abbrev pub machineIn : Shape → ℕ → List ℕ → ℕ → Machine 2 ℕ
@@ -20,8 +19,7 @@ tableIn s looks table accept count = record { count = count; machine = machineIn
 
 -- a whole table, whose entries for states below count are states below count
 pub record Whole (s : Shape) (looks : ℕ) (table : List ℕ) (count : ℕ) : Type 0 where
-  pub shape : Shaped s
-  pub whole : shareOf s ≤ length table
+  pub inside : Within s table 0
   pub steps : (l : ℕ) (is : List ℕ) → l < labelsIn s → Tuple (s .branches) count is → stepIn s table 0 looks l is < count
   pub some-state : 0 < count
   pub within : count ≤ s .ceiling

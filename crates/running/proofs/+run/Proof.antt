@@ -38,7 +38,7 @@ field-at-requires : (t : ℕ) → run-lts.Need-field-at-requires (R t) (run-at t
 field-at-requires t c κs =
     let w = c .before .before .before .before .pre .1 in
     let h = label-within w (set-bit t c) in
-    (w .whole .shape .variables, (h, omega (arith, w .whole .shape .some-variable)))
+    (w .whole .inside .shape .variables, (h, omega (arith, w .whole .inside .shape .some-variable)))
 
 add-run-2 : (t : ℕ) → run-lts.Need-add-run-2 (R t) (run-at t) run.Post
 add-run-2 t c = let w = c .before .before .before .before .before .pre .1 in omega (arith, w .short, label-within w (set-bit t (c .before)))

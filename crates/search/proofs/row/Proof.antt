@@ -2,7 +2,6 @@
 use Rattle.words.proofs.Vocabulary.{_-_, _≤_, arith, needs}
 use Rattle.logic.specs.Search.{loop}
 use Rattle.search.specs.Scan.{scanSecond, Held, codeView, bestIn}
-use Rattle.table.proofs.Wholes.{whole-within}
 use Rattle.search.proofs.ScanLaws.{row-next, row-done, ready-steps}
 use Rattle.search.proofs.row.Statement.{statement}
 use Rattle.search.proofs.row.Tie as tie
@@ -23,10 +22,9 @@ step-in-requires c κs =
     let loop = c .before .before .before .before .before .loop in
     let start = c .before .before .before .before .before .before .before in
     let ready = start .pre .0 in
-    let whole = ready .table-whole in
     let first = ready .states (start .args .i) (start .pre .1 .0 .first) in
     let second = ready .states (loop .j) (omega arith) in
-    (whole-within whole, (start .pre .1 .0 .label, omega arith, omega arith))
+    (ready .table-whole .inside, (start .pre .1 .0 .label, omega (arith, ready .table-whole .within), omega (arith, ready .table-whole .within)))
 
 element-copy-out-consider : tie.Need-element-copy-out-consider Inv-loop μ-loop
 element-copy-out-consider c =

@@ -1,6 +1,5 @@
 -- `search::settle` meets its contract. Assumes nothing.
 use Rattle.words.proofs.Vocabulary.{_-_, _∙_, sym, arith, needs}
-use Rattle.table.proofs.Wholes.{whole-within}
 use Rattle.search.proofs.RoundLaws.{Round, round-first, round-ready, round-end, round-none, round-larger, round-range, round-target}
 use Rattle.search.proofs.RoundLaws.{round-shown′, round-more, round-small}
 use Rattle.search.proofs.settle.Statement.{statement}
@@ -37,14 +36,14 @@ array-read-wide c =
     let turn = c .before .before .before .before .before .before .before in
     let wh = turn .before .before .pre .0 in
     let r = round-range wh (turn .loop .inv) (search) (c .before .before .scan .ensures) (search) in
-    omega (arith, r .first-in, turn .loop .inv .high, wh .within, wh .shape .ceiling)
+    omega (arith, r .first-in, turn .loop .inv .high, wh .within, wh .inside .shape .ceiling)
 
 array-read-wide-2 : tie.Need-array-read-wide-2 Inv-loop μ-loop
 array-read-wide-2 c =
     let turn = c .before .before .before .before .before .before .before .before in
     let wh = turn .before .before .pre .0 in
     let r = round-range wh (turn .loop .inv) (search) (c .before .before .before .scan .ensures) (search) in
-    omega (arith, r .second-in, turn .loop .inv .high, wh .within, wh .shape .ceiling)
+    omega (arith, r .second-in, turn .loop .inv .high, wh .within, wh .inside .shape .ceiling)
 
 step-in-requires : tie.Need-step-in-requires Inv-loop μ-loop
 step-in-requires c κs =
@@ -54,7 +53,7 @@ step-in-requires c κs =
     let label = round-range wh (turn .loop .inv) (search) (scan .ensures) (search) .label-in in
     let first = turn .loop .inv .tame (scan .result .first) in
     let second = turn .loop .inv .tame (scan .result .second) in
-    (whole-within wh, (label, omega (arith, wh .within), omega (arith, wh .within)))
+    (wh .inside, (label, omega (arith, wh .within), omega (arith, wh .within)))
 
 narrow-requires : tie.Need-narrow-requires Inv-loop μ-loop
 narrow-requires c κs =
