@@ -11,7 +11,7 @@ use Rattle.table.specs.declared.plan.Kind.{Kind}
 use Rattle.table.specs.declared.plan.Kind.the-variants.{Subset, Single, Child1, Child2, Root, Not, Or, And, Exists}
 use Rattle.records.specs.Rule.{OfParts, noDecoded}
 use Rattle.records.specs.declared.Decoded.{Decoded}
-use Rattle.building.specs.Named.{namedBy, namesIn, usedIn, InOrder, marked, Marks, Closed, marking, nextOf}
+use Rattle.building.specs.Named.{namedBy, namedIn, usedIn, InOrder, marked, Marks, MarksClosed, marking, nextOf}
 
 -- ---- the parts that a record names
 pub named-all : (k : Kind) (a b : ℕ) (P : ℕ → Type 0) → OfParts k (P a) (P b) → (i : ℕ) → T (elem i (namedBy k a b)) → P i
@@ -86,13 +86,13 @@ bare-at (suc d) (suc i) t = bare-at d i t
 pub record Pass (xs : List Decoded) (m : ℕ) (ms : List Bool) (r : ℕ) : Type 0 where
   pub within : r ≤ m
   pub long : length ms ≡ 129
-  pub sound : (i : ℕ) → T (marked ms i) → ReachedFrom (namesIn xs) (m - 1) i
+  pub sound : (i : ℕ) → T (marked ms i) → ReachedFrom (namedIn xs) (m - 1) i
   pub last : T (marked ms (m - 1))
-  pub closed : (j i : ℕ) → r ≤ j → j < m → T (marked ms j) → T (elem i (namesIn xs j)) → T (marked ms i)
+  pub closed : (j i : ℕ) → r ≤ j → j < m → T (marked ms j) → T (elem i (namedIn xs j)) → T (marked ms i)
 
 module _ (xs : List Decoded) (m : ℕ) (few : m ≤ 128) (order : (r : ℕ) → r < m → InOrder (getD xs r noDecoded) r) where
   abbrev names : ℕ → List ℕ
-  names = namesIn xs
+  names = namedIn xs
 
   pub earlier : Earlier names m
   earlier r h i t = let x = getD xs r noDecoded in named-all (x .kind) (x .first) (x .second) (λ (a : ℕ). a < r) (order r h .before) i t
@@ -166,8 +166,8 @@ module _ (xs : List Decoded) (m : ℕ) (few : m ≤ 128) (order : (r : ℕ) → 
     }
 
   -- and such marks are closed
-  pub used-closed : (ms : List Bool) → Marks (usedIn xs m) m ms → Closed xs ms m
-  used-closed ms is r i h t e =
+  pub used-closed : (ms : List Bool) → Marks (usedIn xs m) m ms → MarksClosed xs ms m
+  used-closed ms is r h t i e =
       subst T (sym (is .below i (omega (arith, earlier r h i e)))) (reached-parts names m earlier r i (subst T (is .below r h) t) e)
 
 -- ---- the next record that is used

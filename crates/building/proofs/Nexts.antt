@@ -1,182 +1,112 @@
--- The machines of the records that are used, one after the other: with one more, past those that are not used, and after one with too many
--- states. Assumes nothing.
+-- The machines of the records that are used, one after the other: past those that are not used, and after one with too many states.
+-- Assumes nothing.
 use Rattle.words.proofs.Vocabulary.{ℕ, _≤_, _<_, _+_, _-_, suc, zero, _≡_, _∙_, refl, sym, ap, ap₂, subst, ⊎-elim, List, [], _∷_, _++_, some}
-use Rattle.words.proofs.Vocabulary.{Option, none, Bool, true, false, cond, T, length, getD, set, List·getD-append, length-append, length-set}
-use Rattle.words.proofs.Vocabulary.{getD-set-other, getD-set-same, getD-append-seam, add-zero, eq-or-lt-of-le, add-suc, add-one, drop, arith}
-use lib.Seq.{getD-drop}
-use Rattle.records.specs.Rule.{Mach, noMach, machineOf, noDecoded, Fits, Stored, PartsStored, Placed, Added, Spared}
-use Rattle.layout.specs.Shape.{shareOf, shareAt, placeIn}
+use Rattle.words.proofs.Vocabulary.{Option, none, Bool, true, false, cond, _&&_, T, ltb, ltb→lt, _↔_, length, getD, List·getD-append, length-append}
+use Rattle.words.proofs.Vocabulary.{getD-append-seam, add-zero, eq-or-lt-of-le, add-suc, add-one, drop, arith}
+use lib.Dec.{lt→ltb}
+use Rattle.records.specs.Rule.{Mach, noMach, machineOf, noDecoded, SomeParts, Stored}
+use Rattle.layout.specs.Shape.{shareOf, shareAt}
 use Rattle.layout.specs.declared.Shape.{Shape}
-use Rattle.layout.proofs.Places.{tuple-up, place-before, share-next}
-use Rattle.table.specs.Entry.{entry, seen}
 use Rattle.records.specs.declared.Decoded.{Decoded}
 use Rattle.records.specs.declared.Summary.{Summary}
-use Rattle.logic.specs.Reach.{elem}
-use Rattle.logic.proofs.Orders.{less, same, more as later, ℕ-tri}
-use Rattle.table.proofs.Masks.{seen-le}
 use Rattle.building.specs.declared.Ending.the-variants.{Over, Ready}
 use Rattle.building.specs.declared.Machines.{Machines}
-use Rattle.building.specs.Named.{namesOf, nextOf}
-use Rattle.building.specs.Build.{Outcome, built, over, more, after, passed, upto, Made, MadeBy, Wide, Untouched, entryOf}
-use Rattle.building.proofs.Marks.{named-all, all-named}
+use Rattle.building.specs.Named.{NamesUsed, nextOf}
+use Rattle.building.specs.OneRecord.{Buildable, AllStored, Tried, Builds}
+use Rattle.building.specs.Build.{Progress, built, over, more, after, passed, upto, Made, MadeBy, Untouched, entryOf}
+use Rattle.records.proofs.Shares.{drop-later}
+use Rattle.layout.proofs.Places.{share-next}
+use Rattle.logic.proofs.Connectives.{and-iff}
+use Rattle.building.proofs.Marks.{named-all, next-within, next-used}
+use Rattle.building.proofs.OneRecord.{changed-other, spared-at, parts-stored}
 
 -- ---- one record more
--- s with record r's machine
-abbrev pub withNext : Machines → ℕ → Summary → Machines
-withNext s r k =
-    record { counts = set (s .counts) r (k .count); accepts = set (s .accepts) r (k .accept); looks = set (s .looks) r (k .looks); ending = s .ending }
+-- those of the first r records that are used
+abbrev usedBelow : (ℕ → Bool) → ℕ → ℕ → Bool
+usedBelow used r a = ltb a r && used a
 
--- an entry stays for each possible record, whatever is kept of record r
-pub wide-next : (s : Machines) (r count accept looks : ℕ) → Wide s
-    → Wide (record { counts = set (s .counts) r count; accepts = set (s .accepts) r accept; looks = set (s .looks) r looks; ending = s .ending })
-wide-next s r count accept looks w =
-    record { counts = simp length-set (w .counts); accepts = simp length-set (w .accepts); looks = simp length-set (w .looks) }
-
--- a machine stays stored where only a later share is changed
-stored-spared : {s : Shape} (a : ℕ) {r : ℕ} {m : Mach} {k : Summary} {ws ws′ : List ℕ} → a < r → Spared s r ws ws′
-    → Stored s (shareAt s a) m k ws → Stored s (shareAt s a) m k ws′
-unfolding entry
-stored-spared {s} a {r} {m} {k} {ws} {ws′} h sp st = record {
-  count = st .count;
-  accept = st .accept;
-  holds = λ l is hl t.
-      let b = seen (k .looks) l in
-      let near = place-before s a r b is h (omega (arith, seen-le (k .looks) l)) (tuple-up (st .few) t) in
-      (sp .low (shareAt s a + placeIn s b is) near ∙ st .holds l is hl t .0, st .holds l is hl t .1);
-  some-state = st .some-state;
-  few = st .few;
-}
-
--- the share of a record that is not used stays as it was where one that is used is built
-pub untouched-next : {used : ℕ → Bool} {s : Shape} {m r : ℕ} {ws₀ ws ws′ : List ℕ} → used r ≡ true → Spared s r ws ws′
-    → Untouched used s m ws₀ ws → Untouched used s m ws₀ ws′
-untouched-next {used} {s} {m} {r} {ws₀} {ws} {ws′} here sp old = record {
-  same = λ a q h bare from to. elim (ℕ-tri a r) [
-    | less l ↦ sp .low q (omega (arith, share-next s a r l)) ∙ old .same a q h bare from to
-    | same e ↦ absurd (subst T (sym here ∙ ap used (sym e) ∙ bare) tt)
-    | later l ↦ past q (omega (arith, share-next s r a l)) ∙ old .same a q h bare from to
-  ];
-}
-  where
-    end : ℕ
-    end = shareAt s r + shareOf s
-
-    past : (q : ℕ) → end ≤ q → getD ws′ q 0 ≡ getD ws q 0
-    past q l =
-        let e : end + (q - end) ≡ q = omega arith in
-        let at : (v : List ℕ) → getD (drop end v) (q - end) 0 ≡ getD v q 0 =
-        λ v. getD-drop end v (q - end) 0 ∙ ap (λ (i : ℕ). getD v i 0) e in
-        sym (at ws′) ∙ ap (λ (v : List ℕ). getD v (q - end) 0) (sp .high) ∙ at ws
+below-iff : (used : ℕ → Bool) (r a : ℕ) → T (usedBelow used r a) ↔ ((a < r) × T (used a))
+below-iff used r a = and-iff (ltb a r) (used a) (ltb→lt a r, lt→ltb a r) (λ t. t, λ t. t)
 
 -- the machines of the first r records, those of them that are used, are stored
-pub record AllStored (xs : List Decoded) (used : ℕ → Bool) (s : Shape) (r : ℕ) (t : Machines) (ws : List ℕ) : Type 0 where
+pub record Upto (xs : List Decoded) (used : ℕ → Bool) (s : Shape) (r : ℕ) (es : ℕ → Summary) (ws : List ℕ) : Type 0 where
   pub machines : List Mach
   pub is : upto xs used s r ≡ built machines
   pub size : length machines ≡ r
-  pub stored : (a : ℕ) → a < r → T (used a) → Stored s (shareAt s a) (getD machines a noMach) (entryOf t a) ws
+  pub stored : AllStored (usedBelow used r) (λ a. getD machines a noMach) s es ws
 
-pub ready-first : {xs : List Decoded} {used : ℕ → Bool} {s : Shape} {t : Machines} {ws : List ℕ} → AllStored xs used s 0 t ws
+ready-first : {xs : List Decoded} {used : ℕ → Bool} {s : Shape} {es : ℕ → Summary} {ws : List ℕ} → Upto xs used s 0 es ws
 unfolding upto
-ready-first = record { machines = []; is = refl; size = refl; stored = λ a h u. absurd (omega arith) }
+ready-first {xs} {used} = record { machines = []; is = refl; size = refl; stored = λ a u. absurd (omega (arith, (below-iff used 0 a) .0 u .0)) }
 
-pub made-ready : {xs : List Decoded} {used : ℕ → Bool} {s : Shape} {r : ℕ} {t : Machines} {ws : List ℕ} → t .ending ≡ Ready
-    → AllStored xs used s r t ws → MadeBy used xs s r t ws
-made-ready e w = rw (w .is) (e, w .size, w .stored)
+made-ready : {xs : List Decoded} {used : ℕ → Bool} {s : Shape} {r : ℕ} (t : Machines) {ws : List ℕ} → t .ending ≡ Ready
+    → Upto xs used s r (entryOf t) ws → MadeBy used xs s r t ws
+made-ready {xs} {used} {s} {r} t e w = rw (w .is) (e, w .size, λ a h u. w .stored a ((below-iff used r a) .1 (h, u)))
 
 upto-next : (xs : List Decoded) (used : ℕ → Bool) (s : Shape) (r : ℕ)
     → upto xs used s (r + 1) ≡ cond (used r) (after s r (getD xs r noDecoded) (upto xs used s r)) (passed (upto xs used s r))
 unfolding upto
 upto-next xs used s r = ap (upto xs used s) (add-one r)
 
-module _ {xs : List Decoded} {used : ℕ → Bool} {s : Shape} {r : ℕ} {t : Machines} {ws : List ℕ} (w : AllStored xs used s r t ws) where
+module _ {xs : List Decoded} {used : ℕ → Bool} {s : Shape} {r : ℕ} {es : ℕ → Summary} {ws : List ℕ} (w : Upto xs used s r es ws) where
   abbrev x : Decoded
   x = getD xs r noDecoded
 
-  abbrev f : Mach
-  f = getD (w .machines) (x .first) noMach
+  abbrev made : ℕ → Mach
+  made a = getD (w .machines) a noMach
 
-  abbrev g : Mach
-  g = getD (w .machines) (x .second) noMach
-
-  pub parts-ready : {n : ℕ} → Fits x r s n → ((i : ℕ) → T (elem i (namesOf x)) → T (used i))
-      → PartsStored x s (entryOf t (x .first)) (entryOf t (x .second)) ws f g
-  parts-ready fits u =
-      all-named (x .kind) (x .first) (x .second) (λ (i : ℕ). Stored s (shareAt s i) (getD (w .machines) i noMach) (entryOf t i) ws)
-      (λ i e. w .stored i (named-all (x .kind) (x .first) (x .second) (λ (a : ℕ). a < r) (fits .before) i e) (u i e))
+  -- with one more, whatever it is: those before it stay, and it is stored if it is used
+  one-more : {es′ : ℕ → Summary} {ws′ : List ℕ} (m : Mach) → upto xs used s (r + 1) ≡ built (w .machines ++ (m ∷ []))
+      → ((a : ℕ) → a < r → T (used a) → Stored s (shareAt s a) (made a) (es′ a) ws′) → (T (used r) → Stored s (shareAt s r) m (es′ r) ws′)
+      → Upto xs used s (r + 1) es′ ws′
+  one-more {es′} {ws′} m e before here = record {
+    machines = w .machines ++ (m ∷ []);
+    is = e;
+    size = length-append (w .machines) (m ∷ []) ∙ omega (arith, w .size);
+    stored = λ a u.
+        let v = (below-iff used (r + 1) a) .0 u in
+        ⊎-elim
+        (λ (q : a ≡ r). rw (q, last) (here (rw q at (v .1))))
+        (λ (l : a < r). rw (List·getD-append (w .machines) (m ∷ []) noMach a (omega (arith, w .size))) (before a l (v .1)))
+        (eq-or-lt-of-le (omega (arith, v .0)));
+  }
+    where
+      last : getD (w .machines ++ (m ∷ [])) r noMach ≡ m
+      last = ap (λ (n : ℕ). getD (w .machines ++ (m ∷ [])) n noMach) (sym (w .size)) ∙ getD-append-seam (w .machines) m [] noMach
 
   -- a record that is not used is passed over
-  pub ready-pass : used r ≡ false → AllStored xs used s (r + 1) t ws
+  ready-pass : used r ≡ false → Upto xs used s (r + 1) es ws
   unfolding passed
-  ready-pass e = record {
-    machines = w .machines ++ (noMach ∷ []);
-    is = upto-next xs used s r ∙ rw e (ap passed (w .is));
-    size = length-append (w .machines) (noMach ∷ []) ∙ omega (arith, w .size);
-    stored = λ a h u. ⊎-elim
-        (λ (q : a ≡ r). absurd (subst T (ap used q ∙ e) u))
-        (λ (l : a < r). rw (List·getD-append (w .machines) (noMach ∷ []) noMach a (omega (arith, w .size))) (w .stored a l u))
-        (eq-or-lt-of-le (omega arith));
-  }
+  ready-pass e =
+      one-more noMach (upto-next xs used s r ∙ rw e (ap passed (w .is))) (λ a h u. w .stored a ((below-iff used r a) .1 (h, u))) (λ u. absurd (subst T e u))
 
   module _ (is-used : used r ≡ true) where
-    next-is : (o : Option Mach) → machineOf s x f g ≡ o → upto xs used s (r + 1) ≡ more r (w .machines) o
+    next-is : (o : Option Mach) → machineOf s x (made (x .first)) (made (x .second)) ≡ o → upto xs used s (r + 1) ≡ more r (w .machines) o
     unfolding after
     next-is o e = upto-next xs used s r ∙ rw is-used (ap (after s r x) (w .is) ∙ ap (more r (w .machines)) e)
 
-    module _ {ws′ : List ℕ} {k : Summary} (added : Added x s r (entryOf t (x .first)) (entryOf t (x .second)) f g k ws ws′) where
-      pub ready-next : Wide t → r < 128 → k .count ≤ s .ceiling → Spared s r ws ws′ → AllStored xs used s (r + 1) (withNext t r k) ws′
-      ready-next wide hr few sp = record {
-        machines = w .machines ++ (new ∷ []);
-        is = next-is (some new) (made .1);
-        size = length-append (w .machines) (new ∷ []) ∙ omega (arith, w .size);
-        stored = λ a h u. ⊎-elim
-            (λ (e : a ≡ r). subst (λ (b : ℕ). Stored s (shareAt s b) (getD (w .machines ++ (new ∷ [])) b noMach) (entryOf (withNext t r k) b) ws′) (sym e) here)
-            (λ (l : a < r). earlier a l u)
-            (eq-or-lt-of-le (omega arith));
-      }
-        where
-          made : (m : Mach) × (machineOf s x f g ≡ some m) × Placed s r m k ws ws′
-          made = added .few few
+    module _ {es′ : ℕ → Summary} {ws′ : List ℕ} {v : Bool} (t : Tried x s r (usedBelow used r) made es es′ ws ws′ v) where
+      ready-next : v ≡ false → Upto xs used s (r + 1) es′ ws′
+      ready-next e =
+          let new = t .few e in
+          one-more (new .0) (next-is (some (new .0)) (new .1))
+          (λ a h u. t .others a (rw (changed-other (usedBelow used r) r false a (λ (q : a ≡ r). omega arith)) ((below-iff used r a) .1 (h, u))))
+          (λ u. new .2 .stored)
 
-          new : Mach
-          new = made .0
-
-          last : getD (w .machines ++ (new ∷ [])) r noMach ≡ new
-          last = ap (λ (n : ℕ). getD (w .machines ++ (new ∷ [])) n noMach) (sym (w .size)) ∙ getD-append-seam (w .machines) new [] noMach
-
-          here : Stored s (shareAt s r) (getD (w .machines ++ (new ∷ [])) r noMach) (entryOf (withNext t r k) r) ws′
-          here =
-              rw (
-                last,
-                getD-set-same (t .counts) r (k .count) 0 (omega (arith, wide .counts)),
-                getD-set-same (t .accepts) r (k .accept) 0 (omega (arith, wide .accepts)),
-                getD-set-same (t .looks) r (k .looks) 0 (omega (arith, wide .looks)),
-              ) (made .2 .stored)
-
-          earlier : (a : ℕ) → a < r → T (used a) → Stored s (shareAt s a) (getD (w .machines ++ (new ∷ [])) a noMach) (entryOf (withNext t r k) a) ws′
-          earlier a l u =
-              let no : a ≡ r → ⊥ = λ e. omega arith in
-              rw (
-                List·getD-append (w .machines) (new ∷ []) noMach a (omega (arith, w .size)),
-                getD-set-other (t .counts) r a (k .count) 0 no,
-                getD-set-other (t .accepts) r a (k .accept) 0 no,
-                getD-set-other (t .looks) r a (k .looks) 0 no,
-              )
-              (stored-spared a l sp (w .stored a l u))
-
-      pub over-next : s .ceiling < k .count → upto xs used s (r + 1) ≡ over r
-      over-next h = next-is none (added .many h)
+      over-next : v ≡ true → upto xs used s (r + 1) ≡ over r
+      over-next e = next-is none (t .many e)
 
 -- and so up to the next one that is used
-pub ready-next-used : {xs : List Decoded} {used : ℕ → Bool} {s : Shape} {t : Machines} {ws : List ℕ} (d r : ℕ) → AllStored xs used s r t ws
-    → AllStored xs used s (nextOf used r d) t ws
+ready-next-used : {xs : List Decoded} {used : ℕ → Bool} {s : Shape} {es : ℕ → Summary} {ws : List ℕ} (d r : ℕ) → Upto xs used s r es ws
+    → Upto xs used s (nextOf used r d) es ws
 unfolding nextOf
 ready-next-used zero r w = w
-ready-next-used {xs} {used} {s} {t} {ws} (suc d) r w = go (used r) refl (λ z. ready-next-used d (suc r) z)
+ready-next-used {xs} {used} {s} {es} {ws} (suc d) r w = go (used r) refl (λ z. ready-next-used d (suc r) z)
   where
-    go : (v : Bool) → used r ≡ v → (AllStored xs used s (suc r) t ws → AllStored xs used s (nextOf used (suc r) d) t ws)
-        → AllStored xs used s (cond v r (nextOf used (suc r) d)) t ws
+    go : (v : Bool) → used r ≡ v → (Upto xs used s (suc r) es ws → Upto xs used s (nextOf used (suc r) d) es ws)
+        → Upto xs used s (cond v r (nextOf used (suc r) d)) es ws
     go true e f = w
-    go false e f = f (subst (λ (z : ℕ). AllStored xs used s z t ws) (add-one r) (ready-pass w e))
+    go false e f = f (subst (λ (z : ℕ). Upto xs used s z es ws) (add-one r) (ready-pass w e))
 
 -- nothing is made after a record with too many states
 over-rest : (xs : List Decoded) (used : ℕ → Bool) (s : Shape) (r k d : ℕ) → upto xs used s r ≡ over k → upto xs used s (r + d) ≡ over k
@@ -184,25 +114,104 @@ unfolding after passed
 over-rest xs used s r k zero e = ap (upto xs used s) (add-zero r) ∙ e
 over-rest xs used s r k (suc d) e =
     ap (upto xs used s) (add-suc r d ∙ sym (add-one (r + d))) ∙ upto-next xs used s (r + d)
-    ∙ ap (λ (o : Outcome). cond (used (r + d)) (after s (r + d) (getD xs (r + d) noDecoded) o) (passed o)) (over-rest xs used s r k d e)
+    ∙ ap (λ (o : Progress). cond (used (r + d)) (after s (r + d) (getD xs (r + d) noDecoded) o) (passed o)) (over-rest xs used s r k d e)
     ∙ either (used (r + d))
   where
     either : (v : Bool) → cond v (over k) (over k) ≡ over k
     either true = refl
     either false = refl
 
-pub made-over : (xs : List Decoded) (used : ℕ → Bool) (s : Shape) (r m : ℕ) (t : Machines) (ws : List ℕ) → r < m → t .ending ≡ Over r
+made-over : (xs : List Decoded) (used : ℕ → Bool) (s : Shape) (r m : ℕ) (t : Machines) (ws : List ℕ) → r < m → t .ending ≡ Over r
     → upto xs used s (r + 1) ≡ over r → MadeBy used xs s m t ws
 made-over xs used s r m t ws h e o =
     let z : r + 1 + (m - (r + 1)) ≡ m = omega arith in
     rw (ap (upto xs used s) (sym z) ∙ over-rest xs used s (r + 1) r (m - (r + 1)) o) e
 
+-- ---- the turns
+-- what holds before record r, the next that is used: the machines before it are stored, and neither the share of a record that is not used,
+-- nor what is kept of it, nor anything after all shares is changed
+pub record Turn (xs : List Decoded) (used : ℕ → Bool) (s : Shape) (m : ℕ) (ws₀ : List ℕ) (es₀ es : ℕ → Summary) (ws : List ℕ) (r : ℕ) : Type 0 where
+  pub within : r ≤ m
+  pub is-used : r < m → used r ≡ true
+  pub long : length ws ≡ length ws₀
+  pub ready : Upto xs used s r es ws
+  pub rest : drop (shareAt s m) ws ≡ drop (shareAt s m) ws₀
+  pub untouched : Untouched used s m ws₀ ws
+  pub same : (a : ℕ) → used a ≡ false → es a ≡ es₀ a
+
+module _ {xs : List Decoded} {used : ℕ → Bool} {s : Shape} {m : ℕ} {ws₀ : List ℕ} {es₀ : ℕ → Summary} where
+  pub turn-first : {next : ℕ} → next ≡ nextOf used 0 (m - 0) → Turn xs used s m ws₀ es₀ es₀ ws₀ next
+  turn-first e = record {
+    within = omega (arith, next-within used (m - 0) 0);
+    is-used = λ l. ap used e ∙ next-used used (m - 0) 0 (omega arith);
+    long = refl;
+    ready = rw e (ready-next-used (m - 0) 0 ready-first);
+    rest = refl;
+    untouched = record { same = λ r q l bare from to. refl };
+    same = λ a bare. refl;
+  }
+
+  pub turn-done : {r : ℕ} {ws : List ℕ} (t : Machines) → t .ending ≡ Ready → m ≤ r → Turn xs used s m ws₀ es₀ (entryOf t) ws r → MadeBy used xs s m t ws
+  turn-done {r} {ws} t e h w =
+      let q : r ≡ m = omega (arith, w .within) in made-ready t e (subst (λ (z : ℕ). Upto xs used s z (entryOf t) ws) q (w .ready))
+
+  -- record r is tried
+  module _ (order : (r : ℕ) → r < m → Buildable (getD xs r noDecoded) r s (length ws₀))
+      (closed : (r : ℕ) → r < m → T (used r) → NamesUsed used (getD xs r noDecoded)) {es : ℕ → Summary} {ws : List ℕ} {r : ℕ}
+      (t : Turn xs used s m ws₀ es₀ es ws r) (h : r < m) where
+    abbrev z : Decoded
+    z = getD xs r noDecoded
+
+    names : NamesUsed (usedBelow used r) z
+    names i e =
+        (below-iff used r i) .1
+        (named-all (z .kind) (z .first) (z .second) (λ (a : ℕ). a < r) (order r h .fits .before) i e, closed r h (rw (t .is-used h) tt) i e)
+
+    pub turn-asks : Buildable z r s (length ws) × SomeParts z s (es (z .first)) (es (z .second)) ws
+    turn-asks =
+        let f = made (t .ready) in
+        (subst (Buildable z r s) (sym (t .long)) (order r h), (f (z .first), f (z .second), parts-stored z (usedBelow used r) f (t .ready .stored) names))
+
+    module _ {es′ : ℕ → Summary} {ws′ : List ℕ} {v : Bool} (b : Builds z s r es es′ ws ws′ v) where
+      tried : Tried z s r (usedBelow used r) (made (t .ready)) es es′ ws ws′ v
+      tried = b .tried (usedBelow used r) (made (t .ready)) (t .ready .stored) names
+
+      -- a record that is not used is another
+      apart : (a : ℕ) → used a ≡ false → a ≡ r → ⊥
+      apart a bare e = subst T (sym (t .is-used h) ∙ ap used (sym e) ∙ bare) tt
+
+      pub rest-next : drop (shareAt s m) ws′ ≡ drop (shareAt s m) ws₀
+      rest-next = drop-later (shareAt s r + shareOf s) (shareAt s m) ws′ ws (share-next s r m h) (b .spared .high) ∙ t .rest
+
+      pub untouched-next : Untouched used s m ws₀ ws′
+      untouched-next = record {
+        same = λ a q l bare from to. spared-at (b .spared) a q (apart a bare) from to ∙ t .untouched .same a q l bare from to;
+      }
+
+      pub same-next : (a : ℕ) → used a ≡ false → es′ a ≡ es₀ a
+      same-next a bare = b .same a (λ e. absurd (apart a bare e)) ∙ t .same a bare
+
+      pub turn-over : v ≡ true → (u : Machines) → u .ending ≡ Over r → MadeBy used xs s m u ws′
+      turn-over e u o = made-over xs used s r m u ws′ h o (over-next (t .ready) (t .is-used h) tried e)
+
+      pub turn-next : v ≡ false → length ws′ ≡ length ws → {next : ℕ} → next ≡ nextOf used (r + 1) (m - (r + 1)) → Turn xs used s m ws₀ es₀ es′ ws′ next
+      turn-next e l n = record {
+        within = omega (arith, next-within used (m - (r + 1)) (r + 1));
+        is-used = λ q. ap used n ∙ next-used used (m - (r + 1)) (r + 1) (omega arith);
+        long = l ∙ t .long;
+        ready = rw n (ready-next-used (m - (r + 1)) (r + 1) (ready-next (t .ready) (t .is-used h) tried e));
+        rest = rest-next;
+        untouched = untouched-next;
+        same = same-next;
+      }
+
+-- ---- other marks
 -- which records are used matters of the first ones alone
 upto-cong : (xs : List Decoded) (u v : ℕ → Bool) (s : Shape) (r : ℕ) → ((i : ℕ) → i < r → u i ≡ v i) → upto xs u s r ≡ upto xs v s r
 unfolding upto
 upto-cong xs u v s zero h = refl
 upto-cong xs u v s (suc r) h =
-    ap₂ (λ (b : Bool) (o : Outcome). cond b (after s r (getD xs r noDecoded) o) (passed o)) (h r (omega arith))
+    ap₂ (λ (b : Bool) (o : Progress). cond b (after s r (getD xs r noDecoded) o) (passed o)) (h r (omega arith))
     (upto-cong xs u v s r (λ i l. h i (omega arith)))
 
 pub untouched-cong : (u v : ℕ → Bool) {s : Shape} {m : ℕ} {ws ws′ : List ℕ} → ((i : ℕ) → i < m → u i ≡ v i)
@@ -211,8 +220,8 @@ untouched-cong u v h w = record { same = λ r q l bare. w .same r q l (h r l ∙
 
 pub made-cong : (xs : List Decoded) (u v : ℕ → Bool) (s : Shape) (m : ℕ) (t : Machines) (ws : List ℕ) → ((i : ℕ) → i < m → u i ≡ v i)
     → MadeBy u xs s m t ws → MadeBy v xs s m t ws
-made-cong xs u v s m t ws h w = subst (λ (o : Outcome). Made v o s m t ws) (upto-cong xs u v s m h) (go (upto xs u s m) w)
+made-cong xs u v s m t ws h w = subst (λ (o : Progress). Made v o s m t ws) (upto-cong xs u v s m h) (go (upto xs u s m) w)
   where
-    go : (o : Outcome) → Made u o s m t ws → Made v o s m t ws
+    go : (o : Progress) → Made u o s m t ws → Made v o s m t ws
     go (over k) e = e
     go (built ms) e = (e .0, e .1, λ a l p. e .2 a l (subst T (sym (h a l)) p))

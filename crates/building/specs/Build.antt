@@ -1,6 +1,5 @@
--- The machines of the records that are reached, one after the other in strip order. Document 01, "Machines": "Counts and accepting sets are
--- kept with one entry for each of the 128 possible records"; request A5: "Refusal 14 now speaks only of records reached from the last one, in
--- strip order". Assumes nothing.
+-- The machines of the records that are reached, one after the other in strip order. Request A5: "Refusal 14 now speaks only of records
+-- reached from the last one, in strip order". Assumes nothing.
 use Prim.Native.Nat.{ℕ, zero, suc, _+_, _≤_, _<_}
 use mathlib.Core.Path.{_≡_}
 use mathlib.Core.Bool.{Bool, false, cond}
@@ -10,56 +9,50 @@ use lib.Dec.{T}
 use lib.ListN.{length, getD}
 use Rattle.layout.specs.Shape.{shareOf, shareAt}
 use Rattle.layout.specs.declared.Shape.{Shape}
-use Rattle.records.specs.Rule.{Mach, noMach, machineOf, Fits, Stored, noDecoded}
+use Rattle.records.specs.Rule.{Mach, noMach, machineOf, Stored, noDecoded}
 use Rattle.records.specs.declared.Decoded.{Decoded}
 use Rattle.records.specs.declared.Summary.{Summary}
+use Rattle.building.specs.OneRecord.{keptIn}
+use Rattle.building.specs.declared.Ending.{Ending}
 use Rattle.building.specs.declared.Ending.the-variants.{Over, Ready}
 use Rattle.building.specs.declared.Machines.{Machines}
 
 -- the machines so far, or the number of the first record with too many states
-pub data Outcome : Type 0 where
-  built : List Mach → Outcome
-  over : ℕ → Outcome
+pub data Progress : Type 0 where
+  built : List Mach → Progress
+  over : ℕ → Progress
 
 -- the machines with one more, or the record's number
-abbrev pub more : ℕ → List Mach → Option Mach → Outcome
+abbrev pub more : ℕ → List Mach → Option Mach → Progress
 more r ms none = over r
 more r ms (some m) = built (ms ++ (m ∷ []))
 
 -- after record r
-unfoldable pub after : Shape → ℕ → Decoded → Outcome → Outcome
+unfoldable pub after : Shape → ℕ → Decoded → Progress → Progress
 after s r x (over k) = over k
 after s r x (built ms) = more r ms (machineOf s x (getD ms (x .first) noMach) (getD ms (x .second) noMach))
 
--- what building all records asks of record r: its numbers have entries in the arrays of 128, too
-pub record Buildable (x : Decoded) (r : ℕ) (s : Shape) (n : ℕ) : Type 0 where
-  pub fits : Fits x r s n
-  pub first-kept : x .first < 128
-  pub second-kept : x .second < 128
+-- what is kept of the machines, and how building ended
+abbrev pub machinesIn : List ℕ → List ℕ → List ℕ → Ending → Machines
+machinesIn counts accepts looks e = record { counts = counts; accepts = accepts; looks = looks; ending = e }
 
 -- what is kept of record a's machine
 abbrev pub entryOf : Machines → ℕ → Summary
-entryOf t a = record { count = getD (t .counts) a 0; accept = getD (t .accepts) a 0; looks = getD (t .looks) a 0 }
+entryOf t = keptIn (t .counts) (t .accepts) (t .looks)
 
 -- the machines of the first r records, those of them that are used, are stored; or the first with too many states is named
-abbrev pub Made : (ℕ → Bool) → Outcome → Shape → ℕ → Machines → List ℕ → Type 0
+abbrev pub Made : (ℕ → Bool) → Progress → Shape → ℕ → Machines → List ℕ → Type 0
 Made used (over k) s r t ws = t .ending ≡ Over k
 Made used (built ms) s r t ws =
     (t .ending ≡ Ready) × (length ms ≡ r) × ((a : ℕ) → a < r → T (used a) → Stored s (shareAt s a) (getD ms a noMach) (entryOf t a) ws)
 
--- t has an entry for each possible record
-pub record Wide (t : Machines) : Type 0 where
-  pub counts : length (t .counts) ≡ 128
-  pub accepts : length (t .accepts) ≡ 128
-  pub looks : length (t .looks) ≡ 128
-
 -- a record that is not used is passed over: no machine stands for it
-unfoldable pub passed : Outcome → Outcome
+unfoldable pub passed : Progress → Progress
 passed (over k) = over k
 passed (built ms) = built (ms ++ (noMach ∷ []))
 
 -- the machines of the first r records, those of them that are used
-unfoldable pub upto : List Decoded → (ℕ → Bool) → Shape → ℕ → Outcome
+unfoldable pub upto : List Decoded → (ℕ → Bool) → Shape → ℕ → Progress
 upto xs used s zero = built []
 upto xs used s (suc r) = cond (used r) (after s r (getD xs r noDecoded) (upto xs used s r)) (passed (upto xs used s r))
 

@@ -1,2 +1,3 @@
 pub mod Named
+pub mod OneRecord
 pub mod Build

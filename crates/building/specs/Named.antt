@@ -26,16 +26,20 @@ namedBy And a b = a ∷ b ∷ []
 namedBy Exists a b = a ∷ []
 
 -- those that a decoded record names
-abbrev pub namesOf : Decoded → List ℕ
-namesOf x = namedBy (x .kind) (x .first) (x .second)
+abbrev pub namedOf : Decoded → List ℕ
+namedOf x = namedBy (x .kind) (x .first) (x .second)
+
+-- those that a decoded record names are used
+abbrev pub NamesUsed : (ℕ → Bool) → Decoded → Type 0
+NamesUsed used x = (i : ℕ) → T (elem i (namedOf x)) → T (used i)
 
 -- those that each record names, by its number
-abbrev pub namesIn : List Decoded → ℕ → List ℕ
-namesIn xs i = namesOf (getD xs i noDecoded)
+abbrev pub namedIn : List Decoded → ℕ → List ℕ
+namedIn xs i = namedOf (getD xs i noDecoded)
 
 -- is record i, of m records, reached from the last
 abbrev pub usedIn : List Decoded → ℕ → ℕ → Bool
-usedIn xs m = isReached (namesIn xs) m
+usedIn xs m = isReached (namedIn xs) m
 
 -- record r's numbers have entries in arrays of 128, and its parts come before it
 pub record InOrder (x : Decoded) (r : ℕ) : Type 0 where
@@ -53,8 +57,8 @@ pub record Marks (used : ℕ → Bool) (m : ℕ) (ms : List Bool) : Type 0 where
   pub end : marked ms m ≡ true
 
 -- whatever a marked record, of the first m, names has a mark
-abbrev pub Closed : List Decoded → List Bool → ℕ → Type 0
-Closed xs ms m = (r i : ℕ) → r < m → T (marked ms r) → T (elem i (namesIn xs r)) → T (marked ms i)
+abbrev pub MarksClosed : List Decoded → List Bool → ℕ → Type 0
+MarksClosed xs ms m = (r : ℕ) → r < m → T (marked ms r) → NamesUsed (marked ms) (getD xs r noDecoded)
 
 -- the marks, and one for each of these records
 unfoldable pub marking : List ℕ → List Bool → List Bool

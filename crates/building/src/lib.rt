@@ -1,12 +1,13 @@
 // The machines of a rule's records, those that are reached from the last one, in strip order.
 ghost use mathlib.Core.Path.{_≡_};
-ghost use mathlib.Core.Bool.{true};
+ghost use mathlib.Core.Bool.{true, false};
 ghost use Prim.Native.Nat.{ℕ, _-_, _≤_, _<_};
 ghost use lib.ListN.{length, getD, drop};
 ghost use Rattle.layout.specs.Shape.{shareAt};
-ghost use Rattle.records.specs.Rule.{noDecoded};
-ghost use Rattle.building.specs.Named.{namesOf, usedIn, InOrder, marked, Marks, Closed, marking, nextOf};
-ghost use Rattle.building.specs.Build.{Buildable, MadeBy, Untouched};
+ghost use Rattle.records.specs.Rule.{noDecoded, SomeParts};
+ghost use Rattle.building.specs.Named.{namedOf, usedIn, InOrder, marked, Marks, MarksClosed, marking, nextOf};
+ghost use Rattle.building.specs.OneRecord.{keptIn, Wide, Buildable, Builds};
+ghost use Rattle.building.specs.Build.{machinesIn, MadeBy, Untouched};
 use layout::Shape;
 use records::Decoded;
 use records::Summary;
@@ -16,7 +17,7 @@ use table::plan::Kind;
 // A mark for each record that x names.
 fn mark_named(marks: &mut [bool; 129], x: Decoded)
     requires { ⌜ (x .first < 128) × (x .second < 128) ⌝ }
-    ensures { λ u. ⌜ now (marks .exit) ≡ marking (namesOf x) (now (marks .entry)) ⌝ }
+    ensures { λ u. ⌜ now (marks .exit) ≡ marking (namedOf x) (now (marks .entry)) ⌝ }
 {
     let a = x.first as usize;
     let b = x.second as usize;
@@ -88,9 +89,9 @@ pub struct Machines {
 }
 
 // What is kept of record a's machine.
-fn kept(counts: &[u8; 128], accepts: &[u64; 128], looks: &[u8; 128], a: usize) -> Summary
+pub fn kept(counts: &[u8; 128], accepts: &[u64; 128], looks: &[u8; 128], a: usize) -> Summary
     requires { ⌜ a < 128 ⌝ }
-    ensures { λ k. ⌜ k ≡ record { count = getD (now (counts .entry)) a 0; accept = getD (now (accepts .entry)) a 0; looks = getD (now (looks .entry)) a 0 } ⌝ }
+    ensures { λ k. ⌜ k ≡ keptIn (now (counts .entry)) (now (accepts .entry)) (now (looks .entry)) a ⌝ }
 {
     Summary {
         count: counts[a],
@@ -99,51 +100,68 @@ fn kept(counts: &[u8; 128], accepts: &[u64; 128], looks: &[u8; 128], a: usize) -
     }
 }
 
-// The machines of the marked records, of the first m; whatever a marked one names has a mark. The arrays are written in place: a copy for
-// each record takes longer than a small machine.
+// Record r's machine, from what is kept of its parts: into the record's share, and what is kept of it into its entries, unless it has too
+// many states, which is the answer. The arrays are written in place: a copy for each record takes longer than a small machine.
+pub fn build_record(
+    ws: &mut [u8],
+    counts: &mut [u8; 128],
+    accepts: &mut [u64; 128],
+    looks: &mut [u8; 128],
+    x: Decoded,
+    r: usize,
+    s: Shape,
+) -> bool
+    requires { ⌜ Buildable x r s (length (now ws)) × (r < 128) ⌝ }
+    requires { ⌜ Wide (now counts) (now accepts) (now looks) ⌝ }
+    requires { ⌜ SomeParts x s (keptIn (now counts) (now accepts) (now looks) (x .first))
+        (keptIn (now counts) (now accepts) (now looks) (x .second)) (now ws) ⌝ }
+    ensures { λ over. ⌜ Wide (now (counts .exit)) (now (accepts .exit)) (now (looks .exit)) ⌝ }
+    ensures { λ over. ⌜ Builds x s r (keptIn (now (counts .entry)) (now (accepts .entry)) (now (looks .entry)))
+        (keptIn (now (counts .exit)) (now (accepts .exit)) (now (looks .exit))) (now (ws .entry)) (now (ws .exit)) over ⌝ }
+{
+    let f = kept(counts, accepts, looks, x.first as usize);
+    let g = kept(counts, accepts, looks, x.second as usize);
+    let k = build_next(ws, x, f, g, r, s);
+    let c = s.ceiling;
+    if c < k.count as usize {
+        return true;
+    }
+    counts[r] = k.count;
+    accepts[r] = k.accept;
+    looks[r] = k.looks;
+    false
+}
+
+// The machines of the marked records, of the first m; whatever a marked one names has a mark.
 pub fn build_marked(
     ws: &mut [u8],
+    counts: &mut [u8; 128],
+    accepts: &mut [u64; 128],
+    looks: &mut [u8; 128],
     records: [Decoded; 128],
     marks: &[bool; 129],
     m: usize,
     s: Shape,
-) -> Machines
+) -> Ending
     requires { ⌜ m ≤ 128 ⌝ }
+    requires { ⌜ Wide (now counts) (now accepts) (now looks) ⌝ }
     requires { ⌜ ((r : ℕ) → r < m → Buildable (getD records r noDecoded) r s (length (now ws))) ⌝ }
-    requires { ⌜ (marked (now marks) m ≡ true) × Closed records (now marks) m ⌝ }
-    ensures { λ t. ⌜ MadeBy (marked (now (marks .entry))) records s m t (now (ws .exit)) ⌝ }
-    ensures { λ t. ⌜ drop (shareAt s m) (now (ws .exit)) ≡ drop (shareAt s m) (now (ws .entry)) ⌝ }
-    ensures { λ t. ⌜ Untouched (marked (now (marks .entry))) s m (now (ws .entry)) (now (ws .exit)) ⌝ }
+    requires { ⌜ (marked (now marks) m ≡ true) × MarksClosed records (now marks) m ⌝ }
+    ensures { λ e. ⌜ MadeBy (marked (now (marks .entry))) records s m
+        (machinesIn (now (counts .exit)) (now (accepts .exit)) (now (looks .exit)) e) (now (ws .exit)) ⌝ }
+    ensures { λ e. ⌜ drop (shareAt s m) (now (ws .exit)) ≡ drop (shareAt s m) (now (ws .entry)) ⌝ }
+    ensures { λ e. ⌜ Untouched (marked (now (marks .entry))) s m (now (ws .entry)) (now (ws .exit)) ⌝ }
+    ensures { λ e. ⌜ ((a : ℕ) → marked (now (marks .entry)) a ≡ false → keptIn (now (counts .exit)) (now (accepts .exit)) (now (looks .exit)) a
+        ≡ keptIn (now (counts .entry)) (now (accepts .entry)) (now (looks .entry)) a) ⌝ }
 {
-    let c = s.ceiling;
-    let mut counts = [0u8; 128];
-    let mut accepts = [0u64; 128];
-    let mut looks = [0u8; 128];
     let mut r = next_marked(marks, 0, m);
     while r < m {
-        let x = records[r];
-        let f = kept(&counts, &accepts, &looks, x.first as usize);
-        let g = kept(&counts, &accepts, &looks, x.second as usize);
-        let k = build_next(ws, x, f, g, r, s);
-        if c < k.count as usize {
-            return Machines {
-                counts,
-                accepts,
-                looks,
-                ending: Ending::Over(r),
-            };
+        if build_record(ws, counts, accepts, looks, records[r], r, s) {
+            return Ending::Over(r);
         }
-        counts[r] = k.count;
-        accepts[r] = k.accept;
-        looks[r] = k.looks;
         r = next_marked(marks, r + 1, m);
     }
-    Machines {
-        counts,
-        accepts,
-        looks,
-        ending: Ending::Ready,
-    }
+    Ending::Ready
 }
 
 // The machines of the records that are reached from the last of the first m.
@@ -155,5 +173,23 @@ pub fn build_all(ws: &mut [u8], records: [Decoded; 128], m: usize, s: Shape) -> 
     ensures { λ t. ⌜ Untouched (usedIn records m) s m (now (ws .entry)) (now (ws .exit)) ⌝ }
 {
     let marks = reached(records, m);
-    build_marked(ws, records, &marks, m, s)
+    let mut counts = [0u8; 128];
+    let mut accepts = [0u64; 128];
+    let mut looks = [0u8; 128];
+    let ending = build_marked(
+        ws,
+        &mut counts,
+        &mut accepts,
+        &mut looks,
+        records,
+        &marks,
+        m,
+        s,
+    );
+    Machines {
+        counts,
+        accepts,
+        looks,
+        ending,
+    }
 }

@@ -4,7 +4,7 @@ use Rattle.words.proofs.Vocabulary.{length, getD, take, set, length-take-le, ge
 use Rattle.layout.specs.Shape.{labelsIn, shareOf, placeIn, Each, nil, cons, Tuple}
 use Rattle.layout.proofs.Places.{each-append, each-imp, each-all, tuple-up, place-in, place-one}
 use Rattle.table.specs.Entry.{Step, seen}
-use Rattle.table.specs.Succ.{Room}
+use Rattle.table.specs.Succ.{PlanRoom}
 use Rattle.table.specs.declared.plan.Plan.{Plan}
 use Rattle.table.proofs.Masks.{seen-le, seen-seen}
 use Rattle.exploring.specs.declared.Builder.{Builder}
@@ -136,7 +136,7 @@ PutIn c x at b r =
     ⊎ ((at < b .count) × (r ≡ b))
 
 -- a code is looked up, its place written, and it is put in if it is new
-module _ {succ : Step} {p : Plan} {b : Builder} {ws ws′ : List ℕ} {v : Visit} {x at : ℕ} (room : Room p (length ws)) (blind : Blind succ p)
+module _ {succ : Step} {p : Plan} {b : Builder} {ws ws′ : List ℕ} {v : Visit} {x at : ℕ} (room : PlanRoom p (length ws)) (blind : Blind succ p)
     (hl : v .label < labelsIn (p .shape)) (hs : v .label ≤ seen (p .looks) (v .label)) (hi : Tuple (p .shape .branches) (b .count) (v .states))
     (hm : b .count ≤ p .shape .ceiling + 1) (full : length (b .codes) ≡ 64)
     (ex : b .count ≤ p .shape .ceiling → x ≡ succ (v .label) (codesAt (take (b .count) (b .codes)) (v .states)))

@@ -5,7 +5,7 @@ use Rattle.words.proofs.Vocabulary.{Option, none, length, getD, List·getD-appe
 use Rattle.words.proofs.Vocabulary.{arith}
 use Rattle.layout.specs.Shape.{Each, nil, cons, Tuple}
 use Rattle.layout.proofs.Places.{each-head, each-tail, each-map, pair-of}
-use Rattle.exploring.specs.Explore.{Visit, codesAt, areBelow, Distinct, insert, visit, visits, over, rings, explore}
+use Rattle.exploring.specs.Explore.{Visit, codesAt, areBelow, DistinctCodes, insert, visit, visits, over, rings, explore}
 use Rattle.exploring.proofs.Place.{extends-last, place-last, place-extends, place-own}
 use Rattle.exploring.proofs.Grow.{Grows, grows-some, Inserted, is-old, is-new, no-room, inserted, each-below, visits-grows, rings-all, rings-has}
 use Rattle.table.specs.Entry.{Step}
@@ -20,7 +20,7 @@ last-all Q x cs before here i h =
 
 -- distinct codes, of each of which P holds
 pub record Codes (P : ℕ → Type 0) (cs : List ℕ) : Type 0 where
-  pub distinct : Distinct cs
+  pub distinct : DistinctCodes cs
   pub all : (i : ℕ) → i < length cs → P (getD cs i 0)
 
 -- a new code put last

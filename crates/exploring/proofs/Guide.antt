@@ -3,14 +3,14 @@ use Rattle.words.proofs.Vocabulary.{ℕ, _≤_, _<_, true, _≡_, _∙_, refl, 
 use Rattle.words.specs.Word.{Below, mem}
 use Rattle.layout.specs.Shape.{Shaped, labelsIn, Each, nil, cons}
 use Rattle.table.specs.Entry.{Step, through}
-use Rattle.table.specs.Rows.{Ready, Inside, Led}
+use Rattle.table.specs.Rows.{RowsReady, Inside, Led}
 use Rattle.table.specs.Succ.{Ranged, firstStep, secondStep, kindCode, successorOf, existsStart, startCode, startOf}
 use Rattle.table.specs.declared.plan.Kind.{Kind}
 use Rattle.table.specs.declared.plan.Kind.the-variants.{Exists}
 use Rattle.table.specs.declared.plan.Plan.{Plan}
 use Rattle.table.proofs.Sets.{exists-below}
 use Rattle.table.proofs.Start.{closing-below}
-use Rattle.exploring.specs.Explore.{Visit, Distinct, ring}
+use Rattle.exploring.specs.Explore.{Visit, DistinctCodes, ring}
 use Rattle.exploring.specs.Filling.{Guided, listed, Visited}
 use Rattle.exploring.specs.declared.Builder.{Builder}
 use Rattle.exploring.proofs.Found.{Codes, Good, Proper, proper, visits-good, one-code}
@@ -32,7 +32,7 @@ module _ {succ : Step} {p : Plan} {vs : List Visit} {b r : Builder} {ws ws′ : 
       subst (Good P c) (sym (f .list) ∙ is-list sr) after .0
 
   -- none stands twice: of any code this asks nothing
-  pub visited-apart : Distinct (take (b .count) (b .codes)) → Distinct (take (r .count) (r .codes))
+  pub visited-apart : DistinctCodes (take (b .count) (b .codes)) → DistinctCodes (take (r .count) (r .codes))
   visited-apart d = visited-codes (λ (x : ℕ). Unit {0}) (λ l xs h n e. tt) (record { distinct = d; all = λ i h. tt }) .distinct
 
 -- ---- a ring of visits
@@ -62,16 +62,16 @@ module _ (low : List ℕ) (p : Plan) (shape : Shaped (p .shape)) where
     guided : Guided low p (some (take (r .count) (r .codes)))
     guided = subst (Guided low p) (is-list sr) g
 
-    pub guided-apart : Distinct (take (r .count) (r .codes))
+    pub guided-apart : DistinctCodes (take (r .count) (r .codes))
     guided-apart = guided .0
 
     pub guided-ready : Ranged p → (l k : ℕ) → l < labelsIn (p .shape) → k < r .count → p .kind ≡ Exists
-        → Ready (p .shape) low (p .first) (p .wx) l (r .codes) k
+        → RowsReady (p .shape) low (p .table1) (p .wx) l (r .codes) k
     guided-ready ranged l k hl hk e =
         let w = guided .1 e in
         let i = w .1 in
         record {
-          table = record { shape = shape; small = ranged .first-small; share = i .share };
+          table = record { shape = shape; small = ranged .table1-small; share = i .share };
           weight = ranged .wx-pos;
           small = ranged .wx-small;
           label = i .bit .on-label l hl;

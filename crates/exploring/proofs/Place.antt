@@ -2,7 +2,7 @@
 use Rattle.words.proofs.Vocabulary.{ℕ, _≤_, _<_, suc, zero, suc-le-suc, zero-le, _≡_, _∙_, refl, sym, ap, List, [], _∷_, _++_, eq-eqb, ne-eqb, length, getD}
 use Rattle.words.proofs.Vocabulary.{take, length-take, length-take-le, getD-take, length-append, List·getD-append, ℕ-discrete, le-of-suc-le-suc}
 use Rattle.words.proofs.Vocabulary.{not-suc-le-zero, arith}
-use Rattle.exploring.specs.Explore.{Distinct}
+use Rattle.exploring.specs.Explore.{DistinctCodes}
 use Rattle.logic.specs.Reach.{position}
 
 pub place-le : (x : ℕ) (cs : List ℕ) → position x cs ≤ length cs
@@ -64,7 +64,7 @@ place-last x (y ∷ cs) h = elim (ℕ-discrete x y) [
 ]
 
 -- a code of a list in which none stands twice stands at its own place
-pub place-own : (x : ℕ) (cs : List ℕ) (i : ℕ) → Distinct cs → i < length cs → getD cs i 0 ≡ x → position x cs ≡ i
+pub place-own : (x : ℕ) (cs : List ℕ) (i : ℕ) → DistinctCodes cs → i < length cs → getD cs i 0 ≡ x → position x cs ≡ i
 place-own x cs i d h e = let p = place-in x cs i h e in d (position x cs) i p h (place-at x cs p ∙ sym e)
 
 -- ---- among the first n
@@ -82,5 +82,5 @@ module _ (x n : ℕ) (cs : List ℕ) where
     pub first-at : position x (take n cs) < n → getD cs (position x (take n cs)) 0 ≡ x
     first-at h = sym (getD-take n cs (position x (take n cs)) 0 h) ∙ place-at x (take n cs) (omega (arith, long))
 
-    pub first-own : (i : ℕ) → Distinct (take n cs) → i < n → getD cs i 0 ≡ x → position x (take n cs) ≡ i
+    pub first-own : (i : ℕ) → DistinctCodes (take n cs) → i < n → getD cs i 0 ≡ x → position x (take n cs) ≡ i
     first-own i d h e = place-own x (take n cs) i d (omega (arith, long)) (getD-take n cs i 0 h ∙ e)

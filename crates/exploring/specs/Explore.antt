@@ -16,8 +16,8 @@ unfoldable pub insert : ℕ → ℕ → List ℕ → Option (List ℕ)
 insert c x cs = cond (ltb (position x cs) (length cs)) (some cs) (cond (ltb (length cs) c) (some (cs ++ (x ∷ []))) none)
 
 -- no code stands twice
-abbrev pub Distinct : List ℕ → Type 0
-Distinct cs = (i j : ℕ) → i < length cs → j < length cs → getD cs i 0 ≡ getD cs j 0 → i ≡ j
+abbrev pub DistinctCodes : List ℕ → Type 0
+DistinctCodes cs = (i j : ℕ) → i < length cs → j < length cs → getD cs i 0 ≡ getD cs j 0 → i ≡ j
 
 -- what a test of a found list gives
 abbrev pub found : Option (List ℕ) → (List ℕ → Option (List ℕ)) → Option (List ℕ)

@@ -14,7 +14,7 @@ use Rattle.table.specs.Entry.{Step, Bare, seen}
 use Rattle.table.specs.Rows.{Inside}
 use Rattle.table.specs.declared.plan.Kind.the-variants.{Exists}
 use Rattle.table.specs.declared.plan.Plan.{Plan}
-use Rattle.exploring.specs.Explore.{Visit, codesAt, visits, explore, Distinct}
+use Rattle.exploring.specs.Explore.{Visit, codesAt, visits, explore, DistinctCodes}
 use Rattle.exploring.specs.declared.Builder.{Builder}
 
 -- the codes of a builder; none where there are more than c
@@ -63,7 +63,7 @@ pub record Visitable (p : Plan) (b : Builder) (l k : ℕ) : Type 0 where
   pub own : l ≤ seen (p .looks) l
   pub state : k < b .count
   pub few : b .count ≤ p .shape .ceiling
-  pub distinct : Distinct (take (b .count) (b .codes))
+  pub distinct : DistinctCodes (take (b .count) (b .codes))
 
 -- what the exploration of a plan from a start code ensures: the builder has the codes that are found, the table every entry of theirs,
 -- and no other byte is written
@@ -78,4 +78,4 @@ pub record Explored (succ : Step) (p : Plan) (start : ℕ) (r : Builder) (ws ws�
 -- no code stands twice, and those of an "exists" are sets of states of its part
 abbrev pub Guided : List ℕ → Plan → Option (List ℕ) → Type 0
 Guided low p none = Unit {0}
-Guided low p (some cs) = Distinct cs × (p .kind ≡ Exists → (n : ℕ) × Inside low p n × ((i : ℕ) → i < length cs → Below n (getD cs i 0)))
+Guided low p (some cs) = DistinctCodes cs × (p .kind ≡ Exists → (n : ℕ) × Inside low p n × ((i : ℕ) → i < length cs → Below n (getD cs i 0)))

@@ -4,11 +4,11 @@ ghost use Prim.Native.Nat.{_+_, _≤_, _<_};
 ghost use mathlib.Core.List.{[], _∷_};
 ghost use mathlib.Core.Option.{some};
 ghost use lib.ListN.{length, take};
-ghost use Rattle.exploring.specs.Explore.{Distinct, insert, over, row, ring};
+ghost use Rattle.exploring.specs.Explore.{DistinctCodes, insert, over, row, ring};
 ghost use Rattle.exploring.specs.Filling.{Guided, listed, Noted, Visitable, Visited, Explored};
 ghost use Rattle.layout.specs.Shape.{labelsIn};
 ghost use Rattle.table.specs.Rows.{Led, Serves};
-ghost use Rattle.table.specs.Succ.{Room, Ranged, succIn, startOf};
+ghost use Rattle.table.specs.Succ.{PlanRoom, Ranged, succIn, startOf};
 use table::entries::wide;
 use table::plan::Kind;
 use table::plan::Plan;
@@ -59,7 +59,7 @@ fn put(b: Builder, x: u64, at: usize, c: usize) -> Builder
 // Where x stands among the first codes, none of which stands twice; their count where it does not. What is kept for x among the hints is
 // tried first: it may be any number, for it is held to the codes.
 fn locate(codes: &[u64; 64], count: usize, x: u64, hints: &mut [u8; 256]) -> usize
-    requires { ⌜ (count ≤ 64) × (length (now codes) ≡ 64) × Distinct (take count (now codes)) ⌝ }
+    requires { ⌜ (count ≤ 64) × (length (now codes) ≡ 64) × DistinctCodes (take count (now codes)) ⌝ }
     ensures { λ r. ⌜ r ≡ position x (take count (now (codes .entry))) ⌝ }
 {
     let h = (x % 251) as usize;
@@ -86,9 +86,9 @@ fn note(
     x: u64,
     hints: &mut [u8; 256],
 ) -> usize
-    requires { ⌜ Room p (length (now ws)) ⌝ }
+    requires { ⌜ PlanRoom p (length (now ws)) ⌝ }
     requires { ⌜ (l < labelsIn (p .shape)) × (i < count) × (j < count) × (length (now codes) ≡ 64) ⌝ }
-    requires { ⌜ (count ≤ p .shape .ceiling → Distinct (take count (now codes))) ⌝ }
+    requires { ⌜ (count ≤ p .shape .ceiling → DistinctCodes (take count (now codes))) ⌝ }
     ensures { λ r. ⌜ Noted p (now (codes .entry)) count (over l i j) x r (now (ws .entry)) (now (ws .exit)) ⌝ }
 {
     let shape = p.shape;
@@ -115,7 +115,7 @@ fn visit_pairs(
     right: &[u64; 64],
     hints: &mut [u8; 256],
 ) -> Builder
-    requires { ⌜ Room p (length (now ws)) ⌝ }
+    requires { ⌜ PlanRoom p (length (now ws)) ⌝ }
     requires { ⌜ Visitable p b l k ⌝ }
     requires { ⌜ Serves (succIn (now ws) p) l (b .codes) k (now left) (now right) ⌝ }
     ensures { λ r. ⌜ Visited (succIn (now (ws .entry)) p) p (row l k (k + 1)) b r (now (ws .entry)) (now (ws .exit)) ⌝ }
@@ -143,7 +143,7 @@ fn visit_pairs(
 // The pairs of state k with those up to k, both ways, under every label: there is nothing to do for a label that the record does not
 // tell from an earlier one.
 fn visit_ring(ws: &mut [u8], p: Plan, b: Builder, k: usize, hints: &mut [u8; 256]) -> Builder
-    requires { ⌜ Room p (length (now ws)) ⌝ }
+    requires { ⌜ PlanRoom p (length (now ws)) ⌝ }
     requires { ⌜ (k < b .count) × (b .count ≤ p .shape .ceiling) ⌝ }
     requires { ⌜ Guided (take (p .base) (now ws)) p (listed (p .shape .ceiling) b) ⌝ }
     ensures { λ r. ⌜ Visited (succIn (now (ws .entry)) p) p (ring k (labelsIn (p .shape))) b r (now (ws .entry)) (now (ws .exit)) ⌝ }
@@ -172,7 +172,7 @@ fn visit_ring(ws: &mut [u8], p: Plan, b: Builder, k: usize, hints: &mut [u8; 256
 
 // The machine of a plan, from its start code: its codes, and its table in the plan's share of the workspace.
 fn build(ws: &mut [u8], p: Plan, start: u64) -> Builder
-    requires { ⌜ Room p (length (now ws)) ⌝ }
+    requires { ⌜ PlanRoom p (length (now ws)) ⌝ }
     requires { ⌜ Guided (take (p .base) (now ws)) p (some (start ∷ [])) ⌝ }
     ensures { λ r. ⌜ Explored (succIn (now (ws .entry)) p) p start r (now (ws .entry)) (now (ws .exit)) ⌝ }
 {
@@ -209,7 +209,7 @@ fn start_code(low: &[u8], p: Plan) -> u64
 
 // The machine of a plan.
 pub fn build_plan(ws: &mut [u8], p: Plan) -> Builder
-    requires { ⌜ Room p (length (now ws)) ⌝ }
+    requires { ⌜ PlanRoom p (length (now ws)) ⌝ }
     requires { ⌜ Led (take (p .base) (now ws)) p ⌝ }
     ensures { λ r. ⌜ Explored (succIn (now (ws .entry)) p) p (startOf (take (p .base) (now (ws .entry))) p) r (now (ws .entry)) (now (ws .exit)) ⌝ }
 {

@@ -3,7 +3,7 @@ use Rattle.words.proofs.Vocabulary.{ℕ, _≤_, _<_, _+_, _*_, suc, _%_, zero, 
 use Rattle.words.proofs.Vocabulary.{digits-div, digits-mod, length, length-map, length-append, replicate, pow-mono, mul-le-mul-right, mul-le-mul-left}
 use Rattle.words.proofs.Vocabulary.{mul-assoc, suc-mul, mod-lt, div-add-mod', decLt, arith}
 use native.Mathlib.Nat.{pow-zero, pow-succ'}
-use Rattle.layout.specs.Shape.{Shaped, labelsIn, shareOf, shareAt, Each, nil, cons, Tuple, digitsOf, placeIn, aboveDigits, lowDigits, labelAt, statesAt}
+use Rattle.layout.specs.Shape.{Shaped, labelsIn, shareOf, shareAt, Each, nil, cons, Tuple, digitsOf, placeIn, aboveDigits, lowDigits, labelAt, tupleAt}
 use Rattle.layout.specs.declared.Shape.{Shape}
 
 -- the length of an array in a struct, as the record at a function's entry and a call's result have it
@@ -156,18 +156,14 @@ module _ (s : Shape) where
   unfolding placeIn
   place-one l m is js t u e = digits-one (s .ceiling) l m is js (t .long ∙ sym (u .long)) (t .below) (u .below) e
 
-  -- an entry's place in its record's share lies before a later share
-  pub place-before : (a r l : ℕ) (is : List ℕ) → a < r → l < labelsIn s → Tuple (s .branches) (s .ceiling) is → shareAt s a + placeIn s l is < shareAt s r
-  place-before a r l is h hl t = omega (arith, place-in l is hl t, share-next s a r h)
-
   -- what stands at a place
-  pub place-at : (q : ℕ) → placeIn s (labelAt s q) (statesAt s q) ≡ q
-  unfolding placeIn labelAt statesAt
+  pub place-at : (q : ℕ) → placeIn s (labelAt s q) (tupleAt s q) ≡ q
+  unfolding placeIn labelAt tupleAt
   place-at q = digits-whole (s .ceiling) (s .branches) q
 
   module _ (pos : 0 < s .ceiling) where
-    pub states-at : (q : ℕ) → Tuple (s .branches) (s .ceiling) (statesAt s q)
-    unfolding statesAt
+    pub states-at : (q : ℕ) → Tuple (s .branches) (s .ceiling) (tupleAt s q)
+    unfolding tupleAt
     states-at q = digits-tuple (s .ceiling) (s .branches) q pos
 
     pub label-at : (q : ℕ) → q < shareOf s → labelAt s q < labelsIn s
@@ -175,7 +171,7 @@ module _ (s : Shape) where
     label-at q h = elim (decLt (labelAt s q) (labelsIn s)) [
       | yes y ↦ y
       | no y ↦
-          let a = rw (states-at q .long) at (digits-least (s .ceiling) (labelAt s q) (statesAt s q)) in
+          let a = rw (states-at q .long) at (digits-least (s .ceiling) (labelAt s q) (tupleAt s q)) in
           let b : labelsIn s * s .ceiling ^ s .branches ≤ labelAt s q * s .ceiling ^ s .branches = mul-le-mul-right _ (omega arith) in
           absurd (omega (arith, place-at q))
     ]

@@ -62,5 +62,5 @@ lowDigits c (suc k) q = lowDigits c k (q / c) ++ (q % c ∷ [])
 unfoldable pub labelAt : Shape → ℕ → ℕ
 labelAt s q = aboveDigits (s .ceiling) (s .branches) q
 
-unfoldable pub statesAt : Shape → ℕ → List ℕ
-statesAt s q = lowDigits (s .ceiling) (s .branches) q
+unfoldable pub tupleAt : Shape → ℕ → List ℕ
+tupleAt s q = lowDigits (s .ceiling) (s .branches) q

@@ -17,8 +17,8 @@ use Rattle.search.specs.Rounds.{Ended}
 use Rattle.search.specs.declared.Found.{Found}
 
 -- a machine that is built, with its number of states
-abbrev pub tableOf : Mach → Table 2
-tableOf m = record { count = length (m .codes); machine = machOf m }
+abbrev pub machTable : Mach → Table 2
+machTable m = record { count = length (m .codes); machine = machOf m }
 
 -- some machine is stored in record r's share, and k is kept of it
 pub record HasMachine (ws : List ℕ) (s : Shape) (r : ℕ) (k : Summary) : Type 0 where
@@ -41,7 +41,7 @@ Satisfiable k b = (s : Shape) (base : ℕ) (m : Mach) (ws : List ℕ) → Stored
 
 -- f: what the search for the earliest tree that record r's machine accepts comes to
 abbrev pub Finds : List ℕ → Shape → ℕ → Summary → ℕ → Found → Type 0
-Finds ws s r k P f = (m : Mach) → Stored s (shareAt s r) m k ws → Ended (search (labelsIn s) (tableOf m) P) f
+Finds ws s r k P f = (m : Mach) → Stored s (shareAt s r) m k ws → Ended (search (labelsIn s) (machTable m) P) f
 
 -- b: does record r's machine accept the tree in the strip
 abbrev pub Accepts : List ℕ → Shape → ℕ → Summary → List ℕ → Bool → Type 0

@@ -5,13 +5,13 @@ use Rattle.words.proofs.Vocabulary.{set, drop, length-set, length-drop, getD-se
 use Rattle.layout.specs.Shape.{Shaped, labelsIn, shareOf, shareAt, placeIn, Tuple}
 use Rattle.layout.specs.declared.Shape.{Shape}
 use Rattle.layout.proofs.Places.{tuple-up, pair-in, pairs-of, place-in, place-one, place-two}
-use Rattle.table.specs.Entry.{seen, entry}
+use Rattle.table.specs.Entry.{seen, entry, through}
 use Rattle.table.specs.Succ.{looksOf}
 use Rattle.table.specs.declared.plan.Kind.{Kind}
 use Rattle.table.specs.declared.plan.Kind.the-variants.{Not}
 use Rattle.table.proofs.Masks.{seen-le, seen-seen}
 use Rattle.records.specs.Complement.{Copied, Bytes, Rows, Entries}
-use Rattle.records.specs.Machine.{othersOf, Holds}
+use Rattle.records.specs.Machine.{othersOf, TableHolds}
 use Rattle.records.specs.Rule.{Mach, complementOf, machineOf, OfParts, Stored, PartsStored, Added, Spared}
 use Rattle.records.specs.declared.Decoded.{Decoded}
 use Rattle.records.specs.declared.Summary.{Summary}
@@ -126,8 +126,8 @@ module _ (x : Decoded) (r : ℕ) (s : Shape) (kf kg : Summary) (ws : List ℕ) (
     as-counted : {is : List ℕ} → Tuple (s .branches) (length (f .codes)) is → Tuple (s .branches) (kf .count) is
     as-counted t = tuple-up (omega (arith, part .count)) t
 
-    holds : Holds s ws′ (shareAt s r) (kf .looks) (length (f .codes)) (f .step)
-    unfolding entry
+    holds : TableHolds s ws′ (shareAt s r) (kf .looks) (length (f .codes)) (f .step)
+    unfolding entry through
     holds l is hl t =
         let b = kf .looks in
         let old = part .holds l is hl t in
@@ -144,7 +144,7 @@ module _ (x : Decoded) (r : ℕ) (s : Shape) (kf kg : Summary) (ws : List ℕ) (
         placed s r (complementOf f) k ws ws′ (record {
           count = ec ∙ part .count;
           accept = ea ∙ ap₂ othersOf (part .accept) (part .count);
-          holds = subst (λ (l : ℕ). Holds s ws′ (shareAt s r) l (length (f .codes)) (f .step)) (sym el) holds;
+          holds = subst (λ (l : ℕ). TableHolds s ws′ (shareAt s r) l (length (f .codes)) (f .step)) (sym el) holds;
           some-state = part .some-state;
           few = part .few;
         }) (λ q off. copied .rest q (λ i w e. off (w .0) (w .1) (subst (λ (b : ℕ). w .0 ≤ seen b (w .0)) (sym el) (w .3))

@@ -1,12 +1,12 @@
 -- One record: its plan has room, and its machine, explored from its parts' tables, is the machine of its parts' machines. Assumes nothing.
 use Rattle.words.proofs.Vocabulary.{ℕ, _≤_, _<_, _+_, _-_, Bool, true, false, _&&_, cond, _≡_, _∙_, refl, sym, ap, subst, ap₂, List, some, Option, none}
 use Rattle.words.proofs.Vocabulary.{le-leb, lt-leb, leb-false, leb-true, leb, length, getD, take, drop, length-take-le, getD-take, drop-drop, pow-pos, arith}
-use Rattle.layout.specs.Shape.{labelsIn, shareOf, shareAt, placeIn, labelAt, statesAt, Tuple}
+use Rattle.layout.specs.Shape.{labelsIn, shareOf, shareAt, placeIn, labelAt, tupleAt, Tuple}
 use Rattle.layout.specs.declared.Shape.{Shape}
-use Rattle.layout.proofs.Places.{tuple-up, shares-small, share-next, place-one, place-before, place-at, states-at, label-at}
+use Rattle.layout.proofs.Places.{tuple-up, shares-small, share-next, place-one, place-in, place-at, states-at, label-at}
 use Rattle.table.specs.Entry.{Power, Step, seen, Bare, entry, through}
 use Rattle.table.specs.Rows.{Led}
-use Rattle.table.specs.Succ.{Room, firstStep, secondStep, kindCode, successorOf, succIn, startCode, startOf}
+use Rattle.table.specs.Succ.{PlanRoom, firstStep, secondStep, kindCode, successorOf, succIn, startCode, startOf}
 use Rattle.table.specs.declared.plan.Kind.{Kind}
 use Rattle.table.specs.declared.plan.Kind.the-variants.{Subset, Single, Child1, Child2, Root, Not, Or, And, Exists}
 use Rattle.table.specs.declared.plan.Plan.{Plan}
@@ -16,7 +16,7 @@ use Rattle.exploring.specs.Filling.{listed, Entered, Cell, Explored}
 use Rattle.exploring.specs.declared.Builder.{Builder}
 use Rattle.exploring.proofs.Found.{explore-some}
 use Rattle.exploring.proofs.Grow.{are-below, each-below}
-use Rattle.records.specs.Machine.{codesOf, stepOf, acceptOf, Holds, shareByte}
+use Rattle.records.specs.Machine.{codesOf, stepOf, acceptOf, TableHolds, shareByte}
 use Rattle.records.specs.Rule.{Mach, machFrom, isNot, numberedBy, machineOf, planOf, Fits, OfParts, Stored, PartsStored, Placed, Added, Spared}
 use Rattle.records.specs.declared.Decoded.{Decoded}
 use Rattle.records.specs.declared.Summary.{Summary}
@@ -31,13 +31,13 @@ drop-later n m a b h e =
 pub power-pos : (w : ℕ) → Power w → 0 < w
 power-pos w p = rw (p .1) (pow-pos (p .0))
 
-pub room-of : (x : Decoded) (r : ℕ) (s : Shape) (n f g : ℕ) → Fits x r s n → Room (planOf x r s f g) n
+pub room-of : (x : Decoded) (r : ℕ) (s : Shape) (n f g : ℕ) → Fits x r s n → PlanRoom (planOf x r s f g) n
 unfolding successorOf
 room-of x r s n f₁ f₂ f = record {
   ranged = record {
     shape = f .shape;
-    first-small = omega (arith, shares-small s (f .shape) (x .first) (f .first-in));
-    second-small = omega (arith, shares-small s (f .shape) (x .second) (f .second-in));
+    table1-small = omega (arith, shares-small s (f .shape) (x .first) (f .first-in));
+    table2-small = omega (arith, shares-small s (f .shape) (x .second) (f .second-in));
     wx-pos = power-pos (x .wx) (f .wx-power);
     wx-small = f .wx-small;
     wy-pos = power-pos (x .wy) (f .wy-power);
@@ -93,16 +93,16 @@ module _ (s : Shape) (r : ℕ) (m : Mach) (k : Summary) (ws ws′ : List ℕ) (s
   pos : 0 < s .ceiling
   pos = omega (arith, stored .some-state, stored .few)
 
-  byte : (q : ℕ) → q < shareOf s → (u v : Bool) → leb (labelAt s q) (seen (k .looks) (labelAt s q)) ≡ u → areBelow n (statesAt s q) ≡ v
-      → getD ws′ (shareAt s r + q) 0 ≡ cond (u && v) (m .step (labelAt s q) (statesAt s q)) (getD ws (shareAt s r + q) 0)
-  unfolding entry
+  byte : (q : ℕ) → q < shareOf s → (u v : Bool) → leb (labelAt s q) (seen (k .looks) (labelAt s q)) ≡ u → areBelow n (tupleAt s q) ≡ v
+      → getD ws′ (shareAt s r + q) 0 ≡ cond (u && v) (m .step (labelAt s q) (tupleAt s q)) (getD ws (shareAt s r + q) 0)
+  unfolding entry through
   byte q h u v eu ev = go u v eu ev
     where
       l : ℕ
       l = labelAt s q
 
       is : List ℕ
-      is = statesAt s q
+      is = tupleAt s q
 
       -- where no entry stands
       old : (l ≤ seen (k .looks) l → Tuple (s .branches) n is → ⊥) → getD ws′ (shareAt s r + q) 0 ≡ getD ws (shareAt s r + q) 0
@@ -141,8 +141,8 @@ module _ (x : Decoded) (r : ℕ) (s : Shape) (kf kg : Summary) (ws : List ℕ) (
     few = omega (arith, st .few, fits .shape .ceiling);
     same = λ l is hl t.
         let b = seen (k .looks) l in
-        let near = place-before s a r b is h (omega (arith, seen-le (k .looks) l)) (tuple-up (st .few) t) in
-        (getD-take (shareAt s r) ws (shareAt s a + placeIn s b is) 0 near ∙ st .holds l is hl t .0, st .holds l is hl t .1);
+        let near = place-in s b is (omega (arith, seen-le (k .looks) l)) (tuple-up (st .few) t) in
+        (getD-take (shareAt s r) ws (shareAt s a + placeIn s b is) 0 (omega (arith, share-next s a r h)) ∙ st .holds l is hl t .0, st .holds l is hl t .1);
   }
 
   -- the parts that the kind has come before the record, and are stored
@@ -213,8 +213,8 @@ module _ (x : Decoded) (r : ℕ) (s : Shape) (kf kg : Summary) (ws : List ℕ) (
           (startCode (x .kind) (s .branches) (firstStep low plan) (x .wx)) (fits .shape .some-state) cs (sym from-tables ∙ is-cs) in
           (found .some-code, found .few)
 
-      new-holds : Holds s ws′ (shareAt s r) (plan .looks) (length cs) (mach .step)
-      unfolding entry stepOf successorOf
+      new-holds : TableHolds s ws′ (shareAt s r) (plan .looks) (length cs) (mach .step)
+      unfolding entry stepOf successorOf through
       new-holds l is hl t =
           let cell : Entered (succIn ws plan) plan cs ws′ (record { label = l; states = is }) =
           subst (λ (o : Option (List ℕ)). Cell (succIn ws plan) plan o ws′ (record { label = l; states = is })) is-cs
@@ -233,7 +233,7 @@ module _ (x : Decoded) (r : ℕ) (s : Shape) (kf kg : Summary) (ws : List ℕ) (
             count = is-count ∙ sym count-cs;
             accept =
                 ea ∙ accept-parts (x .kind) (kf .accept) (kg .accept) (f .accept) (g .accept) cs (parts-map (x .kind) (λ s. s .accept) (λ s. s .accept) stored);
-            holds = subst (λ (l : ℕ). Holds s ws′ (shareAt s r) l (length cs) (mach .step)) (sym el) new-holds;
+            holds = subst (λ (l : ℕ). TableHolds s ws′ (shareAt s r) l (length cs) (mach .step)) (sym el) new-holds;
             some-state = some-few .0;
             few = some-few .1;
           }) (λ q off. done .bare q (λ l is hs t. off l is (subst (λ (b : ℕ). l ≤ seen b l) (sym el) hs) (tuple-up (omega (arith, count-cs)) t))),

@@ -8,10 +8,10 @@ use mathlib.Core.Path.{_≡_}
 use mathlib.Core.Bool.{Bool, false, not, _&&_, _||_, cond}
 use lib.Dec.{eqb, ltb, leb}
 use lib.ListN.{length, getD}
-use Rattle.layout.specs.Shape.{labelsIn, labelAt, statesAt, Tuple}
+use Rattle.layout.specs.Shape.{labelsIn, labelAt, tupleAt, Tuple}
 use Rattle.layout.specs.declared.Shape.{Shape}
-use Rattle.words.specs.Word.{mem, any, wordOf}
-use Rattle.table.specs.Entry.{seen, Step, entry}
+use Rattle.words.specs.Word.{mem, any, wordWhere}
+use Rattle.table.specs.Entry.{seen, Step, stepIn}
 use Rattle.table.specs.Succ.{firstPart, secondPart, kindCode, startCode}
 use Rattle.table.specs.declared.plan.Kind.{Kind}
 use Rattle.table.specs.declared.plan.Kind.the-variants.{Subset, Single, Child1, Child2, Root, Not, Or, And, Exists}
@@ -27,13 +27,13 @@ unfoldable pub stepOf : Step → List ℕ → Step
 stepOf succ cs l is = position (succ l (codesAt cs is)) cs
 
 -- the table at place a holds the steps of a machine of n states that looks at the bits b
-abbrev pub Holds : Shape → List ℕ → ℕ → ℕ → ℕ → Step → Type 0
-Holds s low a b n f = (l : ℕ) (is : List ℕ) → l < labelsIn s → Tuple (s .branches) n is → (entry s low a (seen b l) is ≡ f l is) × (f l is < n)
+abbrev pub TableHolds : Shape → List ℕ → ℕ → ℕ → ℕ → Step → Type 0
+TableHolds s low a b n f = (l : ℕ) (is : List ℕ) → l < labelsIn s → Tuple (s .branches) n is → (stepIn s low a b l is ≡ f l is) × (f l is < n)
 
 -- the byte at place q of a share in which a machine of n states is stored that looks at the bits b: where an entry stands, its step, and
 -- else the byte that was there
 unfoldable pub shareByte : Shape → ℕ → ℕ → Step → ℕ → ℕ → ℕ
-shareByte s b n f q old = cond (leb (labelAt s q) (seen b (labelAt s q)) && areBelow n (statesAt s q)) (f (labelAt s q) (statesAt s q)) old
+shareByte s b n f q old = cond (leb (labelAt s q) (seen b (labelAt s q)) && areBelow n (tupleAt s q)) (f (labelAt s q) (tupleAt s q)) old
 
 -- does the state with code x accept, where a and b are the accepting states of the parts; "not" is not explored
 abbrev pub acceptBy : Kind → ℕ → ℕ → ℕ → Bool
@@ -49,8 +49,8 @@ acceptBy Exists a b x = any (λ (q : ℕ). mem q x && mem q a) 64
 
 -- the accepting states of a record
 unfoldable pub acceptOf : Kind → ℕ → ℕ → List ℕ → ℕ
-acceptOf k a b cs = wordOf (λ (s : ℕ). ltb s (length cs) && acceptBy k a b (getD cs s 0)) 64
+acceptOf k a b cs = wordWhere (λ (s : ℕ). ltb s (length cs) && acceptBy k a b (getD cs s 0)) 64
 
 -- the states below n that are not in a
 unfoldable pub othersOf : ℕ → ℕ → ℕ
-othersOf a n = wordOf (λ (s : ℕ). ltb s n && not (mem s a)) 64
+othersOf a n = wordWhere (λ (s : ℕ). ltb s n && not (mem s a)) 64

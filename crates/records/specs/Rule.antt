@@ -12,7 +12,7 @@ use Rattle.logic.specs.Machine.{Machine}
 use Rattle.logic.specs.Two.{branching}
 use Rattle.table.specs.Entry.{Step, Bit, Power}
 use Rattle.table.specs.Succ.{kindCode, looksOf}
-use Rattle.records.specs.Machine.{codesOf, stepOf, acceptOf, othersOf, Holds, shareByte}
+use Rattle.records.specs.Machine.{codesOf, stepOf, acceptOf, othersOf, TableHolds, shareByte}
 use Rattle.table.specs.declared.plan.Kind.{Kind}
 use Rattle.table.specs.declared.plan.Kind.the-variants.{Subset, Single, Child1, Child2, Root, Not, Or, And, Exists}
 use Rattle.table.specs.declared.plan.Plan.{Plan}
@@ -70,8 +70,8 @@ machineOf s x f g =
 abbrev pub planOf : Decoded → ℕ → Shape → ℕ → ℕ → Plan
 planOf x r s f g = record {
   kind = x .kind;
-  first = shareAt s (x .first);
-  second = shareAt s (x .second);
+  table1 = shareAt s (x .first);
+  table2 = shareAt s (x .second);
   wx = x .wx;
   wy = x .wy;
   shape = s;
@@ -112,7 +112,7 @@ pub record Fits (x : Decoded) (r : ℕ) (s : Shape) (n : ℕ) : Type 0 where
 pub record Stored (s : Shape) (base : ℕ) (m : Mach) (k : Summary) (ws : List ℕ) : Type 0 where
   pub count : k .count ≡ length (m .codes)
   pub accept : k .accept ≡ m .accept
-  pub holds : Holds s ws base (k .looks) (length (m .codes)) (m .step)
+  pub holds : TableHolds s ws base (k .looks) (length (m .codes)) (m .step)
   pub some-state : 0 < length (m .codes)
   pub few : length (m .codes) ≤ s .ceiling
 

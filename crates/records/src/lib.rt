@@ -92,8 +92,8 @@ fn plan_of(x: Decoded, r: usize, s: Shape, f: usize, g: usize) -> Plan
     requires { ⌜ (x .first < 256) × (x .second < 256) × (r < 256) × (0 < x .wx) × (x .wx ≤ 128) ⌝ }
     ensures { λ p. ⌜ p ≡ planOf x r s f g ⌝ }
 {
-    let first = layout::share_at(s, x.first as usize);
-    let second = layout::share_at(s, x.second as usize);
+    let table1 = layout::share_at(s, x.first as usize);
+    let table2 = layout::share_at(s, x.second as usize);
     let base = layout::share_at(s, r);
     let kind = x.kind;
     let wx = x.wx as usize;
@@ -101,8 +101,8 @@ fn plan_of(x: Decoded, r: usize, s: Shape, f: usize, g: usize) -> Plan
     let looks = looks_of(kind, wx, wy, f, g);
     Plan {
         kind,
-        first,
-        second,
+        table1,
+        table2,
         wx,
         wy,
         shape: s,

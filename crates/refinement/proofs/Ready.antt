@@ -5,7 +5,7 @@ use Rattle.layout.proofs.Places.{share-next}
 use Rattle.logic.specs.Rule.{Record, noRecord, good, Accepted}
 use Rattle.logic.proofs.Rules.{good-here}
 use Rattle.records.specs.Rule.{OfParts}
-use Rattle.building.specs.Build.{Buildable}
+use Rattle.building.specs.OneRecord.{Buildable}
 use Rattle.records.specs.declared.Decoded.{Decoded}
 use Rattle.table.proofs.Labels.{bit-of}
 use Rattle.records.specs.Decode.{weight, decodedOf}

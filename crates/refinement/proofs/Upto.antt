@@ -19,8 +19,8 @@ use Rattle.logic.proofs.Builders.{states-any, over-index}
 use Rattle.table.specs.Succ.{startCode, kindCode}
 use Rattle.records.specs.Rule.{Mach, noMach, machOf, machineOf, noDecoded}
 use Rattle.records.specs.declared.Decoded.{Decoded}
-use Rattle.building.specs.Named.{namesOf as decodedNames, namesIn as decodedNamesIn, usedIn}
-use Rattle.building.specs.Build.{Outcome, built, over, more, after, passed, upto}
+use Rattle.building.specs.Named.{namedOf as decodedNames, namedIn as decodedNamesIn, usedIn}
+use Rattle.building.specs.Build.{Progress, built, over, more, after, passed, upto}
 use Rattle.refinement.proofs.Atoms.{atom-subset, atom-single, atom-root, atom-first, atom-second}
 use Rattle.refinement.proofs.Records.{Good, Makes, explored, complemented, either-pair, both-pair, some-set}
 
@@ -121,7 +121,7 @@ module _ (n c : ℕ) (sh : Shaped (shapeOf n c)) (rs : List Record) (acc : Accep
         rw (decoded r hr, record-formula 2 n rs (acc .1) r hr) (by-op (e .op) (e .first) (e .second) (good-here 2 n rs r (acc .1) hr) parts)
 
   -- what the outcome for the first m records says
-  unfoldable pub Linked : ℕ → Outcome → Type 0
+  unfoldable pub Linked : ℕ → Progress → Type 0
   Linked m (built ms) = (length ms ≡ m) × ((r : ℕ) → r < m → T (used r) → GoodAt r (getD ms r noMach))
   Linked m (over k) = FirstOver 2 n rs c k
 
@@ -176,7 +176,7 @@ module _ (n c : ℕ) (sh : Shaped (shapeOf n c)) (rs : List Record) (acc : Accep
   linked zero h = (refl, λ r l u. absurd (not-suc-le-zero l))
   linked (suc m) h = go (upto xs used (shapeOf n c) m) (linked m (omega arith)) (used m) refl
     where
-      go : (o : Outcome) → Linked m o → (v : Bool) → used m ≡ v
+      go : (o : Progress) → Linked m o → (v : Bool) → used m ≡ v
           → Linked (suc m) (cond v (after (shapeOf n c) m (getD xs m noDecoded) o) (passed o))
       go (over k) w true e = w
       go (over k) w false e = w

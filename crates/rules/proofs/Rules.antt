@@ -15,8 +15,9 @@ use Rattle.layout.proofs.Places.{share-next}
 use Rattle.records.specs.Rule.{Mach, noMach, noDecoded}
 use Rattle.records.specs.Decode.{decodedOf}
 use Rattle.records.specs.declared.Decoded.{Decoded}
-use Rattle.building.specs.Named.{namesIn, usedIn}
-use Rattle.building.specs.Build.{Outcome, built, over, entryOf, Buildable, Made, MadeBy, upto}
+use Rattle.building.specs.Named.{namedIn, usedIn}
+use Rattle.building.specs.Build.{Progress, built, over, entryOf, Made, MadeBy, upto}
+use Rattle.building.specs.OneRecord.{Buildable}
 use Rattle.building.specs.declared.Ending.{Ending}
 use Rattle.building.specs.declared.Ending.the-variants.{Over, Ready}
 use Rattle.building.specs.declared.Machines.{Machines}
@@ -34,12 +35,12 @@ not-both : {x : Ending} {k : ℕ} → x ≡ Ready → x ≡ Over k → ⊥
 not-both {x} {k} e f = let z : Ready ≡ Over k = sym e ∙ f in let y : _≡_ {A = ℕ} 0 1 = cc in omega arith
 
 -- what the builder's outcome says where no record has too many states, and where one has
-no-over : (used : ℕ → Bool) (o : Outcome) (s : Shape) (m : ℕ) (t : Machines) (ws : List ℕ) → Made used o s m t ws → t .ending ≡ Ready
+no-over : (used : ℕ → Bool) (o : Progress) (s : Shape) (m : ℕ) (t : Machines) (ws : List ℕ) → Made used o s m t ws → t .ending ≡ Ready
     → (ms : List Mach) × (o ≡ built ms) × Made used (built ms) s m t ws
 no-over used (over k) s m t ws h l = absurd (not-both l h)
 no-over used (built ms) s m t ws h l = (ms, refl, h)
 
-is-over : (used : ℕ → Bool) (o : Outcome) (s : Shape) (m r : ℕ) (t : Machines) (ws : List ℕ) → Made used o s m t ws → t .ending ≡ Over r → o ≡ over r
+is-over : (used : ℕ → Bool) (o : Progress) (s : Shape) (m r : ℕ) (t : Machines) (ws : List ℕ) → Made used o s m t ws → t .ending ≡ Over r → o ≡ over r
 is-over used (over k) s m r t ws h l = let e : Over k ≡ Over r = sym h ∙ l in let z : k ≡ r = cc in ap over z
 is-over used (built ms) s m r t ws h l = absurd (not-both (h .0) l)
 
@@ -109,7 +110,7 @@ module _ {rule : List ℕ} {c room : ℕ} (w : Workable rule c room) where
               number = omega arith;
               share = omega (arith, share-next (ruleShape rule c) (m - 1) m (omega arith), room-shares n m c rule-shaped, w .long);
               machine = getD (o .0) (m - 1) noMach;
-              stored = o .2 .2 (m - 1) (omega arith) (last-reached (namesIn xs) m (z .3));
+              stored = o .2 .2 (m - 1) (omega arith) (last-reached (namedIn xs) m (z .3));
             };
             decides = rw last (g .machine);
             full = g .full;

@@ -12,7 +12,8 @@ use Rattle.tree_strip.proofs.TreeWalk.{stands-within, empty-bit, node-bit, labe
 use Rattle.layout.specs.declared.Shape.{Shape}
 use Rattle.layout.specs.Shape.{labelsIn}
 use Rattle.layout.proofs.Places.{pair-in}
-use Rattle.search.specs.Table.{stepIn, machineIn, Entry}
+use Rattle.table.specs.Entry.{stepIn, Within}
+use Rattle.table.specs.Whole.{machineIn}
 use Rattle.running.specs.declared.Ran.{Ran}
 use Rattle.running.specs.Run.{Runnable, Came}
 
@@ -91,21 +92,16 @@ module _ {strip : List ℕ} {at : ℕ} {s : Shape} {looks : ℕ} {table : List �
 
       module _ {y : Ran} (cy : Came strip (x .next) s looks table count y) where
         module _ {v : ℕ} (ev : v ≡ field strip (at + 1) n) where
-          pub entry : Entry s table v (x .state) (y .state)
-          entry = record {
-            shape = w .whole .shape;
-            whole = w .whole .whole;
-            label = rw ev label-small;
-            first = omega (arith, cx .below, w .whole .within);
-            second = omega (arith, cy .below, w .whole .within);
-          }
+          pub in-table : Within s table 0 × ((v < labelsIn s) × (x .state < s .ceiling) × (y .state < s .ceiling))
+          in-table =
+              (w .whole .inside, (rw ev label-small, omega (arith, cx .below, w .whole .within), omega (arith, cy .below, w .whole .within)))
 
-          pub came-node : {q : ℕ} → q ≡ stepIn s looks table v (x .state ∷ y .state ∷ [])
+          pub came-node : {q : ℕ} → q ≡ stepIn s table 0 looks v (x .state ∷ y .state ∷ [])
               → Came strip at s looks table count (record { state = q; next = y .next })
           unfolding run treeBits Proper
           came-node {q} e = record {
             ran = here;
-            below = rw e (w .whole .steps v (x .state ∷ y .state ∷ []) (rw ev label-small) (pair-in s (w .whole .shape) (cx .below) (cy .below)));
+            below = rw e (w .whole .steps v (x .state ∷ y .state ∷ []) (rw ev label-small) (pair-in s (w .whole .inside .shape) (cx .below) (cy .below)));
           }
             where
               here : (accept : ℕ) (t : Tree 2) → Proper n t → Stands strip n at t

@@ -7,7 +7,7 @@ use Rattle.logic.specs.Tree.{Tree, Proper}
 use Rattle.logic.specs.Machine.{run}
 use Rattle.tree_strip.specs.TreeStrip.{treeBits, Stands}
 use Rattle.layout.specs.declared.Shape.{Shape}
-use Rattle.search.specs.Table.{machineIn, Whole}
+use Rattle.table.specs.Whole.{machineIn, Whole}
 use Rattle.running.specs.declared.Ran.{Ran}
 
 -- the table is whole, and a proper tree stands at bit place at of a strip that is not too long

@@ -24,7 +24,7 @@ pub fn run(strip: &[u8], at: usize, s: Shape, looks: usize, table: &[u8], count:
     let first = run(strip, at + 1 + n, s, looks, table, count);
     let second = run(strip, first.next, s, looks, table, count);
     Ran {
-        state: search::cell(s, looks, table, label, first.state, second.state),
+        state: table::entries::step_in(table, s, 0, looks, label, first.state, second.state),
         next: second.next,
     }
 }

@@ -19,8 +19,9 @@ use Rattle.search.specs.declared.Pick.{Pick}
 use Rattle.search.specs.declared.Finding.{Finding}
 use Rattle.search.specs.declared.Found.{Found}
 use Rattle.search.specs.declared.Finding.the-variants.{None, Larger, Shown}
-use Rattle.search.specs.Table.{stepIn, machineIn, Whole}
-use Rattle.search.specs.Scan.{codeView, bestOf, bestIn, sizeOf, Held, Ready, scanSecond, scanFirst, scanLabel}
+use Rattle.table.specs.Entry.{stepIn}
+use Rattle.table.specs.Whole.{machineIn, Whole}
+use Rattle.search.specs.Scan.{codeView, bestOf, bestIn, sizeOf, Held, ScanReady, scanSecond, scanFirst, scanLabel}
 use Rattle.search.specs.Rounds.{answerBy, foundAs, Ended}
 use Rattle.search.proofs.ScanLaws.{pick-loops}
 
@@ -266,11 +267,11 @@ module _ {sh : Shape} {looks : ℕ} {table : List ℕ} {count accept P : ℕ} (w
     abbrev goal : Sought 2
     goal = rounds labels M P (count - 1) (empty ∷ [])
 
-    pub round-ready : P ≤ 255 → Ready sh looks table state size n
+    pub round-ready : P ≤ 255 → ScanReady sh looks table state size n
     round-ready small = record {
       bound = count;
       table-whole = wh;
-      settled-few = omega (arith, v .high, wh .within, wh .shape .ceiling);
+      settled-few = omega (arith, v .high, wh .within, wh .inside .shape .ceiling);
       states = λ i h. v .tame i;
       sizes = λ i h. omega (arith, v .light i);
     }
@@ -282,7 +283,7 @@ module _ {sh : Shape} {looks : ℕ} {table : List ℕ} {count accept P : ℕ} (w
       counted = λ t f. absurd (unseen x h (at s (n - 1)) t (e ∙ f));
       back = v .back;
       low = v .low;
-      high = omega (arith, v .high, wh .within, wh .shape .ceiling);
+      high = omega (arith, v .high, wh .within, wh .inside .shape .ceiling);
     }
 
     pub round-end : count ≤ n → Ended goal (foundAs None n 0 label first second)
@@ -354,7 +355,7 @@ module _ {sh : Shape} {looks : ℕ} {table : List ℕ} {count accept P : ℕ} (w
         unfolding verdict
         round-on p a = rw (le-ltb P (positions t) (rw (← size-is) p), a) at verdict-is
 
-        pub round-target : {x y q′ : ℕ} → x ≡ getD state (r .first) 0 → y ≡ getD state (r .second) 0 → q′ ≡ stepIn sh looks table (r .label) (x ∷ y ∷ [])
+        pub round-target : {x y q′ : ℕ} → x ≡ getD state (r .first) 0 → y ≡ getD state (r .second) 0 → q′ ≡ stepIn sh table 0 looks (r .label) (x ∷ y ∷ [])
             → q′ ≡ q
         unfolding run
         round-target ex ey e = e ∙ rw (ex, ey, v .arrays .states (r .first), v .arrays .states (r .second))
@@ -362,26 +363,26 @@ module _ {sh : Shape} {looks : ℕ} {table : List ℕ} {count accept P : ℕ} (w
         round-below : q < count
         unfolding run
         round-below = wh .steps (r .label) (run M (at s (r .first)) ∷ run M (at s (r .second)) ∷ []) (round-range .label-in)
-            (pair-in sh (wh .shape) (rw (v .arrays .states) at (v .tame (r .first))) (rw (v .arrays .states) at (v .tame (r .second))))
+            (pair-in sh (wh .inside .shape) (rw (v .arrays .states) at (v .tame (r .first))) (rw (v .arrays .states) at (v .tame (r .second))))
 
-        pub round-small : {x y q′ : ℕ} → x ≡ getD state (r .first) 0 → y ≡ getD state (r .second) 0 → q′ ≡ stepIn sh looks table (r .label) (x ∷ y ∷ [])
+        pub round-small : {x y q′ : ℕ} → x ≡ getD state (r .first) 0 → y ≡ getD state (r .second) 0 → q′ ≡ stepIn sh table 0 looks (r .label) (x ∷ y ∷ [])
             → q′ < 64
-        round-small ex ey e = omega (arith, round-target ex ey e, round-below, wh .within, wh .shape .ceiling)
+        round-small ex ey e = omega (arith, round-target ex ey e, round-below, wh .within, wh .inside .shape .ceiling)
 
         grown : decode (set label n (r .label)) (set first n (r .first)) (set second n (r .second)) (suc n) ≡ s ++ (t ∷ [])
         grown =
             decode-more label first second n (r .label) (r .first) (r .second) (v .low) (room (v .long-label)) (room (v .long-first)) (room (v .long-second))
           where
             room : {m : ℕ} → m ≡ 64 → n < m
-            room e = omega (arith, wh .within, wh .shape .ceiling)
+            room e = omega (arith, wh .within, wh .inside .shape .ceiling)
 
         grown-back : Backs (suc n) (set first n (r .first)) (set second n (r .second))
         grown-back i p k = elim (ℕ-discrete i n) [
           | yes e ↦ rw (
             e,
-            getD-set-same first n (r .first) 0 (omega (arith, v .long-first, wh .within, wh .shape .ceiling)),
+            getD-set-same first n (r .first) 0 (omega (arith, v .long-first, wh .within, wh .inside .shape .ceiling)),
             getD-set-same second n (r .second) 0
-                (omega (arith, v .long-second, wh .within, wh .shape .ceiling)),
+                (omega (arith, v .long-second, wh .within, wh .inside .shape .ceiling)),
           ) (round-range .first-in, round-range .second-in)
           | no e ↦ rw (getD-set-other first n i (r .first) 0 e, getD-set-other second n i (r .second) 0 e) (v .back i p (omega arith))
         ]
@@ -393,7 +394,7 @@ module _ {sh : Shape} {looks : ℕ} {table : List ℕ} {count accept P : ℕ} (w
           counted = λ u f. let y : tree t ≡ tree u = round-shown p (rw e at a) ∙ f in let z : t ≡ u = cc in size-is ∙ ap positions z;
           back = rw (add-one n) grown-back;
           low = omega arith;
-          high = omega (arith, wh .within, wh .shape .ceiling);
+          high = omega (arith, wh .within, wh .inside .shape .ceiling);
           answer =
               let f : decode (set label n (r .label)) (set first n (r .first)) (set second n (r .second)) (n + 1) ≡ s ++ (t ∷ []) = rw (add-one n) grown in
               let g : n + 1 - 1 ≡ length s = omega (arith, decode-length label first second n) in
@@ -414,8 +415,8 @@ module _ {sh : Shape} {looks : ℕ} {table : List ℕ} {count accept P : ℕ} (w
           long-first = length-set first n (r .first) ∙ v .long-first;
           long-second = length-set second n (r .second) ∙ v .long-second;
           arrays = rw grown (arrays-more M s t n done state size q′ (r .size) (decode-length label first second n)
-              (omega (arith, v .long-state, wh .within, wh .shape .ceiling)) (omega (arith, v .long-size, wh .within, wh .shape .ceiling))
-              (omega (arith, v .long-done, below, wh .within, wh .shape .ceiling))
+              (omega (arith, v .long-state, wh .within, wh .inside .shape .ceiling)) (omega (arith, v .long-size, wh .within, wh .inside .shape .ceiling))
+              (omega (arith, v .long-done, below, wh .within, wh .inside .shape .ceiling))
               (e ∙ run-is) size-is (v .arrays));
           tame = kept-all state n q′ (λ x. x < count) below (v .tame);
           light = kept-all size n (r .size) (λ x. x ≤ P) p (v .light);

@@ -1,34 +1,20 @@
 -- One turn of each loop of a scan, its start and its end. Assumes nothing.
-use Rattle.words.proofs.Vocabulary.{ℕ, zero, suc, _+_, _/_, _%_, _*_, _≤_, _<_, min, _≡_, refl, sym, ap, subst, _∙_, Bool, true, false, not, List, [], _∷_}
-use Rattle.words.proofs.Vocabulary.{arith, add-one, bitAnd, and-step, and-le-l, eqb, eq-eqb, ne-eqb, lt-ltb, le-ltb, ltb-true, ltb-false, eqb-true, eqb-false}
-use Rattle.words.proofs.Vocabulary.{getD, length}
+use Rattle.words.proofs.Vocabulary.{ℕ, suc, _+_, _≤_, _<_, _≡_, refl, sym, ap, subst, Bool, true, false, not, List, [], _∷_}
+use Rattle.words.proofs.Vocabulary.{arith, add-one, eqb, eq-eqb, ne-eqb, lt-ltb, le-ltb, ltb-true, ltb-false, eqb-true, eqb-false}
+use Rattle.words.proofs.Vocabulary.{getD}
 use mathlib.Core.Bool.{true≢false}
-use lib.Bits.{and-zero-l}
 use Rattle.layout.specs.declared.Shape.{Shape}
-use Rattle.layout.specs.Shape.{labelsIn, placeIn}
-use Rattle.layout.proofs.Places.{few-labels, pair-in, place-in}
+use Rattle.layout.specs.Shape.{labelsIn}
+use Rattle.layout.proofs.Places.{pair-in}
 use Rattle.logic.specs.Search.{Best, nothing, found, View, weight, lighter, choose, consider, loop, tuples, pick}
 use Rattle.logic.specs.Tree.{downFrom, sumOf}
 use Rattle.logic.specs.Meaning.{Branch}
 use Rattle.logic.specs.Two.{one, two}
 use Rattle.logic.proofs.Repeats.{label-repeats}
 use Rattle.search.specs.declared.Pick.{Pick}
-use Rattle.search.specs.Table.{stepIn, Entry}
-use Rattle.search.specs.Scan.{kept, codeView, bestOf, bestIn, sizeOf, Held, Ready, scanSecond, scanFirst, scanLabel}
-
--- the bits that are left stay
-and-twice : (m a b : ℕ) → a ≤ m → bitAnd (bitAnd a b) b ≡ bitAnd a b
-and-twice zero a b h = let e : a ≡ 0 = omega arith in rw (e, and-zero-l b) (and-zero-l b)
-and-twice (suc m) a b h =
-    let x = bitAnd (a / 2) (b / 2) in
-    let y = min (a % 2) (b % 2) in
-    let small : y < 2 = omega arith in
-    let e : bitAnd a b ≡ x * 2 + y = and-step a b in
-    let half : bitAnd a b / 2 ≡ x = omega arith in
-    let odd : bitAnd a b % 2 ≡ y = omega arith in
-    let ih : bitAnd x (b / 2) ≡ x = and-twice m (a / 2) (b / 2) (omega arith) in
-    let low : min y (b % 2) ≡ y = omega arith in
-    and-step (bitAnd a b) b ∙ rw (half, odd, ih, low) (sym e)
+use Rattle.table.specs.Entry.{stepIn, entry, through, seen}
+use Rattle.table.proofs.Masks.{seen-seen}
+use Rattle.search.specs.Scan.{kept, codeView, bestOf, bestIn, sizeOf, Held, ScanReady, scanSecond, scanFirst, scanLabel}
 
 -- the definition's loops are these
 pub pick-loops : (v : View 2) (labels n : ℕ) → pick labels n v ≡ scanLabel v n labels nothing
@@ -82,24 +68,17 @@ module _ (v : View 2) (o l i j : ℕ) where
 held-consider : (s : Shape) (looks : ℕ) (table done state size : List ℕ) (l i j : ℕ) (b : Best) (p : Pick)
     → Held (codeView s looks table done state size) b p
     → Held (codeView s looks table done state size) (consider (codeView s looks table done state size) l (i ∷ j ∷ []) b)
-    (kept p (getD done (stepIn s looks table l (getD state i 0 ∷ getD state j 0 ∷ [])) 0) (suc (getD size i 0 + getD size j 0)) l i j)
+    (kept p (getD done (stepIn s table 0 looks l (getD state i 0 ∷ getD state j 0 ∷ [])) 0) (suc (getD size i 0 + getD size j 0)) l i j)
 unfolding consider codeView
 held-consider s looks table done state size l i j b p h =
     let v : View 2 = codeView s looks table done state size in
-    let o : ℕ = getD done (stepIn s looks table l (getD state i 0 ∷ getD state j 0 ∷ [])) 0 in
+    let o : ℕ = getD done (stepIn s table 0 looks l (getD state i 0 ∷ getD state j 0 ∷ [])) 0 in
     held-choose v o l i j b p h (eqb o 0) refl (lighter v (i ∷ j ∷ []) b) refl
-
--- the label without the bits that are not looked at is no larger, so its entries lie in the table too
-pub in-table : (s : Shape) (looks : ℕ) (table : List ℕ) (l a b : ℕ) → Entry s table l a b
-    → (bitAnd l looks < 256) × (placeIn s (bitAnd l looks) (a ∷ b ∷ []) < length table)
-in-table s looks table l a b e =
-    let m : bitAnd l looks < labelsIn s = omega (arith, and-le-l l looks) in
-    (omega (arith, few-labels s (e .shape)), omega (arith, place-in s (bitAnd l looks) (a ∷ b ∷ []) m (pair-in s (e .shape) (e .first) (e .second))))
 
 -- One turn of the inner loop, as the code takes it.
 pub row-next : (s : Shape) (looks : ℕ) (table done state size : List ℕ) (l i j : ℕ) (b : Best) (p r : Pick) (x y q : ℕ)
     → Held (codeView s looks table done state size) (scanSecond (codeView s looks table done state size) l i j b) p
-    → x ≡ getD state i 0 → y ≡ getD state j 0 → q ≡ stepIn s looks table l (x ∷ y ∷ [])
+    → x ≡ getD state i 0 → y ≡ getD state j 0 → q ≡ stepIn s table 0 looks l (x ∷ y ∷ [])
     → r ≡ kept p (getD done q 0) (getD size i 0 + getD size j 0 + 1) l i j
     → Held (codeView s looks table done state size) (scanSecond (codeView s looks table done state size) l i (j + 1) b) r
 unfolding scanSecond loop
@@ -132,21 +111,21 @@ unfolding scanLabel loop
 pick-next v n l b p r h k = rw (add-one l) (rw (h .best) at k)
 
 -- a label with a bit that is not looked at is passed over: it has the steps of the label without that bit, which is an earlier one
-pub pick-passed : (s : Shape) (looks : ℕ) (table done state size : List ℕ) (n l : ℕ) (b : Best) (p : Pick) → bitAnd l looks < l
+pub pick-passed : (s : Shape) (looks : ℕ) (table done state size : List ℕ) (n l : ℕ) (b : Best) (p : Pick) → seen looks l < l
     → Held (codeView s looks table done state size) (scanLabel (codeView s looks table done state size) n l b) p
     → Held (codeView s looks table done state size) (scanLabel (codeView s looks table done state size) n (l + 1) b) p
-unfolding scanLabel scanFirst scanSecond tuples loop codeView
+unfolding scanLabel scanFirst scanSecond tuples loop codeView through
 pick-passed s looks table done state size n l b p h w =
     let v : View 2 = codeView s looks table done state size in
-    let alike : (f : Branch 2 → ℕ) → v .step (bitAnd l looks) f ≡ v .step l f =
-    λ f. ap (λ (m : ℕ). getD table (placeIn s m (f one ∷ f two ∷ [])) 0) (and-twice l l looks (omega arith)) in
-    rw (add-one l) (subst (λ (x : Best). Held v x p) (sym (label-repeats v n (bitAnd l looks) l h alike b)) w)
+    let alike : (f : Branch 2 → ℕ) → v .step (seen looks l) f ≡ v .step l f =
+    λ f. ap (λ (m : ℕ). entry s table 0 m (f one ∷ f two ∷ [])) (seen-seen looks l) in
+    rw (add-one l) (subst (λ (x : Best). Held v x p) (sym (label-repeats v n (seen looks l) l h alike b)) w)
 
 pub pick-done : (v : View 2) (n l labels : ℕ) (b : Best) (r : Pick) → l ≤ labels → labels ≤ l → Held v (scanLabel v n l b) r → Held v (scanLabel v n labels b) r
 pick-done v n l labels b r p q h = subst (λ (k : ℕ). Held v (scanLabel v n k b) r) (omega arith) h
 
-pub ready-steps : {s : Shape} {looks : ℕ} {table state size : List ℕ} {n : ℕ} (v : Ready s looks table state size n) (l a b : ℕ)
-    → l < labelsIn s → a < v .bound → b < v .bound → stepIn s looks table l (a ∷ b ∷ []) < 64
+pub ready-steps : {s : Shape} {looks : ℕ} {table state size : List ℕ} {n : ℕ} (v : ScanReady s looks table state size n) (l a b : ℕ)
+    → l < labelsIn s → a < v .bound → b < v .bound → stepIn s table 0 looks l (a ∷ b ∷ []) < 64
 ready-steps {s} v l a b hl ha hb =
     let w = v .table-whole in
-    omega (arith, w .steps l (a ∷ b ∷ []) hl (pair-in s (w .shape) ha hb), w .within, w .shape .ceiling)
+    omega (arith, w .steps l (a ∷ b ∷ []) hl (pair-in s (w .inside .shape) ha hb), w .within, w .inside .shape .ceiling)

@@ -10,7 +10,8 @@ use Rattle.layout.specs.Shape.{labelsIn}
 use Rattle.logic.specs.Two.{one, two}
 use Rattle.logic.specs.Search.{Best, nothing, found, View, weight, consider, loop}
 use Rattle.search.specs.declared.Pick.{Pick}
-use Rattle.search.specs.Table.{stepIn, Whole}
+use Rattle.table.specs.Entry.{stepIn}
+use Rattle.table.specs.Whole.{Whole}
 
 -- the inner loop: second branches of the ranks below n, under label l and a first branch of rank i
 unfoldable pub scanSecond : View 2 → ℕ → ℕ → ℕ → Best → Best
@@ -31,7 +32,7 @@ kept p old w l i j = cond (eqb old 0) (cond (eqb (p .size) 0 || ltb w (p .size))
 -- the arrays, as a round reads them
 unfoldable pub codeView : Shape → ℕ → List ℕ → List ℕ → List ℕ → List ℕ → View 2
 codeView s looks table done state size = record {
-  step = λ l q. stepIn s looks table l (q one ∷ q two ∷ []);
+  step = λ l q. stepIn s table 0 looks l (q one ∷ q two ∷ []);
   old = λ q. not (eqb (getD done q 0) 0);
   state = λ i. getD state i 0;
   size = λ i. getD size i 0;
@@ -57,7 +58,7 @@ pub record Held (v : View 2) (b : Best) (p : Pick) : Type 0 where
   pub fair : p .size ≡ sizeOf v b
 
 -- the arrays are as they should be: n settled trees, of states below a bound under which the steps stay, each of at most 255 positions
-pub record Ready (s : Shape) (looks : ℕ) (table state size : List ℕ) (n : ℕ) : Type 0 where
+pub record ScanReady (s : Shape) (looks : ℕ) (table state size : List ℕ) (n : ℕ) : Type 0 where
   pub bound : ℕ
   pub table-whole : Whole s looks table bound
   pub settled-few : n ≤ 64

@@ -6,10 +6,12 @@ ghost use Rattle.layout.specs.Shape.{labelsIn};
 ghost use Rattle.words.specs.Word.{mem};
 ghost use Rattle.logic.specs.Tree.{empty};
 ghost use Rattle.logic.specs.Search.{nothing, anyBelow, rounds, search};
-ghost use Rattle.search.specs.Table.{stepIn, machineIn, tableIn, Whole, Entry};
-ghost use Rattle.search.specs.Scan.{kept, Ready, Turn, Held, codeView, bestIn, scanSecond, scanFirst, scanLabel};
+ghost use Rattle.table.specs.Whole.{machineIn, tableIn, Whole};
+ghost use Rattle.search.specs.Scan.{kept, ScanReady, Turn, Held, codeView, bestIn, scanSecond, scanFirst, scanLabel};
 ghost use Rattle.search.specs.Rounds.{Ended, foundAs};
 use layout::Shape;
+use table::entries::step_in;
+use table::entries::wide;
 
 // The best candidate so far: its positions, or 0 for none; its label and the ranks of its branches.
 struct Pick {
@@ -46,20 +48,6 @@ fn consider(best: Pick, old: u8, w: u64, l: usize, i: usize, j: usize) -> Pick
     best
 }
 
-fn wide(x: u8) -> usize
-    ensures { λ r. ⌜ r ≡ x ⌝ }
-{
-    x as usize
-}
-
-// The step: the entry for the branches' states a and b, at the label with no bit but those that the record looks at.
-pub fn cell(s: Shape, looks: usize, table: &[u8], l: usize, a: usize, b: usize) -> usize
-    requires { ⌜ Entry s (now table) l a b ⌝ }
-    ensures { λ r. ⌜ r ≡ stepIn s looks (now (table .entry)) l (a ∷ b ∷ []) ⌝ }
-{
-    wide(table[layout::place(s, l & looks, a, b)])
-}
-
 // The inner loop: the label l, the first branch of rank i, second branches of all ranks.
 fn row(
     s: Shape,
@@ -73,7 +61,7 @@ fn row(
     i: usize,
     best: Pick,
 ) -> Pick
-    requires { ⌜ Ready s looks (now table) (now state) (now size) n ⌝ }
+    requires { ⌜ ScanReady s looks (now table) (now state) (now size) n ⌝ }
     requires { ⌜ Turn s n l i ⌝ }
     requires { ⌜ Held (codeView s looks (now table) (now done) (now state) (now size)) (bestIn best) best ⌝ }
     ensures { λ r. ⌜ Held (codeView s looks (now (table .entry)) (now (done .entry)) (now (state .entry)) (now (size .entry)))
@@ -82,7 +70,15 @@ fn row(
     let mut b = best;
     let mut j: usize = 0;
     while j < n {
-        let q = cell(s, looks, table, l, wide(state[i]), wide(state[j]));
+        let q = step_in(
+            table,
+            s,
+            0,
+            looks,
+            l,
+            wide(state[i]) as usize,
+            wide(state[j]) as usize,
+        );
         b = consider(b, done[q], size[i] + size[j] + 1, l, i, j);
         j += 1;
     }
@@ -101,7 +97,7 @@ fn rows(
     l: usize,
     best: Pick,
 ) -> Pick
-    requires { ⌜ Ready s looks (now table) (now state) (now size) n ⌝ }
+    requires { ⌜ ScanReady s looks (now table) (now state) (now size) n ⌝ }
     requires { ⌜ l < labelsIn s ⌝ }
     requires { ⌜ Held (codeView s looks (now table) (now done) (now state) (now size)) (bestIn best) best ⌝ }
     ensures { λ r. ⌜ Held (codeView s looks (now (table .entry)) (now (done .entry)) (now (state .entry)) (now (size .entry)))
@@ -126,7 +122,7 @@ fn scan(
     size: &[u64; 64],
     n: usize,
 ) -> Pick
-    requires { ⌜ Ready s looks (now table) (now state) (now size) n ⌝ }
+    requires { ⌜ ScanReady s looks (now table) (now state) (now size) n ⌝ }
     ensures { λ r. ⌜ Held (codeView s looks (now (table .entry)) (now (done .entry)) (now (state .entry)) (now (size .entry)))
         (scanLabel (codeView s looks (now (table .entry)) (now (done .entry)) (now (state .entry)) (now (size .entry))) n (labelsIn s) nothing) r ⌝ }
 {
@@ -218,7 +214,15 @@ fn settle(s: Shape, looks: usize, table: &[u8], count: usize, accept: u64, p: u6
         let l = b.label;
         let i = b.first;
         let j = b.second;
-        let q = cell(s, looks, table, l, wide(state[i]), wide(state[j]));
+        let q = step_in(
+            table,
+            s,
+            0,
+            looks,
+            l,
+            wide(state[i]) as usize,
+            wide(state[j]) as usize,
+        );
         label[n] = l;
         first[n] = i;
         second[n] = j;

@@ -5,7 +5,7 @@ use Rattle.words.proofs.Vocabulary.{List, map, pow-pos, pow-mono, add-zero, pow
 use Rattle.table.specs.Entry.{seen, Step, through, off, on, Power}
 use Rattle.table.specs.Succ.{firstPart, secondPart, pairCode, hit, choice, existsCode, atomIndex, ruleAt, subsetRule, singleRule, child1Rule, child2Rule}
 use Rattle.table.specs.Succ.{rootRule, kindCode, looksOf}
-use Rattle.words.specs.Word.{mem, digit, wordOf}
+use Rattle.words.specs.Word.{mem, digit, wordWhere}
 use Rattle.table.specs.declared.plan.Kind.{Kind}
 use Rattle.table.specs.declared.plan.Kind.the-variants.{Subset, Single, Child1, Child2, Root, Not, Or, And, Exists}
 use Rattle.words.proofs.WordLaws.{mem-or, mem-and, mem-one, mem-shr, digit-mem, word-ext}
@@ -160,7 +160,7 @@ module _ (e d : Step) (wx wy f g : ℕ) (px : Power wx) (py : Power wy) (l : ℕ
   pair a b = e a (map firstPart xs) * 64 + d b (map secondPart xs)
 
   abbrev union : ℕ → ℕ → ℕ
-  union a b = wordOf (λ (q : ℕ). choice (λ (is : List ℕ). eqb (e a is % 64) q || eqb (e b is % 64) q) xs) 64
+  union a b = wordWhere (λ (q : ℕ). choice (λ (is : List ℕ). eqb (e a is % 64) q || eqb (e b is % 64) q) xs) 64
 
   pub kind-blind : (k : Kind)
       → kindCode k (through f e) (through g d) wx wy (seen (looksOf k wx wy f g) l) xs ≡ kindCode k (through f e) (through g d) wx wy l xs

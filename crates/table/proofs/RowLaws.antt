@@ -2,7 +2,7 @@
 use Rattle.words.proofs.Vocabulary.{ℕ, _≤_, _<_, _+_, _-_, Bool, true, false, _||_, _&&_, _≡_, _∙_, sym, ap, List, [], _∷_, below-more, ne-eqb, bitAnd, ones}
 use Rattle.words.proofs.Vocabulary.{getD, set, length-set, getD-set-other, getD-set-same, ℕ-discrete, arith}
 use Rattle.words.specs.Word.{Below, mem, any, Without}
-use Rattle.table.specs.Rows.{Full, hitColumn, unionOf, Follows, Serves, UnionsUpTo}
+use Rattle.table.specs.Rows.{FullRows, hitColumn, unionOf, Follows, Serves, UnionsUpTo}
 use Rattle.table.specs.Entry.{Step, through, off, on, seen}
 use Rattle.table.specs.Succ.{hit, hitRow, hitSet, choice, existsCode}
 use Rattle.words.proofs.Any.{and-cong, any-cong, any-in, any-swap, any-true}
@@ -10,16 +10,16 @@ use Rattle.words.proofs.Members.{none-in}
 use Rattle.words.proofs.WordLaws.{word-cong}
 
 -- both arrays stay long
-full-set : {left right : List ℕ} (t x y : ℕ) → Full left right → Full (set left t x) (set right t y)
+full-set : {left right : List ℕ} (t x y : ℕ) → FullRows left right → FullRows (set left t x) (set right t y)
 full-set t x y h = record { left-long = simp length-set (h .left-long); right-long = simp length-set (h .right-long) }
 
 -- the rows are right at the states of `seen` that are not in `rest`, which has n members
 pub record Filling (f : Step) (l m s seen rest n : ℕ) (left right : List ℕ) : Type 0 where
   pub size : n ≡ ones rest
-  pub full : Full left right
+  pub full : FullRows left right
   pub done : (t : ℕ) → mem t seen ≡ true → mem t rest ≡ false → Follows f l m s t left right
 
-pub filling-first : {f : Step} {l m s seen n : ℕ} {left right : List ℕ} → n ≡ ones seen → Full left right → Filling f l m s seen seen n left right
+pub filling-first : {f : Step} {l m s seen n : ℕ} {left right : List ℕ} → n ≡ ones seen → FullRows left right → Filling f l m s seen seen n left right
 filling-first e h = record { size = e; full = h; done = λ t a b. let z : _≡_ {A = ℕ} 0 1 = cc in absurd (omega arith) }
 
 pub filling-next : {f : Step} {l m s seen rest n : ℕ} {left right : List ℕ} {t rest′ : ℕ} (x y : ℕ) → t < 64
@@ -68,8 +68,8 @@ module _ (f : Step) (w l s seen : ℕ) (left right : List ℕ) (rows : (t : ℕ)
 pub serves : {e : Step} (f w l : ℕ) (sets : List ℕ) (k seen : ℕ) {n : ℕ} {lefts rights left right : List ℕ} → n ≡ off w l
     → ((q : ℕ) → mem q seen ≡ any (λ (i : ℕ). mem q (getD sets i 0)) (k + 1))
     → ((t : ℕ) → mem t seen ≡ true → Follows e (bitAnd n f) (bitAnd (n + w) f) (getD sets k 0) t lefts rights)
-    → Full left right × UnionsUpTo k lefts rights sets left right
-    → Full left right × Serves (existsCode (through f e) w) l sets k left right
+    → FullRows left right × UnionsUpTo k lefts rights sets left right
+    → FullRows left right × Serves (existsCode (through f e) w) l sets k left right
 unfolding through hit on seen
 serves {e} f w l sets k seen {n} {lefts} {rights} is all rows u = (
   u .0,
@@ -92,7 +92,7 @@ joined-below n sets k seen all below q h m =
 
 -- two arrays, whose first n words are given
 pub record Written (F G : ℕ → ℕ) (n : ℕ) (left right : List ℕ) : Type 0 where
-  pub full : Full left right
+  pub full : FullRows left right
   pub done : (i : ℕ) → i < n → (getD right i 0 ≡ F i) × (getD left i 0 ≡ G i)
 
 -- the successors of code k and each code below n
@@ -100,7 +100,7 @@ abbrev pub Served : Step → ℕ → List ℕ → ℕ → ℕ → List ℕ → L
 Served succ l codes k =
     Written (λ (i : ℕ). succ l (getD codes i 0 ∷ getD codes k 0 ∷ [])) (λ (i : ℕ). succ l (getD codes k 0 ∷ getD codes i 0 ∷ []))
 
-pub written-first : {F G : ℕ → ℕ} {left right : List ℕ} → Full left right → Written F G 0 left right
+pub written-first : {F G : ℕ → ℕ} {left right : List ℕ} → FullRows left right → Written F G 0 left right
 written-first h = record { full = h; done = λ i h. absurd (omega arith) }
 
 pub written-next : {F G : ℕ → ℕ} {n : ℕ} {left right : List ℕ} {x y : ℕ} → n < 64 → Written F G n left right → x ≡ F n → y ≡ G n
@@ -115,5 +115,5 @@ written-next {F} {G} {n} {left} {right} {x} {y} h w ex ey = record {
 }
 
 pub written-last : {F G : ℕ → ℕ} {n k : ℕ} {left right : List ℕ} → k < n → Written F G n left right
-    → Full left right × ((i : ℕ) → i ≤ k → (getD right i 0 ≡ F i) × (getD left i 0 ≡ G i))
+    → FullRows left right × ((i : ℕ) → i ≤ k → (getD right i 0 ≡ F i) × (getD left i 0 ≡ G i))
 written-last h w = (w .full, λ i l. w .done i (omega arith))

@@ -29,11 +29,11 @@ module _ (low : List ℕ) (p : Plan) (d : ℕ) where
 
   -- what follows two members under label 0, from the table's entries, is added
   pub grows : Shaped (p .shape) → {s r t : ℕ} → s ≡ grown low p d → r < 2 ^ 64
-      → ((q : ℕ) → mem q r ≡ any (hitSet (entry (p .shape) low (p .first)) 0 (bitAnd (p .wx) (p .look1)) s s q) 64)
+      → ((q : ℕ) → mem q r ≡ any (hitSet (entry (p .shape) low (p .table1)) 0 (bitAnd (p .wx) (p .look1)) s s q) 64)
       → ((q : ℕ) → mem q t ≡ (mem q s || mem q r)) → t ≡ grown low p (d + 1)
   unfolding closing existsCode choice through hit seen entry placeIn
   grows sh {s} {r} {t} is h follows all =
-      let e = entry (p .shape) low (p .first) in
+      let e = entry (p .shape) low (p .table1) in
       let z : seen (p .look1) 0 ≡ 0 = omega (arith, seen-le (p .look1) 0) in
       let f : ℕ → ℕ → Bool = λ q m. choice (λ (is : List ℕ). eqb (e m is % 64) q || eqb (e (bitAnd (p .wx) (p .look1)) is % 64) q) (s ∷ s ∷ []) in
       rw (add-one, ← is, sh .branches, off-zero (p .wx), on-zero (p .wx)) (mem-ext t (bitOr s r) (λ q. all q ∙ sym (mem-or q s r)) ∙ ap (bitOr s)

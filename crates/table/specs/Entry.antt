@@ -33,6 +33,10 @@ Bare s base bits n q = (l : ℕ) (is : List ℕ) → l ≤ seen bits l → Tuple
 unfoldable pub through : ℕ → Step → Step
 through f e l is = e (seen f l) is
 
+-- the step of a machine that looks at the bits f, from the table at a
+abbrev pub stepIn : Shape → List ℕ → ℕ → ℕ → Step
+stepIn s low a f = through f (entry s low a)
+
 -- the label with the bit of weight w cleared, and set
 unfoldable pub off : ℕ → ℕ → ℕ
 off w l = l / (2 * w) * (2 * w) + l % w

@@ -1,3 +1,4 @@
 pub mod Entry
 pub mod Succ
 pub mod Rows
+pub mod Whole

@@ -8,9 +8,9 @@ use mathlib.Core.Path.{_≡_}
 use lib.ListN.{length, getD}
 use Rattle.layout.specs.Shape.{labelsIn, shareOf, Tuple}
 use Rattle.layout.specs.declared.Shape.{Shape}
-use Rattle.table.specs.Entry.{seen, Bit, Step, Within, entry, on}
-use Rattle.table.specs.Succ.{hit, hitRow}
-use Rattle.words.specs.Word.{mem, any, wordOf, Below}
+use Rattle.table.specs.Entry.{Bit, Step, Within, on}
+use Rattle.table.specs.Succ.{hit, hitRow, firstStep}
+use Rattle.words.specs.Word.{mem, any, wordWhere, Below}
 use Rattle.table.specs.declared.plan.Plan.{Plan}
 use Rattle.table.specs.declared.plan.Kind.the-variants.{Exists}
 
@@ -20,7 +20,7 @@ hitColumn f l m x q j i = mem i x && hit f l m q (i ∷ j ∷ [])
 
 -- the union of what a row has at the members of s
 unfoldable pub unionOf : List ℕ → ℕ → ℕ
-unionOf row s = wordOf (λ (q : ℕ). any (λ (t : ℕ). mem t s && mem q (getD row t 0)) 64) 64
+unionOf row s = wordWhere (λ (q : ℕ). any (λ (t : ℕ). mem t s && mem q (getD row t 0)) 64) 64
 
 -- at state t the left row has the states that follow a member of s and t, and the right row those that follow t and a member of s
 pub record Follows (f : Step) (l m s t : ℕ) (left right : List ℕ) : Type 0 where
@@ -39,7 +39,7 @@ UnionsUpTo k lefts rights sets left right =
     (i : ℕ) → i ≤ k → (getD right i 0 ≡ unionOf rights (getD sets i 0)) × (getD left i 0 ≡ unionOf lefts (getD sets i 0))
 
 -- both arrays have a word for each state
-pub record Full (left right : List ℕ) : Type 0 where
+pub record FullRows (left right : List ℕ) : Type 0 where
   pub left-long : length left ≡ 64
   pub right-long : length right ≡ 64
 
@@ -51,7 +51,7 @@ pub record Readable (sh : Shape) (low : List ℕ) (a l m s : ℕ) : Type 0 where
   pub states : Below (sh .ceiling) s
 
 -- the entries that the successors of the sets up to k are taken from, with the bit of weight w cleared and set, lie within `low`
-pub record Ready (sh : Shape) (low : List ℕ) (a w l : ℕ) (sets : List ℕ) (k : ℕ) : Type 0 where
+pub record RowsReady (sh : Shape) (low : List ℕ) (a w l : ℕ) (sets : List ℕ) (k : ℕ) : Type 0 where
   pub table : Within sh low a
   pub weight : 0 < w
   pub small : w ≤ 128
@@ -63,10 +63,10 @@ pub record Ready (sh : Shape) (low : List ℕ) (a w l : ℕ) (sets : List ℕ) (
 pub record Inside (low : List ℕ) (p : Plan) (n : ℕ) : Type 0 where
   pub some-state : 0 < n
   pub few : n ≤ p .shape .ceiling
-  pub share : p .first + shareOf (p .shape) ≤ length low
+  pub share : p .table1 + shareOf (p .shape) ≤ length low
   pub bit : Bit (p .wx) (labelsIn (p .shape))
   pub stays : (l : ℕ) (is : List ℕ) → l < labelsIn (p .shape) → Tuple (p .shape .branches) n is
-      → entry (p .shape) low (p .first) (seen (p .look1) l) is < n
+      → firstStep low p l is < n
 
 -- the part's table is there, if the record is an "exists"
 abbrev pub Led : List ℕ → Plan → Type 0

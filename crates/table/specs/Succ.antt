@@ -10,8 +10,8 @@ use lib.Bits.{bitOr}
 use lib.Dec.{eqb}
 use lib.ListN.{take, getD, replicate}
 use Rattle.layout.specs.Shape.{Shaped, shareOf}
-use Rattle.words.specs.Word.{mem, wordOf, any}
-use Rattle.table.specs.Entry.{seen, Step, off, through, entry, on}
+use Rattle.words.specs.Word.{mem, wordWhere, any}
+use Rattle.table.specs.Entry.{seen, Step, off, on, stepIn}
 use Rattle.table.specs.declared.plan.Plan.{Plan}
 use Rattle.table.specs.declared.plan.Kind.{Kind}
 use Rattle.table.specs.declared.plan.Kind.the-variants.{Subset, Single, Child1, Child2, Root, Not, Or, And, Exists}
@@ -46,7 +46,7 @@ hitSet f l m x y q i = mem i x && any (hitRow f l m y q i) 64
 
 -- the states that follow a member of each set, with the bound bit cleared or set
 unfoldable pub existsCode : Step → ℕ → Step
-existsCode f w l xs = wordOf (λ (q : ℕ). choice (hit f (off w l) (on w l) q) xs) 64
+existsCode f w l xs = wordWhere (λ (q : ℕ). choice (hit f (off w l) (on w l) q) xs) 64
 
 -- the set s with the states that follow members of it at k branches under label 0, with the bound bit cleared or set
 abbrev pub closer : ℕ → Step → ℕ → ℕ → ℕ
@@ -139,10 +139,10 @@ looksOf Exists wx wy f g = off wx f
 
 -- the steps of a plan's parts, from their tables
 abbrev pub firstStep : List ℕ → Plan → Step
-firstStep low p = through (p .look1) (entry (p .shape) low (p .first))
+firstStep low p = stepIn (p .shape) low (p .table1) (p .look1)
 
 abbrev pub secondStep : List ℕ → Plan → Step
-secondStep low p = through (p .look2) (entry (p .shape) low (p .second))
+secondStep low p = stepIn (p .shape) low (p .table2) (p .look2)
 
 unfoldable pub successorOf : List ℕ → Plan → Step
 successorOf low p l xs = kindCode (p .kind) (firstStep low p) (secondStep low p) (p .wx) (p .wy) l xs
@@ -169,15 +169,15 @@ startOf low p = startCode (p .kind) (p .shape .branches) (firstStep low p) (p .w
 -- the weights of a plan's bits and the places of its parts' tables are in range
 pub record Ranged (p : Plan) : Type 0 where
   pub shape : Shaped (p .shape)
-  pub first-small : p .first < 4294967296
-  pub second-small : p .second < 4294967296
+  pub table1-small : p .table1 < 4294967296
+  pub table2-small : p .table2 < 4294967296
   pub wx-pos : 0 < p .wx
   pub wx-small : p .wx ≤ 128
   pub wy-pos : 0 < p .wy
   pub wy-small : p .wy ≤ 128
 
 -- and its share is within a workspace of n bytes, and two labels that it does not tell apart have the same successors
-pub record Room (p : Plan) (n : ℕ) : Type 0 where
+pub record PlanRoom (p : Plan) (n : ℕ) : Type 0 where
   pub ranged : Ranged p
   pub share : p .base + shareOf (p .shape) ≤ n
   pub blind : (low : List ℕ) (l : ℕ) (xs : List ℕ) → successorOf low p (seen (p .looks) l) xs ≡ successorOf low p l xs

@@ -4,7 +4,7 @@ ghost use Prim.Native.Nat.{_≤_, _<_};
 ghost use mathlib.Core.List.{[], _∷_};
 ghost use lib.ListN.{getD};
 ghost use Rattle.layout.specs.Shape.{Shaped, labelsIn};
-ghost use Rattle.table.specs.Entry.{Within, entry, off};
+ghost use Rattle.table.specs.Entry.{Within, entry, stepIn, off};
 use layout::Shape;
 
 // The byte at k, and 0 past the end.
@@ -42,6 +42,16 @@ pub fn entry_within(low: &[u8], sh: Shape, a: usize, l: usize, i: usize, j: usiz
 {
     let first = a + layout::place(sh, l, 0, 0);
     wide(low[first + layout::place(sh, 0, i, j)])
+}
+
+// The step of the machine whose table starts at a, for label l and states i and j: the entry at the label with no bit but those that it
+// looks at.
+pub fn step_in(low: &[u8], sh: Shape, a: usize, looks: usize, l: usize, i: usize, j: usize) -> usize
+    requires { ⌜ Within sh (now low) a ⌝ }
+    requires { ⌜ (l < labelsIn sh) × (i < sh .ceiling) × (j < sh .ceiling) ⌝ }
+    ensures { λ r. ⌜ r ≡ stepIn sh (now (low .entry)) a looks l (i ∷ j ∷ []) ⌝ }
+{
+    entry_within(low, sh, a, l & looks, i, j) as usize
 }
 
 // The label l with the bit of weight w cleared.

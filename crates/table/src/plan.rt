@@ -28,8 +28,8 @@ pub enum Kind {
 // labels with no other bit: the record does not tell any other label from one of these.
 pub struct Plan {
     pub kind: Kind,
-    pub first: usize,
-    pub second: usize,
+    pub table1: usize,
+    pub table2: usize,
     pub wx: usize,
     pub wy: usize,
     pub shape: Shape,

@@ -7,9 +7,9 @@ ghost use Prim.Native.Nat.{ℕ, _≤_, _<_};
 ghost use lib.ListN.{getD};
 ghost use Rattle.layout.specs.Shape.{Shaped, labelsIn};
 ghost use Rattle.words.specs.Word.{Below, mem, any};
-ghost use Rattle.table.specs.Rows.{Inside, Full, Readable, Ready, hitColumn, unionOf, Follows, Serves, UnionsUpTo};
+ghost use Rattle.table.specs.Rows.{Inside, FullRows, Readable, RowsReady, hitColumn, unionOf, Follows, Serves, UnionsUpTo};
 ghost use Rattle.table.specs.Succ.{atomCode, tabled, hit, hitRow, hitSet, pairCode, existsCode, existsStart, firstStep, successorOf, Ranged};
-ghost use Rattle.table.specs.Entry.{Within, entry, through};
+ghost use Rattle.table.specs.Entry.{Within, entry, stepIn};
 use crate::atoms::child1_at;
 use crate::atoms::child2_at;
 use crate::atoms::root_at;
@@ -87,8 +87,8 @@ fn fill(
 )
     requires { ⌜ Readable sh (now low) a l m s ⌝ }
     requires { ⌜ Below (sh .ceiling) seen ⌝ }
-    requires { ⌜ Full (now left) (now right) ⌝ }
-    ensures { λ _. ⌜ Full (now (left .exit)) (now (right .exit)) ⌝ }
+    requires { ⌜ FullRows (now left) (now right) ⌝ }
+    ensures { λ _. ⌜ FullRows (now (left .exit)) (now (right .exit)) ⌝ }
     ensures { λ _. ⌜ ((t : ℕ) → mem t seen ≡ true → Follows (entry sh (now (low .entry)) a) l m s t (now (left .exit)) (now (right .exit))) ⌝ }
 {
     let mut rest = seen;
@@ -143,8 +143,8 @@ fn unions(
     right: &mut [u64; 64],
 )
     requires { ⌜ k < 64 ⌝ }
-    requires { ⌜ Full (now left) (now right) ⌝ }
-    ensures { λ _. ⌜ Full (now (left .exit)) (now (right .exit)) ⌝ }
+    requires { ⌜ FullRows (now left) (now right) ⌝ }
+    ensures { λ _. ⌜ FullRows (now (left .exit)) (now (right .exit)) ⌝ }
     ensures { λ _. ⌜ UnionsUpTo k (now (lefts .entry)) (now (rights .entry)) (now (sets .entry)) (now (left .exit)) (now (right .exit)) ⌝ }
 {
     let mut i = 0;
@@ -185,7 +185,7 @@ pub fn exists_start(low: &[u8], p: Plan) -> u64
     let mut s: u64 = 1;
     let mut d: usize = 0;
     while d < 64 {
-        let t = union(s, followers(low, shape, p.first, 0, p.wx & p.look1, s));
+        let t = union(s, followers(low, shape, p.table1, 0, p.wx & p.look1, s));
         if t == s {
             return s;
         }
@@ -208,10 +208,10 @@ fn exists_rows(
     left: &mut [u64; 64],
     right: &mut [u64; 64],
 )
-    requires { ⌜ Ready sh (now low) a w l (now sets) k ⌝ }
-    requires { ⌜ Full (now left) (now right) ⌝ }
-    ensures { λ _. ⌜ Full (now (left .exit)) (now (right .exit)) ⌝ }
-    ensures { λ _. ⌜ Serves (existsCode (through f (entry sh (now (low .entry)) a)) w) l (now (sets .entry)) k (now (left .exit)) (now (right .exit)) ⌝ }
+    requires { ⌜ RowsReady sh (now low) a w l (now sets) k ⌝ }
+    requires { ⌜ FullRows (now left) (now right) ⌝ }
+    ensures { λ _. ⌜ FullRows (now (left .exit)) (now (right .exit)) ⌝ }
+    ensures { λ _. ⌜ Serves (existsCode (stepIn sh (now (low .entry)) a f) w) l (now (sets .entry)) k (now (left .exit)) (now (right .exit)) ⌝ }
 {
     let off = cleared(w, l);
     let on = off + w;
@@ -246,7 +246,7 @@ fn pair_code(
 ) -> u64
     requires { ⌜ Shaped sh ⌝ }
     requires { ⌜ (l < 256) × (a < 4294967296) × (b < 4294967296) ⌝ }
-    ensures { λ r. ⌜ r ≡ pairCode (through f (entry sh (now (low .entry)) a)) (through g (entry sh (now (low .entry)) b)) l (x ∷ y ∷ []) ⌝ }
+    ensures { λ r. ⌜ r ≡ pairCode (stepIn sh (now (low .entry)) a f) (stepIn sh (now (low .entry)) b g) l (x ∷ y ∷ []) ⌝ }
 {
     let first = entry_at(
         low,
@@ -276,9 +276,9 @@ fn pair_rows(
 )
     requires { ⌜ Shaped sh ⌝ }
     requires { ⌜ (l < 256) × (a < 4294967296) × (b < 4294967296) × (k < 64) ⌝ }
-    requires { ⌜ Full (now left) (now right) ⌝ }
-    ensures { λ _. ⌜ Full (now (left .exit)) (now (right .exit)) ⌝ }
-    ensures { λ _. ⌜ Serves (pairCode (through f (entry sh (now (low .entry)) a)) (through g (entry sh (now (low .entry)) b)))
+    requires { ⌜ FullRows (now left) (now right) ⌝ }
+    ensures { λ _. ⌜ FullRows (now (left .exit)) (now (right .exit)) ⌝ }
+    ensures { λ _. ⌜ Serves (pairCode (stepIn sh (now (low .entry)) a f) (stepIn sh (now (low .entry)) b g))
         l (now (codes .entry)) k (now (left .exit)) (now (right .exit)) ⌝ }
 {
     let new = codes[k];
@@ -318,8 +318,8 @@ fn atom_rows(
     right: &mut [u64; 64],
 )
     requires { ⌜ (0 < wx) × (0 < wy) × (k < 64) ⌝ }
-    requires { ⌜ Full (now left) (now right) ⌝ }
-    ensures { λ _. ⌜ Full (now (left .exit)) (now (right .exit)) ⌝ }
+    requires { ⌜ FullRows (now left) (now right) ⌝ }
+    ensures { λ _. ⌜ FullRows (now (left .exit)) (now (right .exit)) ⌝ }
     ensures { λ _. ⌜ Serves (tabled (atomCode kind) wx wy) l (now (codes .entry)) k (now (left .exit)) (now (right .exit)) ⌝ }
 {
     let bits = l / wx % 2 * 32 + l / wy % 2 * 16;
@@ -345,15 +345,15 @@ pub fn rows_of(
 )
     requires { ⌜ Ranged p ⌝ }
     requires { ⌜ (l < labelsIn (p .shape)) × (k < 64) ⌝ }
-    requires { ⌜ (p .kind ≡ Kind.Exists → Ready (p .shape) (now low) (p .first) (p .wx) l (now codes) k) ⌝ }
-    requires { ⌜ Full (now left) (now right) ⌝ }
-    ensures { λ _. ⌜ Full (now (left .exit)) (now (right .exit)) ⌝ }
+    requires { ⌜ (p .kind ≡ Kind.Exists → RowsReady (p .shape) (now low) (p .table1) (p .wx) l (now codes) k) ⌝ }
+    requires { ⌜ FullRows (now left) (now right) ⌝ }
+    ensures { λ _. ⌜ FullRows (now (left .exit)) (now (right .exit)) ⌝ }
     ensures { λ _. ⌜ Serves (successorOf (now (low .entry)) p) l (now (codes .entry)) k (now (left .exit)) (now (right .exit)) ⌝ }
 {
     let kind = p.kind;
     let sh = p.shape;
-    let a = p.first;
-    let b = p.second;
+    let a = p.table1;
+    let b = p.table2;
     let f = p.look1;
     let g = p.look2;
     let wx = p.wx;

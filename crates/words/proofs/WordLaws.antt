@@ -2,7 +2,7 @@
 use Rattle.words.proofs.Vocabulary.{ℕ, _<_, _+_, _*_, suc, _%_, zero, _^_, _/_, suc-le-suc, zero-le, max, min, Bool, _||_, true, false, _&&_, _≡_, _∙_}
 use Rattle.words.proofs.Vocabulary.{refl, sym, ap, fun-ext, digits-div, digits-mod, bitOr, bitAnd, and-step, or-step, trailingZeros, under, eqb}
 use Rattle.words.proofs.Vocabulary.{eqb·suc-suc, eqb·suc-zero, eqb·zero-suc, shr-shr, le-of-suc-le-suc, not-suc-le-zero, pow-suc, arith}
-use Rattle.words.specs.Word.{mem, digit, wordOf}
+use Rattle.words.specs.Word.{mem, digit, wordWhere}
 
 -- what holds of 0 and 1 holds of a digit
 one-digit : (P : ℕ → Type 0) → P 0 → P 1 → (x : ℕ) → x < 2 → P x
@@ -76,11 +76,11 @@ pub digit-mem : (x : ℕ) → x < 2 → digit (eqb x 1) ≡ x
 digit-mem x h = one-digit (λ x. digit (eqb x 1) ≡ x) refl refl x h
 
 -- a word is settled by its members
-pub word-ext : (k n : ℕ) (f : ℕ → Bool) → n < 2 ^ k → ((q : ℕ) → q < k → mem q n ≡ f q) → n ≡ wordOf f k
-unfolding mem wordOf
+pub word-ext : (k n : ℕ) (f : ℕ → Bool) → n < 2 ^ k → ((q : ℕ) → q < k → mem q n ≡ f q) → n ≡ wordWhere f k
+unfolding mem wordWhere
 word-ext zero n f h all = omega arith
 word-ext (suc k) n f h all =
-    let a : n / 2 ≡ wordOf (λ (q : ℕ). f (suc q)) k =
+    let a : n / 2 ≡ wordWhere (λ (q : ℕ). f (suc q)) k =
     word-ext k (n / 2) (λ (q : ℕ). f (suc q)) (omega (arith, pow-suc 2 k)) (λ q l. all (suc q) (suc-le-suc l)) in
     let b : n % 2 ≡ digit (f zero) = sym (digit-mem (n % 2) (omega arith)) ∙ ap digit (all zero (suc-le-suc zero-le)) in
     omega arith
@@ -93,17 +93,17 @@ eqb-digit : (b : Bool) → eqb (digit b) 1 ≡ b
 eqb-digit true = refl
 eqb-digit false = refl
 
-pub word-mem : (k q : ℕ) (f : ℕ → Bool) → q < k → mem q (wordOf f k) ≡ f q
-unfolding mem wordOf
+pub word-mem : (k q : ℕ) (f : ℕ → Bool) → q < k → mem q (wordWhere f k) ≡ f q
+unfolding mem wordWhere
 word-mem zero q f h = absurd (not-suc-le-zero h)
-word-mem (suc k) zero f h = ap (λ (n : ℕ). eqb n 1) (digits-mod (wordOf (λ (q : ℕ). f (suc q)) k) (digit-lt (f zero))) ∙ eqb-digit (f zero)
+word-mem (suc k) zero f h = ap (λ (n : ℕ). eqb n 1) (digits-mod (wordWhere (λ (q : ℕ). f (suc q)) k) (digit-lt (f zero))) ∙ eqb-digit (f zero)
 word-mem (suc k) (suc q) f h =
-    ap (mem q) (digits-div (wordOf (λ (q : ℕ). f (suc q)) k) (digit-lt (f zero))) ∙ word-mem k q (λ (q : ℕ). f (suc q)) (le-of-suc-le-suc h)
+    ap (mem q) (digits-div (wordWhere (λ (q : ℕ). f (suc q)) k) (digit-lt (f zero))) ∙ word-mem k q (λ (q : ℕ). f (suc q)) (le-of-suc-le-suc h)
 
-pub word-lt : (k : ℕ) (f : ℕ → Bool) → wordOf f k < 2 ^ k
-unfolding wordOf
+pub word-lt : (k : ℕ) (f : ℕ → Bool) → wordWhere f k < 2 ^ k
+unfolding wordWhere
 word-lt zero f = omega arith
 word-lt (suc k) f = let h = word-lt k (λ (q : ℕ). f (suc q)) in omega (arith, pow-suc 2 k, digit-lt (f zero))
 
-pub word-cong : (f g : ℕ → Bool) (k : ℕ) → ((q : ℕ) → f q ≡ g q) → wordOf f k ≡ wordOf g k
-word-cong f g k h = ap (λ (e : ℕ → Bool). wordOf e k) (fun-ext h)
+pub word-cong : (f g : ℕ → Bool) (k : ℕ) → ((q : ℕ) → f q ≡ g q) → wordWhere f k ≡ wordWhere g k
+word-cong f g k h = ap (λ (e : ℕ → Bool). wordWhere e k) (fun-ext h)

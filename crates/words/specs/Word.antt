@@ -16,9 +16,9 @@ digit true = 1
 digit false = 0
 
 -- the word of the numbers below k that pass the test
-unfoldable pub wordOf : (ℕ → Bool) → ℕ → ℕ
-wordOf f zero = 0
-wordOf f (suc k) = wordOf (λ (q : ℕ). f (suc q)) k * 2 + digit (f zero)
+unfoldable pub wordWhere : (ℕ → Bool) → ℕ → ℕ
+wordWhere f zero = 0
+wordWhere f (suc k) = wordWhere (λ (q : ℕ). f (suc q)) k * 2 + digit (f zero)
 
 -- does a number below n pass the test
 unfoldable pub any : (ℕ → Bool) → ℕ → Bool

@@ -1,7 +1,8 @@
 -- `build_all` meets its contract: the marks are those of the records that are reached. Assumes nothing.
-use Rattle.words.proofs.Vocabulary.{ℕ, _<_, needs, getD, arith}
+use Rattle.words.proofs.Vocabulary.{ℕ, _<_, refl, needs, getD, arith}
 use Rattle.records.specs.Rule.{noDecoded}
 use Rattle.building.specs.Named.{usedIn, InOrder, marked}
+use Rattle.building.specs.Build.{machinesIn}
 use Rattle.building.proofs.Marks.{used-closed}
 use Rattle.building.proofs.Nexts.{made-cong, untouched-cong}
 use Rattle.building.proofs.build_all.Statement.{statement}
@@ -14,19 +15,22 @@ in-order c r h =
 
 build-marked-requires : tie.Need-build-marked-requires
 build-marked-requires c κs =
-    let s = c .before .before .before .before in
+    let b = c .before .before .before .before .before in
+    let s = b .before .before in
     let a = s .args in
-    let v = c .before .before .reached in
-    (s .pre .0 .1, (s .pre .1, (v .ensures .end, used-closed (a .records) (a .m) (s .pre .0 .1) (in-order s) (v .result) (v .ensures))))
+    let v = b .reached in
+    let closed = used-closed (a .records) (a .m) (s .pre .0 .1) (in-order s) (v .result) (v .ensures) in
+    (s .pre .0 .1, (record { counts-long = refl; accepts-long = refl; looks-long = refl }, (s .pre .1, (v .ensures .end, closed))))
 
 returns : tie.Need-returns
 returns c =
-    let s = c .before .before .before .before .before .before .before in
-    let a = s .args in
-    let u = c .before .before .before .before .before .reached in
-    let v = c .before .before .build-marked in (
-      made-cong (a .records) (marked (u .result)) (usedIn (a .records) (a .m)) (a .s) (a .m) (v .result) (v .last .0) (u .ensures .below) (v .ensures .0),
-      (v .ensures .1 .0, untouched-cong (marked (u .result)) (usedIn (a .records) (a .m)) (u .ensures .below) (v .ensures .1 .1)),
+    let b = c .before .before .before .before .before .before .before .before in
+    let a = b .before .before .args in
+    let u = b .reached in
+    let v = c .before .before .build-marked in
+    let t = machinesIn (v .last .1 .0) (v .last .1 .1 .0) (v .last .1 .1 .1 .0) (v .result) in (
+      made-cong (a .records) (marked (u .result)) (usedIn (a .records) (a .m)) (a .s) (a .m) t (v .last .0) (u .ensures .below) (v .ensures .0),
+      (v .ensures .1 .0, untouched-cong (marked (u .result)) (usedIn (a .records) (a .m)) (u .ensures .below) (v .ensures .1 .1 .0)),
     )
 
 reached-requires : tie.Need-reached-requires

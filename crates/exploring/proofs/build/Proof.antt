@@ -2,7 +2,7 @@
 use Rattle.words.proofs.Vocabulary.{ℕ, _≤_, _-_, _≡_, _∙_, refl, sym, subst, inl, inr, List, [], length, take, replicate, le-leb, arith}
 use Rattle.layout.specs.Shape.{labelsIn, nil}
 use Rattle.layout.proofs.Places.{id-length}
-use Rattle.table.specs.Succ.{Room, succIn}
+use Rattle.table.specs.Succ.{PlanRoom, succIn}
 use Rattle.table.specs.declared.plan.Plan.{Plan}
 use Rattle.exploring.specs.Explore.{rings}
 use Rattle.exploring.specs.Filling.{Guided, listed, Visited}
@@ -21,7 +21,7 @@ first start = record { codes = replicate 64 start; count = 1 }
 record Turn (ws₀ ws : List ℕ) (p : Plan) (start : ℕ) (b : Builder) (k : ℕ) : Type 0 where
   pub within : k ≤ p .shape .ceiling
   pub long : length ws ≡ length ws₀
-  pub room : Room p (length ws)
+  pub room : PlanRoom p (length ws)
   pub full : length (b .codes) ≡ 64
   pub found : k ≤ b .count
   pub guided : b .count ≤ p .shape .ceiling → Guided (take (p .base) ws₀) p (listed (p .shape .ceiling) b)
@@ -68,7 +68,7 @@ loop-again c =
     record {
       within = omega arith;
       long = v .kept .0 ∙ i .long;
-      room = subst (Room p) (sym (v .kept .0)) (i .room);
+      room = subst (PlanRoom p) (sym (v .kept .0)) (i .room);
       full = full;
       found = omega (arith, turn .more);
       guided = λ few₁.

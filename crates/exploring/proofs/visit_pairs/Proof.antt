@@ -3,9 +3,9 @@ use Rattle.words.proofs.Vocabulary.{ℕ, _≤_, _<_, _+_, _-_, _≡_, _∙_, re
 use Rattle.layout.specs.Shape.{labelsIn, Each, nil, cons}
 use Rattle.layout.proofs.Places.{id-length, each-append, tuple-up, pair-in}
 use Rattle.table.specs.Rows.{Serves}
-use Rattle.table.specs.Succ.{Room, succIn}
+use Rattle.table.specs.Succ.{PlanRoom, succIn}
 use Rattle.table.specs.declared.plan.Plan.{Plan}
-use Rattle.exploring.specs.Explore.{Visit, Distinct, codesAt, over, row}
+use Rattle.exploring.specs.Explore.{Visit, DistinctCodes, codesAt, over, row}
 use Rattle.exploring.specs.Filling.{Noted, Visited, Visitable}
 use Rattle.exploring.specs.declared.Builder.{Builder}
 use Rattle.exploring.proofs.Fill.{can-put, PutIn, entered, visited-idle, visited-next}
@@ -26,7 +26,7 @@ record Turn (ws₀ ws left right : List ℕ) (p : Plan) (b r : Builder) (l k : �
   pub serves : Serves (succIn ws₀ p) l (b .codes) k left right
   pub sized : Sized (p .shape .ceiling) b
   pub long : length ws ≡ length ws₀
-  pub room : Room p (length ws)
+  pub room : PlanRoom p (length ws)
   pub full : length (r .codes) ≡ 64
   pub all : Each (Proper (labelsIn (p .shape))) vs
   pub visited : Visited (succIn ws₀ p) p vs b r ws₀ ws
@@ -34,11 +34,11 @@ record Turn (ws₀ ws left right : List ℕ) (p : Plan) (b r : Builder) (l k : �
 -- the next visit, of states i and j up to k
 module _ {ws₀ ws left right : List ℕ} {p : Plan} {b r : Builder} {l k : ℕ} {vs : List Visit} (t : Turn ws₀ ws left right p b r l k vs) (i j : ℕ)
     (hi : i ≤ k) (hj : j ≤ k) where
-  can-note : Room p (length ws) × (((l < labelsIn (p .shape)) × (i < r .count) × (j < r .count) × (length (r .codes) ≡ 64))
-      × (r .count ≤ p .shape .ceiling → Distinct (take (r .count) (r .codes))))
+  can-note : PlanRoom p (length ws) × (((l < labelsIn (p .shape)) × (i < r .count) × (j < r .count) × (length (r .codes) ≡ 64))
+      × (r .count ≤ p .shape .ceiling → DistinctCodes (take (r .count) (r .codes))))
   can-note =
       let there : k < r .count = omega (arith, t .visited .more, t .start .state) in
-      let apart : r .count ≤ p .shape .ceiling → Distinct (take (r .count) (r .codes)) = λ few.
+      let apart : r .count ≤ p .shape .ceiling → DistinctCodes (take (r .count) (r .codes)) = λ few.
       visited-apart (t .sized) (record { full = t .full; top = t .sized .top; few = few }) (t .all) (t .visited) (t .start .distinct) in
       (t .room, ((t .start .label, omega arith, omega arith, t .full), apart))
 
@@ -55,7 +55,7 @@ module _ {ws₀ ws left right : List ℕ} {p : Plan} {b r : Builder} {l k : ℕ}
         serves = t .serves;
         sized = t .sized;
         long = same ∙ t .long;
-        room = subst (Room p) (sym same) (t .room);
+        room = subst (PlanRoom p) (sym same) (t .room);
         full = ⊎-elim (λ w. w .1) (λ w. rw (w .1) (t .full)) put;
         all = each-append (t .all) (cons (proper (t .start .label)) nil);
         visited = visited-next (t .visited) (entered (t .room) (t .room .blind (take (p .base) ws₀)) (t .start .label) (t .start .own) there

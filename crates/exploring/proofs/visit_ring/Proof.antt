@@ -4,8 +4,8 @@ use Rattle.words.proofs.Vocabulary.{ℕ, _≤_, _<_, _+_, _-_, _≡_, _∙_, re
 use Rattle.layout.specs.Shape.{labelsIn, nil}
 use Rattle.layout.proofs.Places.{id-length}
 use Rattle.table.specs.Entry.{seen}
-use Rattle.table.specs.Rows.{Full, Ready}
-use Rattle.table.specs.Succ.{Room, succIn}
+use Rattle.table.specs.Rows.{FullRows, RowsReady}
+use Rattle.table.specs.Succ.{PlanRoom, succIn}
 use Rattle.table.specs.declared.plan.Kind.the-variants.{Exists}
 use Rattle.table.specs.declared.plan.Plan.{Plan}
 use Rattle.exploring.specs.Explore.{row, ring}
@@ -26,8 +26,8 @@ record Turn (ws₀ ws left right : List ℕ) (p : Plan) (b r : Builder) (k label
   pub sized : Sized (p .shape .ceiling) b
   pub guided : Guided (take (p .base) ws₀) p (listed (p .shape .ceiling) b)
   pub long : length ws ≡ length ws₀
-  pub room : Room p (length ws)
-  pub rows : Full left right
+  pub room : PlanRoom p (length ws)
+  pub rows : FullRows left right
   pub full : length (r .codes) ≡ 64
   pub visited : Visited (succIn ws₀ p) p (ring k l) b r ws₀ ws
 
@@ -49,7 +49,7 @@ module _ {ws₀ ws left right : List ℕ} {p : Plan} {b r : Builder} {k labels l
   guided : Guided low p (listed (p .shape .ceiling) r)
   guided = ring-guided low p (t .room .ranged .shape) k l (t .sized) sized (omega (arith, hl)) (t .visited) (t .guided)
 
-  ready : p .kind ≡ Exists → Ready (p .shape) (take (p .base) ws) (p .first) (p .wx) l (r .codes) k
+  ready : p .kind ≡ Exists → RowsReady (p .shape) (take (p .base) ws) (p .table1) (p .wx) l (r .codes) k
   ready e = rw (t .visited .kept .low) (guided-ready low p (t .room .ranged .shape) sized guided (t .room .ranged) l k hl there e)
 
   can-visit : l ≤ seen (p .looks) l → Visitable p r l k
@@ -107,7 +107,7 @@ loop-again c =
     let i = h .inv in
     let new = c .if2 in
     let a = c .before .before .before .before .before .before .before .args in
-    let turn : (length (new .ws) ≡ length (h .ws)) × Full (new .left) (new .right) × (length (new .r .codes) ≡ 64)
+    let turn : (length (new .ws) ≡ length (h .ws)) × FullRows (new .left) (new .right) × (length (new .r .codes) ≡ 64)
     × Visited (succIn (a .ws .now) (a .p)) (a .p) (row (h .l) (a .k) (a .k + 1)) (h .r) (new .r) (h .ws) (new .ws) =
     ⊎-elim
     (λ w.
@@ -125,7 +125,7 @@ loop-again c =
       sized = i .sized;
       guided = i .guided;
       long = turn .0 ∙ i .long;
-      room = subst (Room (a .p)) (sym (turn .0)) (i .room);
+      room = subst (PlanRoom (a .p)) (sym (turn .0)) (i .room);
       rows = turn .1;
       full = turn .2;
       visited = ring-next (a .k) (h .l) (i .visited) (turn .3);

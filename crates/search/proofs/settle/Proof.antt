@@ -36,27 +36,24 @@ array-read-wide c =
     let turn = c .before .before .before .before .before .before .before in
     let wh = turn .before .before .pre .0 in
     let r = round-range wh (turn .loop .inv) (search) (c .before .before .scan .ensures) (search) in
-    omega (arith, r .first-in, turn .loop .inv .high, wh .within, wh .shape .ceiling)
+    omega (arith, r .first-in, turn .loop .inv .high, wh .within, wh .inside .shape .ceiling)
 
 array-read-wide-2 : tie.Need-array-read-wide-2 Inv-loop μ-loop
 array-read-wide-2 c =
     let turn = c .before .before .before .before .before .before .before .before in
     let wh = turn .before .before .pre .0 in
     let r = round-range wh (turn .loop .inv) (search) (c .before .before .before .scan .ensures) (search) in
-    omega (arith, r .second-in, turn .loop .inv .high, wh .within, wh .shape .ceiling)
+    omega (arith, r .second-in, turn .loop .inv .high, wh .within, wh .inside .shape .ceiling)
 
-cell-requires : tie.Need-cell-requires Inv-loop μ-loop
-cell-requires c κs =
+step-in-requires : tie.Need-step-in-requires Inv-loop μ-loop
+step-in-requires c κs =
     let scan = c .before .before .before .before .scan in
     let turn = c .before .before .before .before .before .before .before .before .before in
     let wh = turn .before .before .pre .0 in
-    record {
-      shape = wh .shape;
-      whole = wh .whole;
-      label = round-range wh (turn .loop .inv) (search) (scan .ensures) (search) .label-in;
-      first = omega (arith, wh .within, turn .loop .inv .tame (scan .result .first));
-      second = omega (arith, wh .within, turn .loop .inv .tame (scan .result .second));
-    }
+    let label = round-range wh (turn .loop .inv) (search) (scan .ensures) (search) .label-in in
+    let first = turn .loop .inv .tame (scan .result .first) in
+    let second = turn .loop .inv .tame (scan .result .second) in
+    (wh .inside, (label, omega (arith, wh .within), omega (arith, wh .within)))
 
 narrow-requires : tie.Need-narrow-requires Inv-loop μ-loop
 narrow-requires c κs =
@@ -64,7 +61,7 @@ narrow-requires c κs =
     let scan = c .before .before .before .before .before .scan in
     let more = c .before .before .before .before .before .before .before .before .before .loop-test .taken in
     round-small (turn .before .before .pre .0) (turn .loop .inv) more (scan .ensures) (search)
-    (c .before .before .wide .ensures) (c .before .wide2 .ensures) (c .cell .ensures)
+    (c .before .before .wide .ensures .0) (c .before .wide2 .ensures .0) (c .step-in .ensures)
 
 array-write-done-2 : tie.Need-array-write-done-2 Inv-loop μ-loop
 array-write-done-2 c = narrow-requires (c .before) tt
@@ -80,7 +77,8 @@ returns-3 c =
     let more = cell .before .before .before .before .before .before .before .before .before .loop-test .taken in
     let scan = cell .before .before .before .before .before .scan .ensures in
     let new = cell .before .before .before .before .if1 .left in
-    let q = round-target wh (turn .loop .inv) more scan new (cell .before .before .wide .ensures) (cell .before .wide2 .ensures) (cell .cell .ensures) in
+    let x = cell .before .before .wide .ensures .0 in
+    let q = round-target wh (turn .loop .inv) more scan new x (cell .before .wide2 .ensures .0) (cell .step-in .ensures) in
     rw (c .ended3 .ensures)
     (round-shown′ wh (turn .loop .inv) more scan new q (cell .before .before .before .if2 .left)
     (sym (c .before .before .has .ensures) ∙ c .before .if3 .taken))
@@ -93,7 +91,8 @@ loop-again c =
     let more = cell .before .before .before .before .before .before .before .before .before .loop-test .taken in
     let scan = cell .before .before .before .before .before .scan .ensures in
     let new = cell .before .before .before .before .if1 .left in
-    let q = round-target wh (turn .loop .inv) more scan new (cell .before .before .wide .ensures) (cell .before .wide2 .ensures) (cell .cell .ensures) in
+    let x = cell .before .before .wide .ensures .0 in
+    let q = round-target wh (turn .loop .inv) more scan new x (cell .before .wide2 .ensures .0) (cell .step-in .ensures) in
     round-more wh (turn .loop .inv) more scan new q (c .before .before .narrow .ensures) (cell .before .before .before .if2 .left)
     (sym (c .before .has .ensures) ∙ c .if3 .left)
 
@@ -107,7 +106,7 @@ settle-spec =
     tie.close
     (tie.spec
     Inv-loop μ-loop (λ c. search needs) loop-holds scan-requires (λ c κs. search needs) returns (λ c κs. search needs) returns-2
-    array-read-wide (λ c κs. search needs) array-read-wide-2 (λ c κs. search needs) cell-requires (λ c. search needs) (λ c. search needs)
+    array-read-wide (λ c κs. search needs) array-read-wide-2 (λ c κs. search needs) step-in-requires (λ c. search needs) (λ c. search needs)
     (λ c. search needs) (λ c. search needs) (λ c. search needs) (λ c. search needs) narrow-requires (λ c. search needs) (λ c. search needs)
     (λ c. search needs) array-write-done-2 (λ c. search needs) has-requires (λ c κs. search needs) returns-3 (λ c. search needs) loop-again
     (λ c κs. search needs) returns-4)

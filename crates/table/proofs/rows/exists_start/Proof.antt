@@ -26,7 +26,7 @@ followers-requires c κs =
     let few = few-labels (a .p .shape) (s .pre .0 .shape) in
     let narrow = and-le-l (a .p .wx) (a .p .look1) in
     record {
-      table = record { shape = s .pre .0 .shape; small = s .pre .0 .first-small; share = i .share };
+      table = record { shape = s .pre .0 .shape; small = s .pre .0 .table1-small; share = i .share };
       first-label = omega arith;
       second-label = omega (arith, i .bit .is-label);
       states = λ q hq m. omega (arith, i .few, below q hq m);
