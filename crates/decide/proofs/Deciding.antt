@@ -1,11 +1,5 @@
 -- From what was built and found to decide's answer and the bytes in out. Assumes nothing.
-use Prim.Native.Nat.{ℕ, _+_, _-_, _≤_}
-use mathlib.Core.Path.{_≡_, refl, sym, ap, _∙_}
-use mathlib.Core.List.{List, _++_}
-use native.Mathlib.Nat.{mul-le-mul-right}
-use native.Mathlib.Omega.{arith}
-use lib.ListN.{length, take, drop}
-use lib.Seq.{length-take-le}
+use Rattle.words.proofs.Vocabulary.{ℕ, _+_, _-_, _≤_, _≡_, refl, sym, ap, _∙_, List, _++_, mul-le-mul-right, arith, length, take, drop, length-take-le}
 use Rattle.logic.specs.Tree.{Tree, positions}
 use Rattle.logic.specs.Claims.{refused14, shown, FirstOver}
 use Rattle.logic.specs.Search.{tree}

@@ -1,8 +1,5 @@
 -- What decide claims, in numbers. Assumes nothing.
-use Prim.Native.Nat.{ℕ}
-use mathlib.Core.Path.{refl}
-use mathlib.Core.List.{List}
-use native.Mathlib.Omega.{arith}
+use Rattle.words.proofs.Vocabulary.{ℕ, refl, List, arith}
 use Rattle.decide.specs.Decide.{ShowsShallow}
 use Rattle.decide.specs.Numbers.{verdictNumbers, ShallowInNumbers}
 use Rattle.decide.specs.declared.Verdict.{Verdict}

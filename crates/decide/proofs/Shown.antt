@@ -1,9 +1,5 @@
 -- A4: the strip of a shown tree, as it stands in out, and the bound on the tree's depth; with it all that decide promises. Assumes nothing.
-use Prim.Native.Nat.{ℕ}
-use mathlib.Core.Path.{_≡_, refl, sym, ap, subst, _∙_}
-use mathlib.Core.List.{List}
-use native.Mathlib.Omega.{arith}
-use lib.ListN.{length, take, replicate}
+use Rattle.words.proofs.Vocabulary.{ℕ, _≡_, refl, sym, ap, subst, _∙_, List, arith, length, take, replicate}
 use Rattle.logic.specs.Tree.{Tree}
 use Rattle.logic.specs.Claims.{Outcome, refused14, shown, none, larger}
 use Rattle.logic.proofs.Answers.{decide-shallow, shown-earliest, shown-fits, shown-states}

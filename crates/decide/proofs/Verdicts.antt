@@ -1,10 +1,5 @@
 -- Decide's result and the buffers at its end, by the refusals; and demands 2 and 3 of them. Assumes nothing.
-use Prim.Native.Nat.{ℕ, _≤_}
-use mathlib.Core.Path.{_≡_, refl, sym, _∙_}
-use mathlib.Core.Logic.{⊎-elim}
-use mathlib.Core.List.{List}
-use native.Mathlib.Omega.{arith}
-use lib.ListN.{length, take, drop}
+use Rattle.words.proofs.Vocabulary.{ℕ, _≤_, _≡_, refl, sym, _∙_, ⊎-elim, List, arith, length, take, drop}
 use lib.Seq.{take-append-seam}
 use Rattle.logic.specs.Tree.{Tree}
 use Rattle.logic.specs.Claims.{Outcome, refused14, shown, none, larger}

@@ -16,7 +16,7 @@ use Rattle.logic.specs.Decide.{report, conclude, decideOf}
 use Rattle.bits.specs.Bits.{digits, bits, anySet, firstSet, bitLength, pack}
 use Rattle.rule_strip.specs.RuleStrip.{variablesOf, recordAt, recordsFrom, recordsOf, firstUse, secondUse, recordFault, recordsFault, headFault, ruleFault}
 use Rattle.tree_strip.specs.TreeStrip.{treeBits, treeStrip}
-use Rattle.rules.specs.Room.{ceilingRefusal, placesRefusal, workspaceRefusal, outRefusal}
+use Rattle.rules.specs.Room.{ceilingRefusal, placesRefusal, workspaceRefusal, workRefusal, outRefusal}
 use Rattle.decide.specs.Decide.{roomRefusal, decideRefusal, outcomeVerdict, outAfter, verdictOf, outOf}
 use Rattle.decide.specs.declared.Verdict.{Verdict}
 use Rattle.decide.specs.declared.Verdict.the-variants.{Shown, None, Larger, Refused}
@@ -45,7 +45,7 @@ front (Refused r) out = []
 -- with the longest workspace that can be asked for, and 320 bytes of out, none of them 0; whoever unfolds it has all that decide is defined by
 unfoldable pub answer : Question → Answer
 unfolding bits anySet firstSet bitLength recordAt recordsFrom recordsOf firstUse secondUse recordFault recordsFault
-    headFault ruleFault ceilingRefusal placesRefusal workspaceRefusal outRefusal roomRefusal decideRefusal outcomeVerdict outAfter verdictOf outOf
+    headFault ruleFault ceilingRefusal placesRefusal workspaceRefusal workRefusal outRefusal roomRefusal decideRefusal outcomeVerdict outAfter verdictOf outOf
     low bit downFrom allOf anyOf sumOf positions successorAt kindOf setLow
     withBit run elem below flat select outcomes successors add closure reach position numbered wordOf members projection table codedProduct build
     productTable projectionTable complementTable tableOf admit namesOf namedAfter mark marks isReached buildAll settled view lighter choose consider

@@ -5,18 +5,18 @@ use crate::Import;
 use crate::TextFault;
 use rule_strip::numbers::WrittenNumbers;
 
-// The token at which a text's refusal lies: the byte place where it starts, and its bytes.
-#[repr(C)]
-pub struct FaultNumbers {
-    pub refusal: u64,
-    pub start: u64,
-    pub length: u64,
-}
-
 pub fn written_numbers(w: Import) -> WrittenNumbers
     ensures { λ x. ⌜ x ≡ writtenNumbers w ⌝ }
 {
     match w {
+        Import::Refused(k) => WrittenNumbers {
+            refusal: k,
+            variables: 0,
+            records: 0,
+            length: 0,
+            place: 0,
+            strip: 0,
+        },
         Import::Written {
             variables,
             records,
@@ -29,15 +29,15 @@ pub fn written_numbers(w: Import) -> WrittenNumbers
             place: 0,
             strip: 0,
         },
-        Import::Refused(k) => WrittenNumbers {
-            refusal: k,
-            variables: 0,
-            records: 0,
-            length: 0,
-            place: 0,
-            strip: 0,
-        },
     }
+}
+
+// The token at which a text's refusal lies: the byte place where it starts, and its bytes.
+#[repr(C)]
+pub struct FaultNumbers {
+    pub refusal: u64,
+    pub start: u64,
+    pub length: u64,
 }
 
 pub fn fault_numbers(f: TextFault) -> FaultNumbers

@@ -1,11 +1,5 @@
 -- From an accepted rule strip and an accepted tree strip to judge's answer, and its claim. Assumes nothing.
-use Prim.Native.Nat.{ℕ}
-use mathlib.Core.Path.{_≡_, sym, _∙_}
-use mathlib.Core.Logic.{_⊎_, inl, inr, ⊎-elim}
-use mathlib.Core.Bool.{Bool, true, false}
-use mathlib.Core.List.{List}
-use native.Mathlib.Omega.{arith}
-use lib.ListN.{length}
+use Rattle.words.proofs.Vocabulary.{ℕ, _≡_, sym, _∙_, _⊎_, inl, inr, ⊎-elim, Bool, true, false, List, arith, length}
 use Rattle.logic.specs.Claims.{Judgement as Ruled, unbuilt, yes, no, FirstOver}
 use Rattle.logic.specs.Decide.{say, judgeOf}
 use Rattle.logic.proofs.Answers.{judge-judges, trimmed-iff}

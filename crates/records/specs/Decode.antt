@@ -10,8 +10,8 @@ use Rattle.table.specs.declared.plan.Kind.the-variants.{Subset, Single, Child1,
 use Rattle.records.specs.declared.Decoded.{Decoded}
 
 -- "variable 0 most significant": the weight of variable x's bit in an n-bit label; 1 for a number that is no variable
-abbrev pub weight : ℕ → ℕ → ℕ
-weight n x = 2 ^ (n - suc x)
+abbrev pub bitWeight : ℕ → ℕ → ℕ
+bitWeight n x = 2 ^ (n - suc x)
 
 -- the builder's kind of each op
 abbrev pub kindAt : ℕ → Kind
@@ -23,6 +23,6 @@ decodedOf n e = record {
   kind = kindAt (e .op);
   first = cond (eqb (e .op) 8) (e .second) (e .first);
   second = e .second;
-  wx = weight n (e .first);
-  wy = weight n (e .second);
+  wx = bitWeight n (e .first);
+  wy = bitWeight n (e .second);
 }

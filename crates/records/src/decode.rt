@@ -1,7 +1,7 @@
 // A record of a rule as the builder takes it.
 ghost use mathlib.Core.Path.{_≡_};
 ghost use Prim.Native.Nat.{_<_, _≤_};
-ghost use Rattle.records.specs.Decode.{weight, kindAt, decodedOf};
+ghost use Rattle.records.specs.Decode.{bitWeight, kindAt, decodedOf};
 use crate::Decoded;
 use table::plan::Kind;
 
@@ -24,7 +24,7 @@ fn kind_of(op: usize) -> Kind
 // The weight of variable x's bit in an n-bit label; 1 for a number that is no variable.
 fn weight_of(n: usize, x: usize) -> usize
     requires { ⌜ n ≤ 8 ⌝ }
-    ensures { λ r. ⌜ r ≡ weight n x ⌝ }
+    ensures { λ r. ⌜ r ≡ bitWeight n x ⌝ }
 {
     if x < n {
         return 1 << (n - 1 - x);

@@ -14,7 +14,7 @@ use Rattle.logic.proofs.Two.{two-branches, all-elem}
 use Rattle.logic.proofs.Builders.{of-agrees, of-subset, of-singleton, of-successor, of-root}
 use Rattle.table.specs.Succ.{tabled, ruleAt, subsetRule, singleRule, child1Rule, child2Rule, rootRule}
 use Rattle.table.proofs.Masks.{rule-bits}
-use Rattle.records.specs.Decode.{weight}
+use Rattle.records.specs.Decode.{bitWeight}
 use Rattle.refinement.proofs.Weights.{bit-is}
 
 abbrev Rule : Type 0
@@ -44,7 +44,7 @@ module _ (n x y m : ℕ) (rule : Rule) (f : Steps) (acc : ℕ → Bool) (few : m
 
   -- the builder's, from the atom's table
   abbrev A : Machine 2 ℕ
-  A = branching 0 (tabled (ruleAt rule) (weight n x) (weight n y)) acc
+  A = branching 0 (tabled (ruleAt rule) (bitWeight n x) (bitWeight n y)) acc
 
   rule-is : (u v a b : ℕ) → u < 2 → v < 2 → a < m → b < m → rule u v a b ≡ f (eqb u 1) (eqb v 1) (pairOf a b)
   unfolding agrees
@@ -56,9 +56,9 @@ module _ (n x y m : ℕ) (rule : Rule) (f : Steps) (acc : ℕ → Bool) (few : m
   step-is l s h k =
       let e : s one % 4 ≡ s one = omega arith in
       let d : s two % 4 ≡ s two = omega arith in
-      let u = l / weight n x % 2 in
-      let v = l / weight n y % 2 in
-      rw (bit-is n l x, bit-is n l y, rule-bits rule (weight n x) (weight n y) l (s one) (s two), e, d)
+      let u = l / bitWeight n x % 2 in
+      let v = l / bitWeight n y % 2 in
+      rw (bit-is n l x, bit-is n l y, rule-bits rule (bitWeight n x) (bitWeight n y) l (s one) (s two), e, d)
       (sym (rule-is u v (s one) (s two) (omega arith) (omega arith) h k ∙ ap (f (eqb u 1) (eqb v 1)) (two-branches s)))
 
   pub of-atom : Bounded n m M → (F : Formula 2) → MachineOf n F M → MachineOf n F A
@@ -68,7 +68,7 @@ module _ (n x y m : ℕ) (rule : Rule) (f : Steps) (acc : ℕ → Bool) (few : m
 -- the builder's atoms are machines of the atoms
 module _ (n x y : ℕ) (hx : x < n) where
   abbrev atomOf : Rule → (ℕ → Bool) → Machine 2 ℕ
-  atomOf rule acc = branching 0 (tabled (ruleAt rule) (weight n x) (weight n y)) acc
+  atomOf rule acc = branching 0 (tabled (ruleAt rule) (bitWeight n x) (bitWeight n y)) acc
 
   pub atom-single : MachineOf n (singleton x) (atomOf singleRule (λ q. eqb q 1))
   unfolding agrees allOf anyOf sumOf below downFrom

@@ -8,7 +8,7 @@ use Rattle.records.specs.Rule.{OfParts}
 use Rattle.building.specs.OneRecord.{Buildable}
 use Rattle.records.specs.declared.Decoded.{Decoded}
 use Rattle.table.proofs.Labels.{bit-of}
-use Rattle.records.specs.Decode.{weight, decodedOf}
+use Rattle.records.specs.Decode.{bitWeight, decodedOf}
 use Rattle.refinement.proofs.Upto.{lt-first, lt-both}
 
 abbrev Before : ℕ → Decoded → Type 0
@@ -33,7 +33,7 @@ choice : (v : Bool) (a b : ℕ) → a < 128 → b < 128 → cond v b a < 128
 choice true a b h k = k
 choice false a b h k = h
 
-weight-small : (n x : ℕ) → n ≤ 8 → weight n x ≤ 128
+weight-small : (n x : ℕ) → n ≤ 8 → bitWeight n x ≤ 128
 weight-small n x h = let k : n - suc x ≤ 7 = omega arith in omega (arith, pow-mono k)
 
 -- what the builder asks of record r, of m records in a workspace of len bytes

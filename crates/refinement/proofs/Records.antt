@@ -26,7 +26,7 @@ use Rattle.records.specs.declared.Decoded.{Decoded}
 use Rattle.exploring.proofs.Found.{Codes, Found, explore-found, explore-many, explore-closed}
 use Rattle.exploring.proofs.Place.{place-own}
 use Rattle.words.proofs.WordLaws.{word-mem}
-use Rattle.records.specs.Decode.{weight}
+use Rattle.records.specs.Decode.{bitWeight}
 use Rattle.refinement.proofs.Sets.{of-sets}
 
 -- the machine over codes of a record of kind k
@@ -177,6 +177,6 @@ module _ (n c : ℕ) (sh : Shaped (shapeOf n c)) where
 
   -- ---- "exists"
   pub some-set : {f : Mach} {F : Formula 2} → Good n c F f → Valid n F → (g : Mach) (x wy : ℕ) → x < n
-      → MachineOf n (someF x F) (codeMachine Exists f g (weight n x) wy)
+      → MachineOf n (someF x F) (codeMachine Exists f g (bitWeight n x) wy)
   unfolding startCode kindCode
   some-set {f} {F} p vf g x wy hx = of-sets n x (length (f .codes)) hx (f .step) (f .accept) (omega arith) (p .full .0) F vf (p .machine)

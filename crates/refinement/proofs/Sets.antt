@@ -23,7 +23,7 @@ use Rattle.words.proofs.Any.{or-cases, and-both, bool-ext, any-true, any-in}
 use Rattle.table.proofs.Sets.{Picks, nil, cons, choice-true, choice-in, exists-below, closing-same}
 use Rattle.table.proofs.Labels.{bit-of}
 use Rattle.words.proofs.WordLaws.{mem-one, mem-or, word-mem, word-lt, word-ext}
-use Rattle.records.specs.Decode.{weight}
+use Rattle.records.specs.Decode.{bitWeight}
 use Rattle.refinement.proofs.Weights.{put-off, put-on}
 
 -- over the part's machine, of m states
@@ -32,7 +32,7 @@ module _ (n x m : ℕ) (hx : x < n) (f : Step) (a : ℕ) (top : m ≤ 64) (B : B
   M = branching 0 f (λ q. mem q a)
 
   abbrev w : ℕ
-  w = weight n x
+  w = bitWeight n x
 
   abbrev E : Machine 2 ℕ
   E = branching (existsStart 2 f w) (existsCode f w) (λ s. any (λ (q : ℕ). mem q s && mem q a) 64)

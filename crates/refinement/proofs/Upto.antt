@@ -2,7 +2,7 @@
 use Rattle.words.proofs.Vocabulary.{ℕ, _≤_, _<_, _+_, suc, zero, Bool, true, false, cond, _&&_, _≡_, _∙_, refl, sym, ap, subst, _↔_, List, [], _∷_, _++_}
 use Rattle.words.proofs.Vocabulary.{some, Option, none, eqb, ltb, T, ltb→lt, length, getD, length-append, decLt, not-suc-le-zero, arith}
 use Rattle.layout.specs.Shape.{Shaped, shapeOf}
-use Rattle.records.specs.Decode.{weight, decodedOf}
+use Rattle.records.specs.Decode.{bitWeight, decodedOf}
 use Rattle.logic.specs.Meaning.{Branch, Formula, successor, root}
 use Rattle.logic.specs.Rule.{noRecord, Record, formulaOf, formulaAt, extend, lastOf, good, successorAt, Accepted}
 use Rattle.logic.specs.Reach.{elem}
@@ -103,14 +103,14 @@ module _ (n c : ℕ) (sh : Shaped (shapeOf n c)) (rs : List Record) (acc : Accep
     by-op (suc (suc (suc (suc (suc (suc zero)))))) a b t parts =
         let w = lt-both a b r r t in
         explored n c sh (dec 6 a b) (at a) (at b)
-        (either-pair n c sh (parts a (elem-first a (b ∷ []))) (parts b (elem-second a b)) (valid a (w .0)) (valid b (w .1)) (weight n a) (weight n b))
+        (either-pair n c sh (parts a (elem-first a (b ∷ []))) (parts b (elem-second a b)) (valid a (w .0)) (valid b (w .1)) (bitWeight n a) (bitWeight n b))
     by-op (suc (suc (suc (suc (suc (suc (suc zero))))))) a b t parts =
         let w = lt-both a b r r t in
         explored n c sh (dec 7 a b) (at a) (at b)
-        (both-pair n c sh (parts a (elem-first a (b ∷ []))) (parts b (elem-second a b)) (valid a (w .0)) (valid b (w .1)) (weight n a) (weight n b))
+        (both-pair n c sh (parts a (elem-first a (b ∷ []))) (parts b (elem-second a b)) (valid a (w .0)) (valid b (w .1)) (bitWeight n a) (bitWeight n b))
     by-op (suc (suc (suc (suc (suc (suc (suc (suc zero)))))))) a b t parts =
         let w = lt-both a b n r t in
-        explored n c sh (dec 8 a b) (at b) (at b) (some-set n c sh (parts b (elem-first b [])) (valid b (w .1)) (at b) a (weight n b) (w .0))
+        explored n c sh (dec 8 a b) (at b) (at b) (some-set n c sh (parts b (elem-first b [])) (valid b (w .1)) (at b) a (bitWeight n b) (w .0))
     by-op (suc (suc (suc (suc (suc (suc (suc (suc (suc zero))))))))) a b t parts = absurd t
     by-op (suc (suc (suc (suc (suc (suc (suc (suc (suc (suc op)))))))))) a b t parts = absurd t
 

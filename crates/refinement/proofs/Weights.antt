@@ -2,13 +2,13 @@
 -- Assumes nothing.
 use Rattle.words.proofs.Vocabulary.{ℕ, _+_, _-_, _*_, suc, _%_, zero, _^_, _/_, Bool, true, false, _≡_, _∙_, sym, ap, ap₂, mod-mul, eqb, pow-pos}
 use Rattle.words.proofs.Vocabulary.{pow-suc, div-div-eq-div-mul, mul-assoc, arith}
-use Rattle.records.specs.Decode.{weight}
+use Rattle.records.specs.Decode.{bitWeight}
 use Rattle.logic.specs.Tree.{bit}
 use Rattle.logic.specs.Machine.{bitOf, setLow, withBit}
 use Rattle.logic.proofs.Bits.{low-shift}
 use Rattle.table.specs.Entry.{off, on}
 
-pub bit-is : (n l x : ℕ) → bit n l x ≡ eqb (l / weight n x % 2) 1
+pub bit-is : (n l x : ℕ) → bit n l x ≡ eqb (l / bitWeight n x % 2) 1
 unfolding bit
 bit-is n l x = low-shift l (n - suc x)
 
@@ -27,10 +27,10 @@ set-is (suc j) b l =
     let y : bitOf b * 2 ^ suc j ≡ bitOf b * p * 2 = ap (λ (z : ℕ). bitOf b * z) e ∙ sym (mul-assoc (bitOf b) p 2) in
     omega arith
 
-pub put-off : (n x l : ℕ) → withBit n x false l ≡ off (weight n x) l
+pub put-off : (n x l : ℕ) → withBit n x false l ≡ off (bitWeight n x) l
 unfolding withBit off
 put-off n x l = set-is (n - suc x) false l ∙ omega arith
 
-pub put-on : (n x l : ℕ) → withBit n x true l ≡ on (weight n x) l
+pub put-on : (n x l : ℕ) → withBit n x true l ≡ on (bitWeight n x) l
 unfolding withBit on off
 put-on n x l = set-is (n - suc x) true l ∙ omega arith

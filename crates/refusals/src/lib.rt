@@ -11,13 +11,6 @@ pub enum Refusal {
     TooManyStates(u64),
 }
 
-// A refusal in numbers; those that do not apply are 0.
-pub struct RefusalNumbers {
-    pub number: u64,
-    pub recordnumber: u64,
-    pub place: u64,
-}
-
 pub fn refusal_numbers(r: Refusal) -> RefusalNumbers
     ensures { λ x. ⌜ x ≡ refusalNumbers r ⌝ }
 {
@@ -43,4 +36,11 @@ pub fn refusal_numbers(r: Refusal) -> RefusalNumbers
             place: 0,
         },
     }
+}
+
+// A refusal in numbers; those that do not apply are 0.
+pub struct RefusalNumbers {
+    pub number: u64,
+    pub recordnumber: u64,
+    pub place: u64,
 }

@@ -1,11 +1,5 @@
 -- Decoding a rule strip, record by record. Assumes nothing.
-use Prim.Native.Nat.{ℕ, _+_, _*_, _≤_, _<_}
-use mathlib.Core.Path.{_≡_, refl, _∙_}
-use mathlib.Core.List.{List}
-use native.Mathlib.Decide.{ℕ-discrete}
-use native.Mathlib.Omega.{arith}
-use lib.ListN.{length, set, length-set}
-use lib.Seq.{getD-set-same, getD-set-other}
+use Rattle.words.proofs.Vocabulary.{ℕ, _+_, _*_, _≤_, _<_, _≡_, refl, _∙_, List, ℕ-discrete, arith, length, set, length-set, getD-set-same, getD-set-other}
 use Rattle.records.specs.declared.Decoded.{Decoded}
 use Rattle.records.specs.Rule.{noDecoded}
 use Rattle.records.specs.Decode.{decodedOf}

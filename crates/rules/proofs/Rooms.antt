@@ -1,11 +1,7 @@
 -- The room that machines and strips take: the sums fit, and what no refusal for want of it says. Assumes nothing.
-use Prim.Native.Nat.{ℕ, zero, suc, _+_, _*_, _≤_, _<_}
-use mathlib.Core.Path.{_≡_, refl, sym, ap, _∙_}
-use mathlib.Core.Bool.{Bool, true, false, _&&_, cond}
+use Rattle.words.proofs.Vocabulary.{ℕ, zero, suc, _+_, _*_, _≤_, _<_, _≡_, refl, sym, ap, _∙_, Bool, true, false, _&&_, cond, arith, lt-ltb, le-ltb}
+use Rattle.words.proofs.Vocabulary.{ltb-false, leb-true, ltb, leb}
 use native.Mathlib.Nat.{mul-le-mul}
-use native.Mathlib.Omega.{arith}
-use borrow.Author.Tests.{lt-ltb, le-ltb, ltb-false, leb-true}
-use lib.Dec.{ltb, leb}
 use Rattle.layout.specs.Shape.{Shaped, shareAt, shapeOf}
 use Rattle.layout.proofs.Places.{share-two}
 use Rattle.refusals.specs.Refusal.{tested}

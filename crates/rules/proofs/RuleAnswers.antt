@@ -1,8 +1,5 @@
 -- From a rule's machine to decide's and judge's answers. Assumes nothing.
-use Prim.Native.Nat.{ℕ, _-_}
-use mathlib.Core.Path.{_≡_, refl, sym, ap, _∙_}
-use mathlib.Core.Bool.{Bool}
-use mathlib.Core.List.{List}
+use Rattle.words.proofs.Vocabulary.{ℕ, _-_, _≡_, refl, sym, ap, _∙_, Bool, List}
 use Rattle.logic.proofs.Answers.{trimmed-iff}
 use Rattle.logic.proofs.Builders.{decide-any, judge-any}
 use Rattle.logic.specs.Decide.{say}
@@ -14,7 +11,7 @@ use Rattle.rule_strip.specs.RuleStrip.{variablesOf, countOf, recordsOf}
 use Rattle.rule_strip.proofs.RuleLaws.{rule-accepted}
 use Rattle.search.specs.declared.Found.{Found}
 use Rattle.tree_strip.proofs.TreeWalk.{facts-stand}
-use Rattle.rules.specs.Building.{Decider, FoundFor, Says}
+use Rattle.rules.specs.Building.{Decider, FoundFor, SaysOfTree}
 use Rattle.rules.specs.Room.{Workable}
 use Rattle.rules.specs.Trees.{AcceptedTree}
 use Rattle.rules.proofs.TreeRefusals.{tree-facts, tree-readable}
@@ -38,7 +35,7 @@ module _ {rule : List ℕ} {c room : ℕ} (w : Workable rule c room) {k : Summar
             (decide-any 2 (variablesOf rule) (recordsOf rule) (rule-accepted rule (w .sound) .records-accepted) c P (d .roomy) _ (d .decides) _ (d .full));
       }
 
-  pub rule-says : {tree : List ℕ} → AcceptedTree tree (variablesOf rule) → {b : Bool} → Accepts ws s (m - 1) k tree b → Says rule c tree b
+  pub rule-says : {tree : List ℕ} → AcceptedTree tree (variablesOf rule) → {b : Bool} → Accepts ws s (m - 1) k tree b → SaysOfTree rule c tree b
   rule-says {tree} a accepts t met rest read =
       let v = variablesOf rule in
       let f = tree-facts {n = v} (record { tree = t; met = met; rest = rest; read = read; variables = a .variables }) in

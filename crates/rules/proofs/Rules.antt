@@ -1,11 +1,6 @@
 -- The records of an accepted rule strip can be built; what building them says of the rule; and the workspace is cleared behind them.
 -- Assumes nothing.
-use Prim.Native.Nat.{ℕ, _+_, _-_, _*_, _≤_, _<_}
-use mathlib.Core.Path.{_≡_, refl, sym, ap, _∙_, subst}
-use mathlib.Core.Bool.{Bool}
-use mathlib.Core.List.{List, _++_}
-use native.Mathlib.Omega.{arith}
-use lib.ListN.{length, getD, drop, replicate}
+use Rattle.words.proofs.Vocabulary.{ℕ, _+_, _-_, _*_, _≤_, _<_, _≡_, refl, sym, ap, _∙_, subst, Bool, List, _++_, arith, length, getD, drop, replicate}
 use Rattle.logic.specs.Rule.{Record, noRecord, lastOf, Accepted}
 use Rattle.logic.specs.Claims.{FirstOver}
 use Rattle.logic.proofs.ReachedRecords.{last-reached}

@@ -1,11 +1,5 @@
 -- A tree strip beside a rule: its refusals, and what holds where there is none. Assumes nothing.
-use Prim.Native.Nat.{ℕ}
-use mathlib.Core.Path.{_≡_, refl, sym, subst, _∙_}
-use mathlib.Core.Bool.{Bool, true, false, cond}
-use mathlib.Core.List.{List}
-use native.Mathlib.Omega.{arith}
-use borrow.Author.Tests.{eq-eqb, ne-eqb, eqb-true}
-use lib.Dec.{eqb}
+use Rattle.words.proofs.Vocabulary.{ℕ, _≡_, refl, sym, subst, _∙_, Bool, true, false, cond, List, arith, eq-eqb, ne-eqb, eqb-true, eqb}
 use Rattle.bits.specs.Bits.{field}
 use Rattle.bits.specs.declared.Fault.the-variants.{Sound}
 use Rattle.layout.specs.Shape.{shapeOf}

@@ -44,6 +44,6 @@ pub record FoundFor (rule : List ℕ) (c P : ℕ) (k : Summary) (f : Found) : Ty
   pub decided : report (k .count) (answerOf f) ≡ decideOf 2 (variablesOf rule) (recordsOf rule) c P
 
 -- b: judge's answer to the tree that the strip holds
-abbrev pub Says : List ℕ → ℕ → List ℕ → Bool → Type 0
-Says rule c strip b =
+abbrev pub SaysOfTree : List ℕ → ℕ → List ℕ → Bool → Type 0
+SaysOfTree rule c strip b =
     (t : Tree 2) (met : ℕ) (rest : List ℕ) → readTree strip ≡ parsed t met rest → say b ≡ judgeOf (variablesOf rule) (recordsOf rule) c t

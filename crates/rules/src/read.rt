@@ -2,7 +2,7 @@
 ghost use Prim.Native.Nat.{_≤_};
 ghost use lib.ListN.{length};
 ghost use Rattle.rule_strip.specs.RuleStrip.{variablesOf};
-ghost use Rattle.rules.specs.Building.{Decider, FoundFor, Says};
+ghost use Rattle.rules.specs.Building.{Decider, FoundFor, SaysOfTree};
 ghost use Rattle.rules.specs.Room.{Workable};
 ghost use Rattle.rules.specs.Trees.{AcceptedTree};
 use records::Summary;
@@ -25,7 +25,7 @@ pub fn satisfied(rule: &[u8], c: usize, ws: &[u8], k: Summary, tree: &[u8]) -> b
     requires { ⌜ Workable (now rule) c (length (now ws)) ⌝ }
     requires { ⌜ Decider (now rule) c k (now ws) ⌝ }
     requires { ⌜ AcceptedTree (now tree) (variablesOf (now rule)) ⌝ }
-    ensures { λ b. ⌜ Says (now (rule .entry)) c (now (tree .entry)) b ⌝ }
+    ensures { λ b. ⌜ SaysOfTree (now (rule .entry)) c (now (tree .entry)) b ⌝ }
 {
     let s = layout::shape_for(rule_strip::variables_of(rule), c);
     let last = rule_strip::count_of(rule) - 1;

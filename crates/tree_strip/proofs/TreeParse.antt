@@ -17,7 +17,7 @@ use Rattle.logic.specs.Two.{one, two, pairOf}
 use Rattle.logic.proofs.Places.{true→T, not-T}
 use Rattle.bits.specs.Bits.{digits, bits, number, bitLength}
 use Rattle.tree_strip.specs.TreeStrip.{Parsed, parsed, refused, placeOf, join, andThen, parse, treeBits, Stands}
-use Rattle.tree_strip.specs.TreePlaces.{Comes, begin, past-empty, past-label, Offends, early-end, bare-node, node-bit}
+use Rattle.tree_strip.specs.TreePlaces.{ReadingComes, begin, past-empty, past-label, Offends, early-end, bare-node, node-bit}
 use Rattle.bits.proofs.Fields.{length-digits}
 use Rattle.logic.proofs.Two.{two-branches}
 use Rattle.bits.proofs.Packing.{AreBits, bits-take, number-of, number-lt, digits-number, length-from, bit-is}
@@ -31,11 +31,11 @@ pub record Reading (s : List ℕ) (n met : ℕ) (bs : List ℕ) (t : Tree 2) (m 
   pub few : m ≤ 255
   pub proper : Proper n t
   pub trimmed : Trimmed t
-  pub onward : (o : ℕ) → Comes s n met (placeOf s bs) (suc o) → Comes s n m (placeOf s rest) o
+  pub onward : (o : ℕ) → ReadingComes s n met (placeOf s bs) (suc o) → ReadingComes s n m (placeOf s rest) o
 
 -- of the strip s, whose reading comes to bs: what was read, or why nothing was
 abbrev pub Good : List ℕ → ℕ → ℕ → List ℕ → Parsed → Type 0
-Good s n met bs (refused k p) = (o : ℕ) → Comes s n met (placeOf s bs) (suc o) → Offends s n k p
+Good s n met bs (refused k p) = (o : ℕ) → ReadingComes s n met (placeOf s bs) (suc o) → Offends s n k p
 Good s n met bs (parsed t m rest) = Reading s n met bs t m rest
 
 -- what holds of both trees holds of each branch
@@ -95,13 +95,13 @@ module _ (s : List ℕ) (n : ℕ) where
   owed-node o p empty rest e r z = let b = bit-is s p 0 rest e .1 in absurd (omega arith)
   owed-node o p (node l f) rest e r z = (f one, treeBits n (f two) ++ rest, after-label s n p l f rest e, (f two, rest, refl, r))
 
-  owed : {m p o : ℕ} (t : Tree 2) → Stands s n 8 t → Comes s n m p o → Owed n o (drop p (bits s))
+  owed : {m p o : ℕ} (t : Tree 2) → Stands s n 8 t → ReadingComes s n m p o → Owed n o (drop p (bits s))
   owed t a begin = (t, a .0, a .1, tt)
   owed t a (past-empty {p = p} {o = o} w e) = let q = owed t a w in owed-empty o p (q .0) (q .1) (q .2) (q .3) e
   owed t a (past-label {p = p} {o = o} w e) = let q = owed t a w in owed-node o p (q .0) (q .1) (q .2) (q .3) e
 
   -- so none does if a tree is still owed at the end of the bits
-  no-tree : {m p o : ℕ} → Comes s n m p (suc o) → 8 * length s ≤ p → (t : Tree 2) → Stands s n 8 t → ⊥
+  no-tree : {m p o : ℕ} → ReadingComes s n m p (suc o) → 8 * length s ≤ p → (t : Tree 2) → Stands s n 8 t → ⊥
   no-tree {p = p} w h t a =
       let q = owed t a w in
       let e = ap length (q .2) ∙ length-append (treeBits n (q .0)) (q .1) in
@@ -119,19 +119,19 @@ module _ (s : List ℕ) (n : ℕ) where
   shorter met bs t m rest p = let e = ap length (p .written) ∙ length-append (treeBits n t) rest in omega arith
 
   -- reading goes on past an empty tree's bit, and past a node's label
-  past-zero : (met o : ℕ) (bs : List ℕ) → Last s (0 ∷ bs) → Comes s n met (placeOf s (0 ∷ bs)) (suc o) → Comes s n met (placeOf s bs) o
+  past-zero : (met o : ℕ) (bs : List ℕ) → Last s (0 ∷ bs) → ReadingComes s n met (placeOf s (0 ∷ bs)) (suc o) → ReadingComes s n met (placeOf s bs) o
   past-zero met o bs a w =
       let l = last-few s (0 ∷ bs) a in
       let e : placeOf s (0 ∷ bs) + 1 ≡ placeOf s bs = omega arith in
-      subst (λ (k : ℕ). Comes s n met k o) e (past-empty w (bit-is s (placeOf s (0 ∷ bs)) 0 bs a .1))
+      subst (λ (k : ℕ). ReadingComes s n met k o) e (past-empty w (bit-is s (placeOf s (0 ∷ bs)) 0 bs a .1))
 
-  past-one : (met o : ℕ) (bs : List ℕ) → n ≤ length bs → Last s (1 ∷ bs) → Comes s n met (placeOf s (1 ∷ bs)) (suc o)
-      → Comes s n (suc met) (placeOf s (drop n bs)) (suc (suc o))
+  past-one : (met o : ℕ) (bs : List ℕ) → n ≤ length bs → Last s (1 ∷ bs) → ReadingComes s n met (placeOf s (1 ∷ bs)) (suc o)
+      → ReadingComes s n (suc met) (placeOf s (drop n bs)) (suc (suc o))
   past-one met o bs h a w =
       let l = last-few s (1 ∷ bs) a in
       let d = length-drop n bs in
       let e : placeOf s (1 ∷ bs) + 1 + n ≡ placeOf s (drop n bs) = omega arith in
-      subst (λ (k : ℕ). Comes s n (suc met) k (suc (suc o))) e (past-label w (bit-is s (placeOf s (1 ∷ bs)) 1 bs a .1))
+      subst (λ (k : ℕ). ReadingComes s n (suc met) k (suc (suc o))) e (past-label w (bit-is s (placeOf s (1 ∷ bs)) 1 bs a .1))
 
   join-good : (met m : ℕ) (bs mid : List ℕ) (t : Tree 2) (P : Parsed) → n ≤ length bs → Last s (1 ∷ bs)
       → Reading s n (suc met) (drop n bs) t m mid → Good s n m mid P
@@ -189,7 +189,7 @@ module _ (s : List ℕ) (n : ℕ) where
       go true e w f k =
           let z = bit-is s (placeOf s (1 ∷ bs)) 1 bs a in
           let m : met ≡ 255 = (let l = leb-true 255 met e in omega arith) in
-          λ o c. node-bit (subst (λ (k : ℕ). Comes s n k (placeOf s (1 ∷ bs)) (suc o)) m c) (z .0) (z .1)
+          λ o c. node-bit (subst (λ (k : ℕ). ReadingComes s n k (placeOf s (1 ∷ bs)) (suc o)) m c) (z .0) (z .1)
       go false e true f k =
           let l = last-few s (1 ∷ bs) a in
           let j = ltb-true (length bs) n f in

@@ -13,7 +13,7 @@ use Rattle.bits.specs.Bits.{bits, field, anySet, firstSet, bitLength, between}
 use Rattle.bits.specs.declared.Fault.{Fault}
 use Rattle.bits.specs.declared.Fault.the-variants.{Sound, At}
 use Rattle.tree_strip.specs.TreeStrip.{Parsed, parsed, refused, placeOf, parse, padding, endFault, unless, ended, readTree, faultIn, treeFault, Stands}
-use Rattle.tree_strip.specs.TreePlaces.{treeEnd, wholeByte, Unset, Comes, begin, Offends, OffendsAt, no-bytes, version, variables, padding-bit, byte-left}
+use Rattle.tree_strip.specs.TreePlaces.{treeEnd, wholeByte, Unset, ReadingComes, begin, Offends, OffendsAt, no-bytes, version, variables, padding-bit, byte-left}
 use Rattle.bits.proofs.Places.{any-first, first-set, first-before}
 use Rattle.bits.proofs.Packing.{length-from, bits-bits}
 use Rattle.tree_strip.proofs.TreeBits.{last-from}
@@ -82,7 +82,7 @@ module _ (s : List ℕ) (n : ℕ) where
 
   ended-told : (P : Parsed) → 0 < length s → Good s n 0 (drop 8 (bits s)) P → Told s n (faultIn (ended s P))
   unfolding ended
-  ended-told (refused k p) h g = g 0 (subst (λ (q : ℕ). Comes s n 0 q 1) (sym (place s n 8 (omega arith))) begin)
+  ended-told (refused k p) h g = g 0 (subst (λ (q : ℕ). ReadingComes s n 0 q 1) (sym (place s n 8 (omega arith))) begin)
   ended-told (parsed t m rest) h g =
       let f = ending s n 0 8 m (placeOf s rest) t rest (omega arith) g refl in
       unless-told (endFault (placeOf s rest) rest) (parsed t m rest)

@@ -24,10 +24,10 @@ Unset s from end = (j : ℕ) → from ≤ j → j < end → getD (bits s) j 0 �
 -- reading the tree at bit place 8 in order comes to a place, with so many positions met before it and so many trees owed, still to be read
 -- from it on: "bit 0 for empty; for a node bit 1, the label, first branch, second branch". It only goes forward, so every bit that it met
 -- before a place in the strip is in the strip
-pub data Comes (s : List ℕ) (n : ℕ) : (met place owed : ℕ) → Type 0 where
-  begin : Comes s n 0 8 1
-  past-empty : {m p o : ℕ} → Comes s n m p (suc o) → getD (bits s) p 0 ≡ 0 → Comes s n m (p + 1) o
-  past-label : {m p o : ℕ} → Comes s n m p (suc o) → getD (bits s) p 0 ≡ 1 → Comes s n (suc m) (p + 1 + n) (suc (suc o))
+pub data ReadingComes (s : List ℕ) (n : ℕ) : (met place owed : ℕ) → Type 0 where
+  begin : ReadingComes s n 0 8 1
+  past-empty : {m p o : ℕ} → ReadingComes s n m p (suc o) → getD (bits s) p 0 ≡ 0 → ReadingComes s n m (p + 1) o
+  past-label : {m p o : ℕ} → ReadingComes s n m p (suc o) → getD (bits s) p 0 ≡ 1 → ReadingComes s n (suc m) (p + 1 + n) (suc (suc o))
 
 -- the strip s, which says that it is over n variables, offends by a refusal's number at a bit place
 pub data Offends (s : List ℕ) (n : ℕ) : ℕ → ℕ → Type 0 where
@@ -42,7 +42,7 @@ pub data Offends (s : List ℕ) (n : ℕ) : ℕ → ℕ → Type 0 where
   -- "19, once both branches are read, a node with label 0 and two empty branches": "for 19 the node bit"
   bare-node : {p : ℕ} → Stands s n p (node 0 (pairOf empty empty)) → Offends s n 19 p
   -- "20 a node bit for position 256": of a tree still to be read, once 255 positions are met
-  node-bit : {p o : ℕ} → Comes s n 255 p (suc o) → p < 8 * length s → getD (bits s) p 0 ≡ 1 → Offends s n 20 p
+  node-bit : {p o : ℕ} → ReadingComes s n 255 p (suc o) → p < 8 * length s → getD (bits s) p 0 ≡ 1 → Offends s n 20 p
   -- "For 6 and 21 it is the first set padding bit"
   padding-bit : {p : ℕ} (t : Tree 2) → Stands s n 8 t → treeEnd n t ≤ p → p < wholeByte (treeEnd n t) → getD (bits s) p 0 ≡ 1
       → Unset s (treeEnd n t) p → Offends s n 21 p

@@ -3,19 +3,16 @@ ghost use mathlib.Core.Path.{_≡_};
 ghost use Rattle.tree_strip.specs.Numbers.{treeNumbers};
 use crate::check::TreeCheck;
 
-// place is the bit place that a refusal names.
-#[repr(C)]
-pub struct TreeNumbers {
-    pub refusal: u64,
-    pub variables: u64,
-    pub positions: u64,
-    pub place: u64,
-}
-
 pub fn tree_numbers(r: TreeCheck) -> TreeNumbers
     ensures { λ x. ⌜ x ≡ treeNumbers r ⌝ }
 {
     match r {
+        TreeCheck::Refused { number, place } => TreeNumbers {
+            refusal: number,
+            variables: 0,
+            positions: 0,
+            place,
+        },
         TreeCheck::Accepted {
             variables,
             positions,
@@ -25,11 +22,14 @@ pub fn tree_numbers(r: TreeCheck) -> TreeNumbers
             positions: positions as u64,
             place: 0,
         },
-        TreeCheck::Refused { number, place } => TreeNumbers {
-            refusal: number,
-            variables: 0,
-            positions: 0,
-            place,
-        },
     }
+}
+
+// place is the bit place that a refusal names.
+#[repr(C)]
+pub struct TreeNumbers {
+    pub refusal: u64,
+    pub variables: u64,
+    pub positions: u64,
+    pub place: u64,
 }

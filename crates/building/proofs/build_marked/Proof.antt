@@ -17,9 +17,6 @@ Inv-loop ws₀ counts₀ accepts₀ looks₀ marks m s records r₀ ws counts ac
 abbrev μ-loop : tie.MeasureT-loop
 μ-loop ws₀ counts₀ accepts₀ looks₀ marks m s records r₀ ws counts accepts looks r = m - r
 
-loop-holds : tie.Need-loop-holds Inv-loop μ-loop
-loop-holds c = (turn-first (c .next-marked .ensures), c .before .before .pre .1 .0)
-
 -- where the call starts, from a turn
 abbrev start-of : tie.In-loop Inv-loop μ-loop → tie.Start Inv-loop μ-loop
 start-of n = n .before .before .before .before
@@ -83,7 +80,7 @@ returns-2 c =
 pub build-marked-spec : {M : Type 1} → statement M
 build-marked-spec =
     tie.close
-    (tie.spec Inv-loop μ-loop (λ c κs. (omega arith, c .before .pre .0, c .before .pre .1 .1 .1 .0)) loop-holds
+    (tie.spec Inv-loop μ-loop (λ c κs. (omega arith, c .before .pre .0, c .before .pre .1 .1 .1 .0)) (λ c. (turn-first (c .next-marked .ensures), c .before .before .pre .1 .0))
     (λ c. omega (arith, number (c .before .before .before .before))) (λ c. number (c .before .before .before .before) .1) build-record-requires
     (λ c. let b = c .before .before .before in b .build-record .kept .0 ∙ turn-of b .before .loop .inv .0 .long) returns
     (λ c. omega (arith, number (turn-of (c .before .before .before)))) next-marked-requires-2 loop-less loop-again

@@ -11,9 +11,6 @@ Inv-loop m records marks₀ r₀ marks r = Pass records m marks r
 abbrev μ-loop : tie.MeasureT-loop
 μ-loop m records marks₀ r₀ marks r = r
 
-loop-holds : tie.Need-loop-holds Inv-loop μ-loop
-loop-holds c = pass-first (c .args .t1) (c .args .m) (c .pre .0 .1) (c .pre .1) (c .pre .0 .0)
-
 mark-named-requires : tie.Need-mark-named-requires Inv-loop μ-loop
 mark-named-requires c κs =
     let s = c .before .before .before .before .before in
@@ -49,6 +46,6 @@ returns c =
 pub reached-spec : {M : Type 1} → statement M
 reached-spec =
     tie.close
-    (tie.spec Inv-loop μ-loop (λ c. search needs) (λ c. search needs) loop-holds (λ c. search needs) (λ c. search needs) (λ c. search needs)
+    (tie.spec Inv-loop μ-loop (λ c. search needs) (λ c. search needs) (λ c. pass-first (c .args .t1) (c .args .m) (c .pre .0 .1) (c .pre .1) (c .pre .0 .0)) (λ c. search needs) (λ c. search needs) (λ c. search needs)
     (λ c. search needs) mark-named-requires (λ c. search needs) loop-again (λ c. search needs) loop-again-2
     (λ c. omega (arith, c .before .before .pre .0)) returns)

@@ -1,13 +1,8 @@
 -- `decide::conclude` meets its contract. Assumes nothing.
-use Prim.Native.Nat.{ℕ, _≤_}
-use mathlib.Core.Path.{_≡_, sym, ap, subst, _∙_}
-use native.Mathlib.Omega.{arith}
-use lib.ListN.{length}
-use lib.Seq.{length-take-le}
+use Rattle.words.proofs.Vocabulary.{ℕ, _≤_, _≡_, sym, ap, subst, _∙_, arith, length, length-take-le, needs}
 use Rattle.logic.specs.Tree.{positions}
 use Rattle.tree_strip.specs.TreeStrip.{treeBytes}
 use Rattle.decide.proofs.Deciding.{shownTree, tells-none, tells-larger, shown-room, shown-front, tells-shown}
-use borrow.Author.Needs.{needs}
 use Rattle.decide.proofs.conclude.Statement.{statement}
 use Rattle.decide.proofs.conclude.Tie as tie
 

@@ -1,8 +1,5 @@
 -- `decide::decide_accepted` meets its contract. Assumes nothing.
-use mathlib.Core.Path.{_≡_, refl, sym, subst}
-use native.Mathlib.Omega.{arith}
-use lib.ListN.{length}
-use borrow.Author.Needs.{needs}
+use Rattle.words.proofs.Vocabulary.{_≡_, refl, sym, subst, arith, length, needs}
 use Rattle.logic.specs.Claims.{Outcome}
 use Rattle.rules.specs.Room.{Workable}
 use Rattle.rules.proofs.Rules.{rule-sizes}

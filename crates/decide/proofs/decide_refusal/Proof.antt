@@ -1,7 +1,5 @@
 -- `decide::decide_refusal` meets its contract. Assumes nothing.
-use mathlib.Core.Path.{sym, _∙_}
-use native.Mathlib.Omega.{arith}
-use borrow.Author.Needs.{needs}
+use Rattle.words.proofs.Vocabulary.{sym, _∙_, arith, needs}
 use Rattle.rule_strip.specs.RuleStrip.{AcceptedRule}
 use Rattle.rule_strip.proofs.RuleLaws.{rule-accepted, checked-accepted, checked-refused}
 use Rattle.decide.specs.Decide.{decideRefusal}

@@ -1,7 +1,5 @@
 -- `decide::room_refusal` meets its contract: each test that does not apply leads to the next. Assumes nothing.
-use mathlib.Core.Path.{_≡_, sym, _∙_}
-use native.Mathlib.Omega.{arith}
-use borrow.Author.Needs.{needs}
+use Rattle.words.proofs.Vocabulary.{_≡_, sym, _∙_, arith, needs}
 use Rattle.refusals.specs.Refusal.{tested}
 use Rattle.refusals.specs.declared.Refusal.the-variants.{Nothing}
 use Rattle.refusals.proofs.Refusals.{tested-stops, tested-passes, nothing-else}

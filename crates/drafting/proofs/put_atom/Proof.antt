@@ -54,9 +54,6 @@ returns c =
     let a = b .before .before .before in
     atom-is (Equal _ (Branch _ _)) (place-is (a .atom3 .given .1) (b .place2 .given .1)) (let z = t .if1 .taken in omega arith) (c .put4 .ensures .1)
 
-returns-2 : tie.Need-returns-2
-returns-2 c = atom-is (Sub _ _) (c .before .before .before .atom .given .1) refl (c .put .ensures .1)
-
 returns-3 : tie.Need-returns-3
 returns-3 c = atom-is (Member _ _) (c .before .before .before .atom2 .given .1) refl (c .put2 .ensures .1)
 
@@ -85,4 +82,4 @@ pub put-atom-spec : {M : Type 1} → statement M
 put-atom-spec =
     tie.close
     (tie.spec (λ c. search needs) put-requires (λ c. search needs) put-requires-2 (λ c. search needs) (λ c. search needs) put-requires-3
-    (λ c. search needs) put-requires-4 returns put-requires-5 (λ c. search needs) put-requires-6 returns-2 returns-3 returns-4 returns-5 returns-6)
+    (λ c. search needs) put-requires-4 returns put-requires-5 (λ c. search needs) put-requires-6 (λ c. atom-is (Sub _ _) (c .before .before .before .atom .given .1) refl (c .put .ensures .1)) returns-3 returns-4 returns-5 returns-6)

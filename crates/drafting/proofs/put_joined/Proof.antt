@@ -5,9 +5,6 @@ use Rattle.drafting.proofs.Sentences.{iff-is, and-is, or-is}
 use Rattle.drafting.proofs.put_joined.Statement.{statement}
 use Rattle.drafting.proofs.put_joined.Tie as tie
 
-returns : tie.Need-returns
-returns c = iff-is (c .before .before .if1 .taken) (c .put-alike .ensures)
-
 returns-2 : tie.Need-returns-2
 returns-2 c =
     let b = c .before in
@@ -23,6 +20,6 @@ returns-3 c =
 pub put-joined-spec : {M : Type 1} → statement M
 put-joined-spec =
     tie.close
-    (tie.spec (λ c κs. search needs) returns
+    (tie.spec (λ c κs. search needs) (λ c. iff-is (c .before .before .if1 .taken) (c .put-alike .ensures))
     (λ c κs. search needs) (λ c κs. search needs) (λ c κs. search needs) returns-2
     (λ c κs. search needs) (λ c κs. search needs) (λ c κs. search needs) returns-3)

@@ -7,9 +7,6 @@ use Rattle.drafting.proofs.put_quantified.Tie as tie
 returns : tie.Need-returns
 returns c = let b = c .before .before in ex1-is _ (b .before .before .if1 .taken) (b .put-single .ensures) (c .put-exists .ensures)
 
-returns-2 : tie.Need-returns-2
-returns-2 c = ex2-is _ (c .before .before .if2 .taken) (c .put-exists2 .ensures)
-
 returns-3 : tie.Need-returns-3
 returns-3 c =
     let c₃ = c .before .before in
@@ -29,5 +26,5 @@ returns-4 c =
 pub put-quantified-spec : {M : Type 1} → statement M
 put-quantified-spec =
     tie.close
-    (tie.spec (λ c κs. search needs) (λ c κs. search needs) returns (λ c κs. search needs) returns-2 (λ c κs. search needs)
+    (tie.spec (λ c κs. search needs) (λ c κs. search needs) returns (λ c κs. search needs) (λ c. ex2-is _ (c .before .before .if2 .taken) (c .put-exists2 .ensures)) (λ c κs. search needs)
     (λ c κs. search needs) (λ c κs. search needs) (λ c κs. search needs) returns-3 (λ c κs. search needs) (λ c κs. search needs) returns-4)

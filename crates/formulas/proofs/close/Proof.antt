@@ -9,13 +9,10 @@ use Rattle.formulas.proofs.close.Tie as tie
 returns : tie.Need-returns
 returns c = closes-refused _ _ _ (refused-some _ _ (c .if1 .taken)) (refused-some _ _ (c .if1 .taken)) refl
 
-returns-2 : tie.Need-returns-2
-returns-2 c = lacks-closing (got-zero _ (c .before .before .if1 .left)) refl (c .if2 .taken) refl
-
 returns-3 : tie.Need-returns-3
 returns-3 c = closes (got-zero _ (c .before .before .before .before .before .if1 .left)) refl (c .before .before .before .if2 .left) (c .look .ensures)
 
 pub close-spec : {M : Type 1} → statement M
 close-spec =
     tie.close
-    (tie.spec returns (λ c. search needs) returns-2 (λ c. search needs) (λ c κs. search needs) returns-3)
+    (tie.spec returns (λ c. search needs) (λ c. lacks-closing (got-zero _ (c .before .before .if1 .left)) refl (c .if2 .taken) refl) (λ c. search needs) (λ c κs. search needs) returns-3)

@@ -6,9 +6,6 @@ use borrow.Author.Needs.{needs}
 use Rattle.formulas.proofs.finish.Statement.{statement}
 use Rattle.formulas.proofs.finish.Tie as tie
 
-returns : tie.Need-returns
-returns c = passes _ _ _ (refused-some _ _ (c .if1 .taken)) (refused-some _ _ (c .if1 .taken)) refl
-
 returns-2 : tie.Need-returns-2
 returns-2 c =
     let c₃ = c .before .before .before in
@@ -18,4 +15,4 @@ returns-2 c =
 pub finish-spec : {M : Type 1} → statement M
 finish-spec =
     tie.close
-    (tie.spec returns (λ c. search needs) (λ c κs. search needs) (λ c. search needs) returns-2)
+    (tie.spec (λ c. passes _ _ _ (refused-some _ _ (c .if1 .taken)) (refused-some _ _ (c .if1 .taken)) refl) (λ c. search needs) (λ c κs. search needs) (λ c. search needs) returns-2)

@@ -4,10 +4,7 @@ use borrow.Author.Needs.{needs}
 use Rattle.formulas.proofs.look.Statement.{statement}
 use Rattle.formulas.proofs.look.Tie as tie
 
-returns : tie.Need-returns
-returns c = looked (c .before .before .pre) (c .token-at .ensures)
-
 pub look-spec : {M : Type 1} → statement M
 look-spec =
     tie.close
-    (tie.spec (λ c κs. search needs) (λ c. search needs) (λ c. search needs) (λ c. search needs) returns)
+    (tie.spec (λ c κs. search needs) (λ c. search needs) (λ c. search needs) (λ c. search needs) (λ c. looked (c .before .before .pre) (c .token-at .ensures)))

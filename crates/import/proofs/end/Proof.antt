@@ -6,12 +6,6 @@ use borrow.Author.Needs.{needs}
 use Rattle.import.proofs.end.Statement.{statement}
 use Rattle.import.proofs.end.Tie as tie
 
-returns : tie.Need-returns
-returns c = ends-refused _ _ _ (refused-some _ _ (c .if1 .taken)) (refused-some _ _ (c .if1 .taken))
-
-returns-2 : tie.Need-returns-2
-returns-2 c = no-semicolon (got-zero _ (c .before .before .if1 .left)) refl (c .if2 .taken)
-
 returns-3 : tie.Need-returns-3
 returns-3 c =
     let c₅ = c .before .before .before .before .before in
@@ -27,4 +21,4 @@ returns-4 c =
 pub end-spec : {M : Type 1} → statement M
 end-spec =
     tie.close
-    (tie.spec returns (λ c. search needs) returns-2 (λ c. search needs) (λ c κs. search needs) (λ c. search needs) returns-3 returns-4)
+    (tie.spec (λ c. ends-refused _ _ _ (refused-some _ _ (c .if1 .taken)) (refused-some _ _ (c .if1 .taken))) (λ c. search needs) (λ c. no-semicolon (got-zero _ (c .before .before .if1 .left)) refl (c .if2 .taken)) (λ c. search needs) (λ c κs. search needs) (λ c. search needs) returns-3 returns-4)

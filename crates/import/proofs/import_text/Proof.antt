@@ -5,9 +5,6 @@ use borrow.Author.Needs.{needs}
 use Rattle.import.proofs.import_text.Statement.{statement}
 use Rattle.import.proofs.import_text.Tie as tie
 
-returns : tie.Need-returns
-returns c = outcome-small _ _ (c .if1 .taken)
-
 returns-2 : tie.Need-returns-2
 returns-2 c = outcome-refused _ _ (c .before .before .before .before .if1 .left) (c .before .read-text .ensures) (refused-some _ _ (c .if2 .taken))
 
@@ -27,5 +24,5 @@ returns-4 c =
 pub import-text-spec : {M : Type 1} → statement M
 import-text-spec =
     tie.close
-    (tie.spec returns (λ c κs. search needs) returns-2 (λ c. search needs) (λ c. search needs) returns-3 (λ c κs. search needs) (λ c. search needs)
+    (tie.spec (λ c. outcome-small _ _ (c .if1 .taken)) (λ c κs. search needs) returns-2 (λ c. search needs) (λ c. search needs) returns-3 (λ c κs. search needs) (λ c. search needs)
     (λ c. search needs) (λ c. search needs) (λ c. search needs) returns-4)

@@ -12,9 +12,6 @@ Inv-loop words₀ names in-use count count₀ i₀ words count' i = Freed names 
 abbrev μ-loop : tie.MeasureT-loop
 μ-loop words₀ names in-use count count₀ i₀ words count' i = in-use - i
 
-loop-holds : tie.Need-loop-holds Inv-loop μ-loop
-loop-holds c = freed-none
-
 mul-if1 : tie.Need-mul-if1 Inv-loop μ-loop
 mul-if1 c = let p = c .before .before .pre in let l = c .loop-test .taken in omega arith
 
@@ -42,10 +39,7 @@ loop-again c =
     let l = c .before .before .loop-test .taken in
     ⊎-elim (λ w. rw (w .3, w .4) (freed-first inv l (w .0 .taken) (w .2 .ensures))) (λ w. rw (w .1, w .2) (freed-second inv l (w .0 .left))) (c .if1 .came)
 
-returns : tie.Need-returns Inv-loop μ-loop
-returns c = freed-all (c .before .loop .inv) (c .loop-test .left)
-
 pub put-free-spec : {M : Type 1} → statement M
 put-free-spec =
     tie.close
-    (tie.spec Inv-loop μ-loop loop-holds mul-if1 add-if1 mul-if1-2 element-copy-out-if1 put-single-requires add-i loop-less loop-again returns)
+    (tie.spec Inv-loop μ-loop (λ c. freed-none) mul-if1 add-if1 mul-if1-2 element-copy-out-if1 put-single-requires add-i loop-less loop-again (λ c. freed-all (c .before .loop .inv) (c .loop-test .left)))

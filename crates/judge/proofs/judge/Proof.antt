@@ -1,6 +1,5 @@
 -- `judge::judge` meets its contract. Assumes nothing.
-use mathlib.Core.Path.{_≡_, sym, subst, _∙_}
-use borrow.Author.Needs.{needs}
+use Rattle.words.proofs.Vocabulary.{_≡_, sym, subst, _∙_, needs}
 use Rattle.refusals.specs.declared.Refusal.the-variants.{Nothing}
 use Rattle.refusals.proofs.Refusals.{nothing-else}
 use Rattle.rules.specs.Room.{roomOf, Workable}

@@ -1,6 +1,5 @@
 -- `judge::judge_accepted` meets its contract. Assumes nothing.
-use mathlib.Core.Path.{_≡_, refl, sym, subst, _∙_}
-use borrow.Author.Needs.{needs}
+use Rattle.words.proofs.Vocabulary.{_≡_, refl, sym, subst, _∙_, needs}
 use Rattle.logic.specs.Decide.{say}
 use Rattle.rules.specs.Room.{Workable}
 use Rattle.judge.specs.Judge.{judgedOf, rulingJudgement}

@@ -1,7 +1,5 @@
 -- `judge::judge_refusal` meets its contract: each test that does not apply leads to the next. Assumes nothing.
-use mathlib.Core.Path.{sym, _∙_}
-use native.Mathlib.Omega.{arith}
-use borrow.Author.Needs.{needs}
+use Rattle.words.proofs.Vocabulary.{sym, _∙_, arith, needs}
 use Rattle.refusals.proofs.Refusals.{nothing-else}
 use Rattle.rule_strip.specs.RuleStrip.{AcceptedRule}
 use Rattle.rule_strip.proofs.RuleLaws.{rule-accepted, checked-accepted, checked-refused}

@@ -13,9 +13,6 @@ Inv-loop text at names₀ in-use₀ place₀ names in-use place = Reached text a
 abbrev μ-loop : tie.MeasureT-loop
 μ-loop text at names₀ in-use₀ place₀ names in-use place = length text - place
 
-loop-holds : tie.Need-loop-holds Inv-loop μ-loop
-loop-holds c = reached-none _ _ _
-
 returns : tie.Need-returns Inv-loop μ-loop
 returns c =
     let b = c .before .before in
@@ -52,5 +49,5 @@ pub read-declarations-spec : {M : Type 1} → statement M
 read-declarations-spec =
     tie.close
     (tie.spec
-    Inv-loop μ-loop loop-holds (λ c κs. search needs) (λ c κs. search needs) returns (λ c κs. search needs) returns-2
+    Inv-loop μ-loop (λ c. reached-none _ _ _) (λ c κs. search needs) (λ c κs. search needs) returns (λ c κs. search needs) returns-2
     (λ c κs. c .before .before .before .loop .inv .fit) returns-3 loop-less loop-again)

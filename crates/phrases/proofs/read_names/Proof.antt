@@ -15,12 +15,6 @@ Inv-loop text in-use order at all₀ count₀ place₀ all count place = Listed 
 abbrev μ-loop : tie.MeasureT-loop
 μ-loop text in-use order at all₀ count₀ place₀ all count place = length text - place
 
-loop-holds : tie.Need-loop-holds Inv-loop μ-loop
-loop-holds c = listed-none _ _ _ _ _ (c .before .pre)
-
-new-refusal-requires : tie.Need-new-refusal-requires Inv-loop μ-loop
-new-refusal-requires c κs = (c .before .before .loop .inv .fit, name-span (c .before .token-at .ensures))
-
 returns : tie.Need-returns Inv-loop μ-loop
 returns c =
     let d = c .before .before in
@@ -82,5 +76,5 @@ pub read-names-spec : {M : Type 1} → statement M
 read-names-spec =
     tie.close
     (tie.spec
-    Inv-loop μ-loop loop-holds (λ c κs. search needs) new-refusal-requires (λ c κs. search needs) returns bound-requires add-count (λ c κs. search needs)
+    Inv-loop μ-loop (λ c. listed-none _ _ _ _ _ (c .before .pre)) (λ c κs. search needs) (λ c κs. (c .before .before .loop .inv .fit, name-span (c .before .token-at .ensures))) (λ c κs. search needs) returns bound-requires add-count (λ c κs. search needs)
     (λ c κs. search needs) returns-2 (λ c κs. search needs) returns-3 loop-less loop-again)

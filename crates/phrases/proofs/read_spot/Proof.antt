@@ -16,9 +16,6 @@ returns-2 c =
     let b = c .before .before in
     spot-turned _ (b .before .before .before .token-at .ensures) (b .before .if1 .left) (b .use-name .ensures) (c .if2 .taken)
 
-read-branch-requires : tie.Need-read-branch-requires
-read-branch-requires c κs = c .before .before .use-name .ensures .few (c .if2 .left)
-
 returns-3 : tie.Need-returns-3
 returns-3 c =
     let d = c .before in
@@ -29,4 +26,4 @@ pub read-spot-spec : {M : Type 1} → statement M
 read-spot-spec =
     tie.close
     (tie.spec (λ c κs. search needs) (λ c. spot-root _ (c .before .before .token-at .ensures) (c .if1 .taken))
-    use-name-requires returns-2 read-branch-requires returns-3)
+    use-name-requires returns-2 (λ c κs. c .before .before .use-name .ensures .few (c .if2 .left)) returns-3)

@@ -12,9 +12,6 @@ Inv-loop s looks table count accept p done₀ state₀ size₀ label₀ first₀
 abbrev μ-loop : tie.MeasureT-loop
 μ-loop s looks table count accept p done₀ state₀ size₀ label₀ first₀ second₀ n₀ done state size label first second n = count - n
 
-loop-holds : tie.Need-loop-holds Inv-loop μ-loop
-loop-holds c = round-first (c .before .pre .0)
-
 scan-requires : tie.Need-scan-requires Inv-loop μ-loop
 scan-requires c κs =
     let pre = c .before .before .before .before .before .before .pre in
@@ -63,12 +60,6 @@ narrow-requires c κs =
     round-small (turn .before .before .pre .0) (turn .loop .inv) more (scan .ensures) (search)
     (c .before .before .wide .ensures .0) (c .before .wide2 .ensures .0) (c .step-in .ensures)
 
-array-write-done-2 : tie.Need-array-write-done-2 Inv-loop μ-loop
-array-write-done-2 c = narrow-requires (c .before) tt
-
-has-requires : tie.Need-has-requires Inv-loop μ-loop
-has-requires c κs = narrow-requires (c .before) tt
-
 returns-3 : tie.Need-returns-3 Inv-loop μ-loop
 returns-3 c =
     let cell = c .before .before .before .before in
@@ -105,8 +96,8 @@ pub settle-spec : {M : Type 1} → statement M
 settle-spec =
     tie.close
     (tie.spec
-    Inv-loop μ-loop (λ c. search needs) loop-holds scan-requires (λ c κs. search needs) returns (λ c κs. search needs) returns-2
+    Inv-loop μ-loop (λ c. search needs) (λ c. round-first (c .before .pre .0)) scan-requires (λ c κs. search needs) returns (λ c κs. search needs) returns-2
     array-read-wide (λ c κs. search needs) array-read-wide-2 (λ c κs. search needs) step-in-requires (λ c. search needs) (λ c. search needs)
     (λ c. search needs) (λ c. search needs) (λ c. search needs) (λ c. search needs) narrow-requires (λ c. search needs) (λ c. search needs)
-    (λ c. search needs) array-write-done-2 (λ c. search needs) has-requires (λ c κs. search needs) returns-3 (λ c. search needs) loop-again
+    (λ c. search needs) (λ c. narrow-requires (c .before) tt) (λ c. search needs) (λ c κs. narrow-requires (c .before) tt) (λ c κs. search needs) returns-3 (λ c. search needs) loop-again
     (λ c κs. search needs) returns-4)

@@ -1,6 +1,5 @@
 -- `decide::numbers::verdict_numbers` meets its contract. Assumes nothing.
-use mathlib.Core.Path.{refl, _∙_}
-use borrow.Author.Needs.{needs}
+use Rattle.words.proofs.Vocabulary.{refl, _∙_, needs}
 use Rattle.decide.proofs.numbers.verdict_numbers.Statement.{statement}
 use Rattle.decide.proofs.numbers.verdict_numbers.Tie as tie
 

@@ -1,6 +1,5 @@
 -- `judge::numbers::judgement_numbers` meets its contract. Assumes nothing.
-use mathlib.Core.Path.{refl, _∙_}
-use borrow.Author.Needs.{needs}
+use Rattle.words.proofs.Vocabulary.{refl, _∙_, needs}
 use Rattle.judge.proofs.numbers.judgement_numbers.Statement.{statement}
 use Rattle.judge.proofs.numbers.judgement_numbers.Tie as tie
 

@@ -1,6 +1,5 @@
 -- `judge::numbers::told` meets its contract. Assumes nothing.
-use mathlib.Core.Path.{refl}
-use borrow.Author.Needs.{needs}
+use Rattle.words.proofs.Vocabulary.{refl, needs}
 use Rattle.judge.proofs.numbers.told.Statement.{statement}
 use Rattle.judge.proofs.numbers.told.Tie as tie
 

@@ -7,11 +7,11 @@ use borrow.Author.Tests.{eq-eqb, ne-eqb}
 use lib.Pow.{pow-mono}
 use Rattle.table.specs.declared.plan.Kind.{Kind}
 use Rattle.records.specs.declared.Decoded.{Decoded}
-use Rattle.records.specs.Decode.{weight, kindAt, decodedOf}
+use Rattle.records.specs.Decode.{bitWeight, kindAt, decodedOf}
 use Rattle.records.proofs.decode.decoded.Statement.{statement}
 use Rattle.records.proofs.decode.decoded.Tie as tie
 
-weight-byte : (n x : ℕ) → n ≤ 8 → weight n x ≤ 255
+weight-byte : (n x : ℕ) → n ≤ 8 → bitWeight n x ≤ 255
 weight-byte n x few = let h : n - suc x ≤ 7 = omega arith in let e = pow-mono h in omega arith
 
 cast-wx : tie.Need-cast-wx
@@ -20,7 +20,7 @@ cast-wx c = let a = c .before .before .args in rw (c .weight-of .ensures) (omega
 cast-wy : tie.Need-cast-wy
 cast-wy c = let a = c .before .before .before .args in rw (c .weight-of2 .ensures) (omega (arith, weight-byte (a .n) (a .second) (omega arith)))
 
-module _ (n op first second : ℕ) (k : Kind) (x y : ℕ) (ek : k ≡ kindAt op) (ex : x ≡ weight n first) (ey : y ≡ weight n second) where
+module _ (n op first second : ℕ) (k : Kind) (x y : ℕ) (ek : k ≡ kindAt op) (ex : x ≡ bitWeight n first) (ey : y ≡ bitWeight n second) where
   turned : op ≡ 8 → _≡_ {A = Decoded} (record { kind = k; first = second; second = second; wx = x; wy = y })
       (decodedOf n (record { op = op; first = first; second = second }))
   unfolding decodedOf

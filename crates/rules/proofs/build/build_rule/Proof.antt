@@ -1,9 +1,5 @@
 -- `rules::build::build_rule` meets its contract. Assumes nothing.
-use Prim.Native.Nat.{_-_, _≤_, _<_}
-use mathlib.Core.Path.{_≡_}
-use lib.ListN.{drop}
-use native.Mathlib.Omega.{arith}
-use borrow.Author.Needs.{needs}
+use Rattle.words.proofs.Vocabulary.{_-_, _≤_, _<_, _≡_, drop, arith, needs}
 use Rattle.building.specs.Build.{MadeBy}
 use Rattle.building.specs.Named.{usedIn}
 use Rattle.rule_strip.specs.RuleStrip.{variablesOf, countOf}

@@ -1,7 +1,5 @@
 -- `rules::build::clear_work` meets its contract. Assumes nothing.
-use mathlib.Core.Path.{_≡_, _∙_}
-use native.Mathlib.Omega.{arith}
-use borrow.Author.Needs.{needs}
+use Rattle.words.proofs.Vocabulary.{_≡_, _∙_, arith, needs}
 use Rattle.rules.specs.Room.{roomOf}
 use Rattle.rules.proofs.Rooms.{room-same}
 use Rattle.rules.proofs.Rules.{rule-sizes}
@@ -24,14 +22,8 @@ room : (c : tie.After-needed)
     → let s = c .before .before .before .before .before .before in c .needed .result ≡ roomOf (s .args .rule .now) (s .args .c)
 room c = c .needed .ensures ∙ room-same _ (c .before .before .before .variables-of .ensures) (c .before .before .count-of .ensures)
 
-clear-requires : tie.Need-clear-requires
-clear-requires c κs = rw (room c) (c .before .before .before .before .before .before .pre .long)
-
-returns : tie.Need-returns
-returns c = rw (← room (c .before .before .before)) (c .before .before .clear .ensures)
-
 pub clear-work-spec : {M : Type 1} → statement M
 clear-work-spec =
     tie.close
-    (tie.spec (λ c κs. rule-sizes (c .before .before .pre) .0) (λ c κs. rule-sizes (c .before .before .before .pre) .0) needed-requires clear-requires
-    (λ c. search needs) returns)
+    (tie.spec (λ c κs. rule-sizes (c .before .before .pre) .0) (λ c κs. rule-sizes (c .before .before .before .pre) .0) needed-requires (λ c κs. rw (room c) (c .before .before .before .before .before .before .pre .long))
+    (λ c. search needs) (λ c. rw (← room (c .before .before .before)) (c .before .before .clear .ensures)))

@@ -1,8 +1,5 @@
 -- `rules::decode::decode` meets its contract. Assumes nothing.
-use Prim.Native.Nat.{_-_}
-use mathlib.Core.Path.{refl}
-use native.Mathlib.Omega.{arith}
-use borrow.Author.Needs.{needs}
+use Rattle.words.proofs.Vocabulary.{_-_, refl, arith, needs}
 use Rattle.rules.proofs.Decodes.{Decoding, fields-byte, decoding-first, decoding-next, decoding-last}
 use Rattle.rules.proofs.decode.decode.Statement.{statement}
 use Rattle.rules.proofs.decode.decode.Tie as tie

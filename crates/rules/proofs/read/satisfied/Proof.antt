@@ -1,6 +1,5 @@
 -- `rules::read::satisfied` meets its contract. Assumes nothing.
-use native.Mathlib.Omega.{arith}
-use borrow.Author.Needs.{needs}
+use Rattle.words.proofs.Vocabulary.{arith, needs}
 use Rattle.rules.proofs.Rules.{rule-sizes}
 use Rattle.rules.proofs.RuleAnswers.{rule-machine, rule-tree, rule-says}
 use Rattle.rules.proofs.read.satisfied.Statement.{statement}

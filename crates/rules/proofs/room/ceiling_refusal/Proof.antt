@@ -1,6 +1,5 @@
 -- `rules::room::ceiling_refusal` meets its contract. Assumes nothing.
-use borrow.Author.Tests.{le-leb, lt-leb}
-use borrow.Author.Needs.{needs}
+use Rattle.words.proofs.Vocabulary.{le-leb, lt-leb, needs}
 use Rattle.rules.specs.Room.{ceilingRefusal}
 use Rattle.rules.proofs.room.ceiling_refusal.Statement.{statement}
 use Rattle.rules.proofs.room.ceiling_refusal.Tie as tie

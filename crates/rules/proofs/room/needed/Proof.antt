@@ -1,7 +1,5 @@
 -- `rules::room::needed` meets its contract. Assumes nothing.
-use mathlib.Core.Path.{_∙_}
-use native.Mathlib.Omega.{arith}
-use borrow.Author.Needs.{needs}
+use Rattle.words.proofs.Vocabulary.{_∙_, arith, needs}
 use Rattle.rules.proofs.Rooms.{room-shares, shaped}
 use Rattle.rules.proofs.room.needed.Statement.{statement}
 use Rattle.rules.proofs.room.needed.Tie as tie

@@ -1,8 +1,6 @@
 -- `rules::room::strip_bytes` meets its contract. Assumes nothing.
-use Prim.Native.Nat.{_+_, _*_, _≤_}
-use native.Mathlib.Omega.{arith}
+use Rattle.words.proofs.Vocabulary.{_+_, _*_, _≤_, arith, needs}
 use Rattle.rules.proofs.Rooms.{strip-few}
-use borrow.Author.Needs.{needs}
 use Rattle.rules.proofs.room.strip_bytes.Statement.{statement}
 use Rattle.rules.proofs.room.strip_bytes.Tie as tie
 

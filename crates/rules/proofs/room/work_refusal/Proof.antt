@@ -1,7 +1,5 @@
 -- `rules::room::work_refusal` meets its contract. Assumes nothing.
-use mathlib.Core.Path.{refl, sym, _∙_}
-use borrow.Author.Needs.{needs}
-use native.Mathlib.Omega.{arith}
+use Rattle.words.proofs.Vocabulary.{refl, sym, _∙_, needs, arith}
 use Rattle.refusals.proofs.Refusals.{tested-stops}
 use Rattle.rules.specs.Room.{workRefusal}
 use Rattle.rules.proofs.Rooms.{ceiling-free}

@@ -1,6 +1,5 @@
 -- `rules::trees::tree_refusal` meets its contract. Assumes nothing.
-use mathlib.Core.Path.{sym, _∙_}
-use borrow.Author.Needs.{needs}
+use Rattle.words.proofs.Vocabulary.{sym, _∙_, needs}
 use Rattle.rules.proofs.TreeRefusals.{tree-placed, tree-other, tree-same}
 use Rattle.rules.proofs.trees.tree_refusal.Statement.{statement}
 use Rattle.rules.proofs.trees.tree_refusal.Tie as tie

@@ -19,9 +19,6 @@ returns c =
     let a = b .args in
     same-sizes (a .text .now) (a .a-start) (a .a-stop) (a .b-start) (a .b-stop) (b .pre .0) (b .pre .1) (c .if1 .taken)
 
-loop-holds : tie.Need-loop-holds Inv-loop μ-loop
-loop-holds c = (omega arith, held-none _ _ _ _ _)
-
 loop-again : tie.Need-loop-again Inv-loop μ-loop
 loop-again c =
     let l = c .before .before .before .before in
@@ -31,12 +28,9 @@ loop-again c =
           (λ w. rw (w .1) (held-goes H (omega arith) (omega arith) (omega arith) (omega arith) (w .0 .left))) (c .if2 .came),
     )
 
-returns-2 : tie.Need-returns-2 Inv-loop μ-loop
-returns-2 c = held-all (c .before .loop .inv .1) (omega arith) (omega arith)
-
 pub same-spec : {M : Type 1} → statement M
 same-spec =
     tie.close
     (tie.spec
-    Inv-loop μ-loop (λ c. search needs) (λ c. search needs) returns loop-holds (λ c. search needs) (λ c. search needs) (λ c. search needs)
-    (λ c. search needs) (λ c. search needs) (λ c. search needs) loop-again returns-2)
+    Inv-loop μ-loop (λ c. search needs) (λ c. search needs) returns (λ c. (omega arith, held-none _ _ _ _ _)) (λ c. search needs) (λ c. search needs) (λ c. search needs)
+    (λ c. search needs) (λ c. search needs) (λ c. search needs) loop-again (λ c. held-all (c .before .loop .inv .1) (omega arith) (omega arith)))

@@ -6,11 +6,8 @@ use borrow.Author.Needs.{needs}
 use Rattle.ws2s.proofs.exports.ws2s_check_rule.Statement.{statement}
 use Rattle.ws2s.proofs.exports.ws2s_check_rule.Tie as tie
 
-returns : tie.Need-returns
-returns c =
-    let n = c .rule-numbers .ensures in
-    let e = c .before .check-rule .ensures in
-    (n ∙ ap ruleNumbers e, rw n (rule-refused _ _ e))
-
 pub ws2s-check-rule-spec : {M : Type 1} → statement M
-ws2s-check-rule-spec = tie.close (tie.spec (λ c κs. search needs) (λ c κs. search needs) returns)
+ws2s-check-rule-spec =
+    tie.close
+    (tie.spec (λ c κs. search needs) (λ c κs. search needs)
+    (λ c. let e = c .before .check-rule .ensures in (c .rule-numbers .ensures ∙ ap ruleNumbers e, rw (c .rule-numbers .ensures) (rule-refused _ _ e))))

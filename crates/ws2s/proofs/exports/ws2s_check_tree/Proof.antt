@@ -6,11 +6,8 @@ use borrow.Author.Needs.{needs}
 use Rattle.ws2s.proofs.exports.ws2s_check_tree.Statement.{statement}
 use Rattle.ws2s.proofs.exports.ws2s_check_tree.Tie as tie
 
-returns : tie.Need-returns
-returns c =
-    let n = c .tree-numbers .ensures in
-    let e = c .before .check-tree .ensures in
-    (n ∙ ap treeNumbers e, rw n (tree-refused _ _ e))
-
 pub ws2s-check-tree-spec : {M : Type 1} → statement M
-ws2s-check-tree-spec = tie.close (tie.spec (λ c κs. search needs) (λ c κs. search needs) returns)
+ws2s-check-tree-spec =
+    tie.close
+    (tie.spec (λ c κs. search needs) (λ c κs. search needs)
+    (λ c. let e = c .before .check-tree .ensures in (c .tree-numbers .ensures ∙ ap treeNumbers e, rw (c .tree-numbers .ensures) (tree-refused _ _ e))))

@@ -5,8 +5,5 @@ use Rattle.import.specs.Numbers.{faultNumbers}
 use Rattle.ws2s.proofs.exports.ws2s_text_fault.Statement.{statement}
 use Rattle.ws2s.proofs.exports.ws2s_text_fault.Tie as tie
 
-returns : tie.Need-returns
-returns c = c .fault-numbers .ensures ∙ ap faultNumbers (c .before .text-fault .ensures)
-
 pub ws2s-text-fault-spec : {M : Type 1} → statement M
-ws2s-text-fault-spec = tie.close (tie.spec (λ c κs. search needs) (λ c κs. search needs) returns)
+ws2s-text-fault-spec = tie.close (tie.spec (λ c κs. search needs) (λ c κs. search needs) (λ c. c .fault-numbers .ensures ∙ ap faultNumbers (c .before .text-fault .ensures)))
