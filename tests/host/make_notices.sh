@@ -125,7 +125,7 @@ runs "$deep put back"
 
 # the other kinds, in crates that take little time
 inner=$(first crates/verdict/proofs/*/Proof.antt) && proof=$(first crates/refinement/proofs/*.antt) &&
-    spec=$(first crates/refinement/specs/*.antt) && source=$(first crates/verdict/src/*.rt) || exit
+    spec=$(first crates/refusals/specs/*.antt) && source=$(first crates/verdict/src/*.rt) || exit
 for file in "$inner" "$proof" "$spec" "$source"; do
     spoil "$file"
     refused run "$file broken" "$file:"
