@@ -51,7 +51,8 @@ module _ (rule : List ℕ) (c P : ℕ) (ws out : List ℕ) where
   unfolding verdictOf
   shows-shallow ex {out′ = out′} eo places states bytes f = go (early rule c P ws out) refl (sym ex ∙ f)
     where
-      go : (r : Refusal) → early rule c P ws out ≡ r → answerUnless Refused r (outcomeVerdict (variablesOf rule) (decidedOf rule c P)) ≡ Shown places states bytes
+      go : (r : Refusal) → early rule c P ws out ≡ r
+          → answerUnless Refused r (outcomeVerdict (variablesOf rule) (decidedOf rule c P)) ≡ Shown places states bytes
           → ShallowStrip (take bytes out′) c places states
       go (Placed k p) e h = absurd (let z : _≡_ {A = ℕ} 0 1 = cc in omega arith)
       go (Plain k) e h = absurd (let z : _≡_ {A = ℕ} 0 1 = cc in omega arith)

@@ -6,7 +6,6 @@ use Rattle.layout.specs.Shape.{Shaped, labelsIn, shareOf, shareAt, placeIn, Tup
 use Rattle.layout.specs.declared.Shape.{Shape}
 use Rattle.layout.proofs.Places.{tuple-up, pair-in, pairs-of, place-in, place-one, place-two}
 use Rattle.table.specs.Entry.{seen, entry, through}
-use Rattle.table.specs.Succ.{looksOf}
 use Rattle.table.specs.declared.plan.Kind.{Kind}
 use Rattle.table.specs.declared.plan.Kind.the-variants.{Not}
 use Rattle.table.proofs.Masks.{seen-le, seen-seen}

@@ -21,7 +21,6 @@ use Rattle.records.specs.Rule.{Mach, machFrom, isNot, numberedBy, machin
 use Rattle.records.specs.declared.Decoded.{Decoded}
 use Rattle.records.specs.declared.Summary.{Summary}
 use Rattle.records.proofs.Held.{Part, Same, record-same}
-use Rattle.logic.specs.Reach.{position}
 
 pub drop-later : (n m : ℕ) (a b : List ℕ) → n ≤ m → drop n a ≡ drop n b → drop m a ≡ drop m b
 drop-later n m a b h e =

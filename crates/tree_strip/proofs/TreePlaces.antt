@@ -13,7 +13,8 @@ use Rattle.bits.specs.Bits.{bits, field, anySet, firstSet, bitLength, between}
 use Rattle.bits.specs.declared.Fault.{Fault}
 use Rattle.bits.specs.declared.Fault.the-variants.{Sound, At}
 use Rattle.tree_strip.specs.TreeStrip.{Parsed, parsed, refused, placeOf, parse, padding, endFault, unless, ended, readTree, faultIn, treeFault, Stands}
-use Rattle.tree_strip.specs.TreePlaces.{treeEnd, wholeByte, Unset, ReadingComes, begin, Offends, OffendsAt, no-bytes, version, variables, padding-bit, byte-left}
+use Rattle.tree_strip.specs.TreePlaces.{treeEnd, wholeByte, Unset, ReadingComes, begin, Offends, OffendsAt, no-bytes, version, variables}
+use Rattle.tree_strip.specs.TreePlaces.{padding-bit, byte-left}
 use Rattle.bits.proofs.Places.{any-first, first-set, first-before}
 use Rattle.bits.proofs.Packing.{length-from, bits-bits}
 use Rattle.tree_strip.proofs.TreeBits.{last-from}

@@ -3,7 +3,6 @@
 use mathlib.Core.Path.{_≡_, refl, sym, _∙_}
 use Prim.Native.Nat.{_+_, _-_, _≤_}
 use native.Mathlib.Omega.{arith}
-use borrow.Author.Needs.{needs}
 use lib.Seq.{slice}
 use Rattle.bits.specs.Bits.{bits, firstSet}
 use Rattle.bits.proofs.Fields.{length-bits}

@@ -1,6 +1,5 @@
 -- `build_marked` meets its contract: the turns of `Nexts`, and an entry for each possible record. Assumes nothing.
 use Rattle.words.proofs.Vocabulary.{ℕ, _<_, _+_, _-_, _∙_, refl, needs, getD, arith}
-use Rattle.records.specs.Rule.{noDecoded}
 use Rattle.building.specs.OneRecord.{keptIn, Wide, Builds}
 use Rattle.building.specs.Build.{machinesIn}
 use Rattle.building.specs.Named.{marked}
@@ -80,7 +79,8 @@ returns-2 c =
 pub build-marked-spec : {M : Type 1} → statement M
 build-marked-spec =
     tie.close
-    (tie.spec Inv-loop μ-loop (λ c κs. (omega arith, c .before .pre .0, c .before .pre .1 .1 .1 .0)) (λ c. (turn-first (c .next-marked .ensures), c .before .before .pre .1 .0))
+    (tie.spec Inv-loop μ-loop (λ c κs. (omega arith, c .before .pre .0, c .before .pre .1 .1 .1 .0))
+    (λ c. (turn-first (c .next-marked .ensures), c .before .before .pre .1 .0))
     (λ c. omega (arith, number (c .before .before .before .before))) (λ c. number (c .before .before .before .before) .1) build-record-requires
     (λ c. let b = c .before .before .before in b .build-record .kept .0 ∙ turn-of b .before .loop .inv .0 .long) returns
     (λ c. omega (arith, number (turn-of (c .before .before .before)))) next-marked-requires-2 loop-less loop-again

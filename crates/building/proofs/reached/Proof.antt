@@ -46,6 +46,7 @@ returns c =
 pub reached-spec : {M : Type 1} → statement M
 reached-spec =
     tie.close
-    (tie.spec Inv-loop μ-loop (λ c. search needs) (λ c. search needs) (λ c. pass-first (c .args .t1) (c .args .m) (c .pre .0 .1) (c .pre .1) (c .pre .0 .0)) (λ c. search needs) (λ c. search needs) (λ c. search needs)
+    (tie.spec Inv-loop μ-loop (λ c. search needs) (λ c. search needs) (λ c. pass-first (c .args .t1) (c .args .m) (c .pre .0 .1) (c .pre .1) (c .pre .0 .0))
+    (λ c. search needs) (λ c. search needs) (λ c. search needs)
     (λ c. search needs) mark-named-requires (λ c. search needs) loop-again (λ c. search needs) loop-again-2
     (λ c. omega (arith, c .before .before .pre .0)) returns)

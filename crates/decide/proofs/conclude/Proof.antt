@@ -15,7 +15,9 @@ room : (c : tie.After-second) → let s = start-of c in
     let a = s .args in
     let t = shownTree (a .n) (a .states) (a .f) (a .out .now) (c .before .before .before .enum-told3 .given .1) (s .pre .1) (s .pre .2) in
     (a .f .positions ≡ positions t) × (positions t ≤ 255) × (treeBytes (a .n) (positions t) ≤ length (a .out .now))
-room c = let s = start-of c in let a = s .args in shown-room (a .n) (a .states) (a .f) (a .out .now) (c .before .before .before .enum-told3 .given .1) (s .pre .1) (s .pre .2)
+room c =
+    let s = start-of c in
+    let a = s .args in shown-room (a .n) (a .states) (a .f) (a .out .now) (c .before .before .before .enum-told3 .given .1) (s .pre .1) (s .pre .2)
 
 long : (c : tie.After-strip-bytes) → c .strip-bytes .result ≤ length (start-of (c .before) .args .out .now)
 long c =
@@ -33,14 +35,16 @@ write-strip-requires c κs =
       settled = let h = s .pre .1 .low in omega arith;
       back = s .pre .1 .back;
       few-positions = room (b .before) .1;
-      size = shown-front (s .args .n) (s .args .states) (s .args .f) (s .args .out .now) (b .before .before .before .before .enum-told3 .given .1) (s .pre .1) (s .pre .2) _ (b .strip-bytes .ensures);
+      size = shown-front (s .args .n) (s .args .states) (s .args .f) (s .args .out .now) (b .before .before .before .before .enum-told3 .given .1) (s .pre .1)
+          (s .pre .2) _ (b .strip-bytes .ensures);
     }
 
 returns-3 : tie.Need-returns-3
 returns-3 c =
     let b = c .before .before .before .before .before .before .before in
     let s = start-of (b .before) in
-    tells-shown (s .args .n) (s .args .states) (s .args .f) (s .args .out .now) (b .before .before .before .before .enum-told3 .given .1) (s .pre .1) (s .pre .2) _ (b .strip-bytes .ensures) _
+    tells-shown (s .args .n) (s .args .states) (s .args .f) (s .args .out .now) (b .before .before .before .before .enum-told3 .given .1) (s .pre .1)
+    (s .pre .2) _ (b .strip-bytes .ensures) _
     (c .before .before .write-strip .ensures)
 
 pub conclude-spec : {M : Type 1} → statement M

@@ -35,7 +35,8 @@ clear-work-requires c κs =
     let x = c .before .before .before .before .before in
     let b = x .before .before .before in
     let a = start-of b .args in
-    subst (Workable (a .rule .now) (a .c)) (sym (x .decide-accepted .kept .1 .1 .1 .0)) (early-free (a .rule .now) (a .c) (a .p) (a .ws .now) (a .out .now) (free b) .0)
+    subst (Workable (a .rule .now) (a .c)) (sym (x .decide-accepted .kept .1 .1 .1 .0))
+    (early-free (a .rule .now) (a .c) (a .p) (a .ws .now) (a .out .now) (free b) .0)
 
 returns-2 : tie.Need-returns-2
 returns-2 c =

@@ -82,4 +82,5 @@ pub put-atom-spec : {M : Type 1} → statement M
 put-atom-spec =
     tie.close
     (tie.spec (λ c. search needs) put-requires (λ c. search needs) put-requires-2 (λ c. search needs) (λ c. search needs) put-requires-3
-    (λ c. search needs) put-requires-4 returns put-requires-5 (λ c. search needs) put-requires-6 (λ c. atom-is (Sub _ _) (c .before .before .before .atom .given .1) refl (c .put .ensures .1)) returns-3 returns-4 returns-5 returns-6)
+    (λ c. search needs) put-requires-4 returns put-requires-5 (λ c. search needs) put-requires-6
+    (λ c. atom-is (Sub _ _) (c .before .before .before .atom .given .1) refl (c .put .ensures .1)) returns-3 returns-4 returns-5 returns-6)

@@ -26,5 +26,6 @@ returns-4 c =
 pub put-quantified-spec : {M : Type 1} → statement M
 put-quantified-spec =
     tie.close
-    (tie.spec (λ c κs. search needs) (λ c κs. search needs) returns (λ c κs. search needs) (λ c. ex2-is _ (c .before .before .if2 .taken) (c .put-exists2 .ensures)) (λ c κs. search needs)
+    (tie.spec (λ c κs. search needs) (λ c κs. search needs) returns (λ c κs. search needs)
+    (λ c. ex2-is _ (c .before .before .if2 .taken) (c .put-exists2 .ensures)) (λ c κs. search needs)
     (λ c κs. search needs) (λ c κs. search needs) (λ c κs. search needs) returns-3 (λ c κs. search needs) (λ c κs. search needs) returns-4)

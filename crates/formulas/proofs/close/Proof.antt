@@ -15,4 +15,5 @@ returns-3 c = closes (got-zero _ (c .before .before .before .before .before .if1
 pub close-spec : {M : Type 1} → statement M
 close-spec =
     tie.close
-    (tie.spec returns (λ c. search needs) (λ c. lacks-closing (got-zero _ (c .before .before .if1 .left)) refl (c .if2 .taken) refl) (λ c. search needs) (λ c κs. search needs) returns-3)
+    (tie.spec returns (λ c. search needs) (λ c. lacks-closing (got-zero _ (c .before .before .if1 .left)) refl (c .if2 .taken) refl) (λ c. search needs)
+    (λ c κs. search needs) returns-3)

@@ -15,4 +15,5 @@ returns-2 c =
 pub finish-spec : {M : Type 1} → statement M
 finish-spec =
     tie.close
-    (tie.spec (λ c. passes _ _ _ (refused-some _ _ (c .if1 .taken)) (refused-some _ _ (c .if1 .taken)) refl) (λ c. search needs) (λ c κs. search needs) (λ c. search needs) returns-2)
+    (tie.spec (λ c. passes _ _ _ (refused-some _ _ (c .if1 .taken)) (refused-some _ _ (c .if1 .taken)) refl) (λ c. search needs) (λ c κs. search needs)
+    (λ c. search needs) returns-2)

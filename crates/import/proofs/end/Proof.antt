@@ -21,4 +21,6 @@ returns-4 c =
 pub end-spec : {M : Type 1} → statement M
 end-spec =
     tie.close
-    (tie.spec (λ c. ends-refused _ _ _ (refused-some _ _ (c .if1 .taken)) (refused-some _ _ (c .if1 .taken))) (λ c. search needs) (λ c. no-semicolon (got-zero _ (c .before .before .if1 .left)) refl (c .if2 .taken)) (λ c. search needs) (λ c κs. search needs) (λ c. search needs) returns-3 returns-4)
+    (tie.spec (λ c. ends-refused _ _ _ (refused-some _ _ (c .if1 .taken)) (refused-some _ _ (c .if1 .taken))) (λ c. search needs)
+    (λ c. no-semicolon (got-zero _ (c .before .before .if1 .left)) refl (c .if2 .taken)) (λ c. search needs) (λ c κs. search needs) (λ c. search needs)
+    returns-3 returns-4)

@@ -24,5 +24,6 @@ returns-4 c =
 pub import-text-spec : {M : Type 1} → statement M
 import-text-spec =
     tie.close
-    (tie.spec (λ c. outcome-small _ _ (c .if1 .taken)) (λ c κs. search needs) returns-2 (λ c. search needs) (λ c. search needs) returns-3 (λ c κs. search needs) (λ c. search needs)
+    (tie.spec (λ c. outcome-small _ _ (c .if1 .taken)) (λ c κs. search needs) returns-2 (λ c. search needs) (λ c. search needs) returns-3
+    (λ c κs. search needs) (λ c. search needs)
     (λ c. search needs) (λ c. search needs) (λ c. search needs) returns-4)

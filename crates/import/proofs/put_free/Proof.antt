@@ -42,4 +42,5 @@ loop-again c =
 pub put-free-spec : {M : Type 1} → statement M
 put-free-spec =
     tie.close
-    (tie.spec Inv-loop μ-loop (λ c. freed-none) mul-if1 add-if1 mul-if1-2 element-copy-out-if1 put-single-requires add-i loop-less loop-again (λ c. freed-all (c .before .loop .inv) (c .loop-test .left)))
+    (tie.spec Inv-loop μ-loop (λ c. freed-none) mul-if1 add-if1 mul-if1-2 element-copy-out-if1 put-single-requires add-i loop-less loop-again
+    (λ c. freed-all (c .before .loop .inv) (c .loop-test .left)))

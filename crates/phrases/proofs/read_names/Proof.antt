@@ -76,5 +76,7 @@ pub read-names-spec : {M : Type 1} → statement M
 read-names-spec =
     tie.close
     (tie.spec
-    Inv-loop μ-loop (λ c. listed-none _ _ _ _ _ (c .before .pre)) (λ c κs. search needs) (λ c κs. (c .before .before .loop .inv .fit, name-span (c .before .token-at .ensures))) (λ c κs. search needs) returns bound-requires add-count (λ c κs. search needs)
+    Inv-loop μ-loop (λ c. listed-none _ _ _ _ _ (c .before .pre)) (λ c κs. search needs)
+    (λ c κs. (c .before .before .loop .inv .fit, name-span (c .before .token-at .ensures))) (λ c κs. search needs) returns bound-requires add-count
+    (λ c κs. search needs)
     (λ c κs. search needs) returns-2 (λ c κs. search needs) returns-3 loop-less loop-again)

@@ -10,4 +10,5 @@ read-related-spec =
     (tie.spec
     (λ c κs. search needs) (λ c. related-equal (c .before .if1 .taken) (c .read-equal .ensures)) (λ c κs. search needs)
     (λ c. related-sub (c .before .if2 .taken) (c .read-right .ensures)) (λ c κs. search needs)
-    (λ c. related-in (c .before .if3 .taken) (c .read-right2 .ensures)) (λ c. related-other (c .before .before .if1 .left) (c .before .if2 .left) (c .if3 .left)))
+    (λ c. related-in (c .before .if3 .taken) (c .read-right2 .ensures))
+    (λ c. related-other (c .before .before .if1 .left) (c .before .if2 .left) (c .if3 .left)))

@@ -99,5 +99,6 @@ settle-spec =
     Inv-loop μ-loop (λ c. search needs) (λ c. round-first (c .before .pre .0)) scan-requires (λ c κs. search needs) returns (λ c κs. search needs) returns-2
     array-read-wide (λ c κs. search needs) array-read-wide-2 (λ c κs. search needs) step-in-requires (λ c. search needs) (λ c. search needs)
     (λ c. search needs) (λ c. search needs) (λ c. search needs) (λ c. search needs) narrow-requires (λ c. search needs) (λ c. search needs)
-    (λ c. search needs) (λ c. narrow-requires (c .before) tt) (λ c. search needs) (λ c κs. narrow-requires (c .before) tt) (λ c κs. search needs) returns-3 (λ c. search needs) loop-again
+    (λ c. search needs) (λ c. narrow-requires (c .before) tt) (λ c. search needs) (λ c κs. narrow-requires (c .before) tt) (λ c κs. search needs) returns-3
+    (λ c. search needs) loop-again
     (λ c κs. search needs) returns-4)

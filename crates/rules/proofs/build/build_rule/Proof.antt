@@ -63,4 +63,5 @@ build-rule-spec =
     (tie.spec (λ c κs. rule-sizes (c .before .before .pre) .0) (λ c κs. rule-sizes (c .before .before .before .pre) .0) (λ c κs. search needs)
     (λ c κs. search needs) build-all-requires (λ c. last (c .before .before) .0) (λ c. search needs) (λ c. search needs)
     (λ c. last (c .before .before .before .before) .1) (λ c. omega (arith, last (c .before .before .before .before .before)))
-    (λ c. last (c .before .before .before .before .before) .1) (λ c. last (c .before .before .before .before .before .before) .1) (λ c. search needs) returns (λ c. search needs) returns-2)
+    (λ c. last (c .before .before .before .before .before) .1) (λ c. last (c .before .before .before .before .before .before) .1) (λ c. search needs) returns
+    (λ c. search needs) returns-2)

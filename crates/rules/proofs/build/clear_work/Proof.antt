@@ -25,5 +25,6 @@ room c = c .needed .ensures ∙ room-same _ (c .before .before .before .variable
 pub clear-work-spec : {M : Type 1} → statement M
 clear-work-spec =
     tie.close
-    (tie.spec (λ c κs. rule-sizes (c .before .before .pre) .0) (λ c κs. rule-sizes (c .before .before .before .pre) .0) needed-requires (λ c κs. rw (room c) (c .before .before .before .before .before .before .pre .long))
+    (tie.spec (λ c κs. rule-sizes (c .before .before .pre) .0) (λ c κs. rule-sizes (c .before .before .before .pre) .0) needed-requires
+    (λ c κs. rw (room c) (c .before .before .before .before .before .before .pre .long))
     (λ c. search needs) (λ c. rw (← room (c .before .before .before)) (c .before .before .clear .ensures)))

@@ -14,7 +14,8 @@ returns : tie.Need-returns
 returns c =
     let m = c .before in
     let s = m .before .before .before .before .before in
-    rule-found (s .pre .0) (s .pre .1 .0) (m .before .before .variables-of .ensures) (m .before .shape-for .ensures) (m .count-of .ensures) (c .earliest .ensures)
+    rule-found (s .pre .0) (s .pre .1 .0) (m .before .before .variables-of .ensures) (m .before .shape-for .ensures) (m .count-of .ensures)
+    (c .earliest .ensures)
 
 pub earliest-spec : {M : Type 1} → statement M
 earliest-spec =

@@ -22,5 +22,6 @@ returns c =
 pub satisfied-spec : {M : Type 1} → statement M
 satisfied-spec =
     tie.close
-    (tie.spec (λ c κs. rule-sizes (c .before .before .before .pre .0) .0) (λ c κs. search needs) (λ c κs. rule-sizes (c .before .before .before .before .before .pre .0) .0)
+    (tie.spec (λ c κs. rule-sizes (c .before .before .before .pre .0) .0) (λ c κs. search needs)
+    (λ c κs. rule-sizes (c .before .before .before .before .before .pre .0) .0)
     (λ c. let z = rule-sizes (c .before .before .before .before .before .before .pre .0) in omega (arith, c .count-of .ensures)) accepted-requires returns)

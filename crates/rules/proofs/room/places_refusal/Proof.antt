@@ -1,6 +1,5 @@
 -- `rules::room::places_refusal` meets its contract. Assumes nothing.
 use Rattle.rules.proofs.Rooms.{short-told, long-told}
-use borrow.Author.Needs.{needs}
 use Rattle.rules.specs.Room.{placesRefusal}
 use Rattle.rules.proofs.room.places_refusal.Statement.{statement}
 use Rattle.rules.proofs.room.places_refusal.Tie as tie

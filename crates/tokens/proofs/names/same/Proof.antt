@@ -32,5 +32,6 @@ pub same-spec : {M : Type 1} → statement M
 same-spec =
     tie.close
     (tie.spec
-    Inv-loop μ-loop (λ c. search needs) (λ c. search needs) returns (λ c. (omega arith, held-none _ _ _ _ _)) (λ c. search needs) (λ c. search needs) (λ c. search needs)
+    Inv-loop μ-loop (λ c. search needs) (λ c. search needs) returns (λ c. (omega arith, held-none _ _ _ _ _)) (λ c. search needs) (λ c. search needs)
+    (λ c. search needs)
     (λ c. search needs) (λ c. search needs) (λ c. search needs) loop-again (λ c. held-all (c .before .loop .inv .1) (omega arith) (omega arith)))
