@@ -123,9 +123,9 @@ refused run "$deep broken" "$deep:"
 cp "$deep" "$copy/$deep"
 runs "$deep put back"
 
-# the other kinds, in crates that take little time
-inner=$(first crates/verdict/proofs/*/Proof.antt) && proof=$(first crates/refinement/proofs/*.antt) &&
-    spec=$(first crates/refusals/specs/*.antt) && source=$(first crates/verdict/src/*.rt) || exit
+# the other kinds, in crates near the top, since what lies above a crate that was broken is proved again
+inner=$(first crates/verdict/proofs/*/Proof.antt) && proof=$(first crates/report/proofs/*.antt) &&
+    spec=$(first crates/program/specs/*.antt) && source=$(first crates/verdict/src/*.rt) || exit
 for file in "$inner" "$proof" "$spec" "$source"; do
     spoil "$file"
     refused run "$file broken" "$file:"

@@ -1,5 +1,4 @@
--- What the proofs of the builder and of the operations say in words of the libraries, passed on so that a file names them together. Assumes
--- nothing.
+-- What the proofs of the builder and the operations say in words of the libraries, passed on so that files name them together. Assumes nothing.
 pub use Prim.Native.Nat.{ℕ, _≤_, _<_, _+_, _-_, _*_, suc, _%_, zero, _^_, _/_, suc-le-suc, zero-le, max, min}
 pub use mathlib.Core.Bool.{Bool, true, false, _||_, _&&_, cond, not, or-true, or-assoc, or-false, and-true, and-false, and-self}
 pub use mathlib.Core.Path.{_≡_, _∙_, refl, sym, ap, subst, ap₂, fun-ext}

@@ -10,7 +10,9 @@ entries =
     0 ∷ 3 ∷ 2 ∷ 3 ∷ 3 ∷ 3 ∷ 3 ∷ 3 ∷ 2 ∷ 3 ∷ 3 ∷ 3 ∷ 3 ∷ 3 ∷ 3 ∷ 3 ∷ 3 ∷ 3 ∷ 3 ∷ 3 ∷ 2 ∷ 3 ∷ 3 ∷ 3 ∷ 3 ∷ 3 ∷ 3 ∷ 3 ∷ 3 ∷ 3 ∷ 3 ∷ 3
     ∷ 1 ∷ 3 ∷ 3 ∷ 3 ∷ 3 ∷ 3 ∷ 3 ∷ 3 ∷ 3 ∷ 3 ∷ 3 ∷ 3 ∷ 3 ∷ 3 ∷ 3 ∷ 3 ∷ 3 ∷ 3 ∷ 3 ∷ 3 ∷ 3 ∷ 3 ∷ 3 ∷ 3 ∷ 3 ∷ 3 ∷ 3 ∷ 3 ∷ 3 ∷ 3 ∷ 3 ∷ 3 ∷ []
 
+returns : tie.Need-returns
+returns c = rule-at child1Rule entries refl (c .args .k) (search needs)
+
 pub child1-at-spec : {M : Type 1} → statement M
 child1-at-spec =
-    tie.close (tie.spec (λ c. search needs) (λ c. let b = byte-at entries refl (c .args .k) (search needs) in omega arith)
-    (λ c. rule-at child1Rule entries refl (c .args .k) (search needs)))
+    tie.close (tie.spec (λ c. search needs) (λ c. let b = byte-at entries refl (c .args .k) (search needs) in omega arith) returns)
