@@ -71,7 +71,7 @@ module _ (n c : ℕ) (sh : Shaped (shapeOf n c)) (rs : List Record) (acc : Accep
       reached-cong (decodedNamesIn xs) (namesIn rs) (length rs)
       (λ r h. let e : Record = getD rs r noRecord in ap decodedNames (decoded r h) ∙ names-decoded n (e .op) (e .first) (e .second))
 
-  used-iff : (i : ℕ) → T (used i) ↔ ReachedRecord rs i
+  pub used-iff : (i : ℕ) → T (used i) ↔ ReachedRecord rs i
   used-iff i = subst (λ (v : Bool). T v ↔ ReachedRecord rs i) (sym (used-same i)) (rule-reached 2 n rs acc i)
 
   -- record r, whose parts' machines are good
@@ -188,14 +188,14 @@ module _ (n c : ℕ) (sh : Shaped (shapeOf n c)) (rs : List Record) (acc : Accep
   unfolding Linked
   first-over r e = subst (Linked (length rs)) e (linked (length rs) (omega arith))
 
-  -- and else the last record's machine is the rule's
+  -- and else every record that is reached has its machine
   module _ (ms : List Mach) (e : upto xs used (shapeOf n c) (length rs) ≡ built ms) where
-    all-good : (r : ℕ) → r < length rs → T (used r) → GoodAt r (getD ms r noMach)
+    all-used : (r : ℕ) → r < length rs → T (used r) → GoodAt r (getD ms r noMach)
     unfolding Linked
-    all-good = subst (Linked (length rs)) e (linked (length rs) (omega arith)) .1
+    all-used = subst (Linked (length rs)) e (linked (length rs) (omega arith)) .1
 
-    pub last-good : GoodAt (lastOf rs) (getD ms (lastOf rs) noMach)
-    last-good = all-good (lastOf rs) (omega (arith, acc .0)) ((used-iff (lastOf rs)) .1 itself)
+    pub all-good : (r : ℕ) → ReachedRecord rs r → GoodAt r (getD ms r noMach)
+    all-good r u = all-used r (reached-within 2 n rs acc r u) ((used-iff r) .1 u)
 
     pub roomy : Roomy 2 n rs c
-    roomy r u = few-states (length rs) ms (omega arith) all-good r (reached-within 2 n rs acc r u) u
+    roomy r u = few-states (length rs) ms (omega arith) all-used r (reached-within 2 n rs acc r u) u

@@ -1,26 +1,27 @@
 -- The records of an accepted rule strip can be built; what building them says of the rule; and the workspace is cleared behind them.
 -- Assumes nothing.
-use Rattle.words.proofs.Vocabulary.{ℕ, _+_, _-_, _*_, _≤_, _<_, _≡_, refl, sym, ap, _∙_, subst, Bool, List, _++_, arith, length, getD, drop, replicate}
-use Rattle.logic.specs.Rule.{Record, noRecord, lastOf, Accepted}
-use Rattle.logic.specs.Claims.{FirstOver}
-use Rattle.logic.proofs.ReachedRecords.{last-reached}
+use Rattle.words.proofs.Vocabulary.{ℕ, _+_, _-_, _*_, _≤_, _<_, _≡_, refl, sym, ap, _∙_, subst, Bool, T, List, _++_, arith, length, getD, drop, replicate}
+use Rattle.logic.specs.Rule.{Record, noRecord, lastOf, formulaAt, Accepted}
+use Rattle.logic.specs.Claims.{FirstOver, Roomy}
+use Rattle.logic.specs.ReachedRecords.{itself}
+use Rattle.logic.proofs.Rules.{reached-within}
 use Rattle.layout.specs.Shape.{Shaped}
 use Rattle.layout.specs.declared.Shape.{Shape}
 use Rattle.layout.proofs.Places.{share-next}
 use Rattle.records.specs.Rule.{Mach, noMach, noDecoded}
 use Rattle.records.specs.Decode.{decodedOf}
 use Rattle.records.specs.declared.Decoded.{Decoded}
-use Rattle.building.specs.Named.{namedIn, usedIn}
+use Rattle.building.specs.Named.{usedIn}
 use Rattle.building.specs.Build.{Progress, built, over, entryOf, Made, MadeBy, upto}
 use Rattle.building.specs.OneRecord.{Buildable}
 use Rattle.building.specs.declared.Ending.{Ending}
 use Rattle.building.specs.declared.Ending.the-variants.{Over, Ready}
 use Rattle.building.specs.declared.Machines.{Machines}
 use Rattle.refinement.proofs.Ready.{ready}
-use Rattle.refinement.proofs.Upto.{first-over, last-good, roomy}
+use Rattle.refinement.proofs.Upto.{used-iff, first-over, all-good, roomy}
 use Rattle.rule_strip.specs.RuleStrip.{variablesOf, countOf, recordAt, recordsOf, AcceptedRule}
 use Rattle.rule_strip.proofs.RuleLaws.{rule-accepted, records-at, widths-at}
-use Rattle.rules.specs.Building.{ruleShape, Decider}
+use Rattle.rules.specs.Building.{ruleShape, MachineFor, ReachedBuilt, EndedAs, BuiltRecords, Decider}
 use Rattle.rules.specs.Decoding.{DecodesTo}
 use Rattle.rules.specs.Room.{roomOf, cleared, Workable}
 use Rattle.rules.proofs.Rooms.{room-shares, shaped}
@@ -88,28 +89,50 @@ module _ {rule : List ℕ} {c room : ℕ} (w : Workable rule c room) where
 
     module _ (t : Machines) (ws : List ℕ) (made : MadeBy (usedIn xs m) xs (ruleShape rule c) m t ws) where
       -- too many states
-      pub rule-over : (r : ℕ) → t .ending ≡ Over r → FirstOver 2 n rs c r
+      rule-over : (r : ℕ) → t .ending ≡ Over r → FirstOver 2 n rs c r
       rule-over r e = first-over n c rule-shaped rs good xs decoded r (outcome-is ∙ is-over (usedIn xs m) _ (ruleShape rule c) m r t ws made e)
 
-      -- the last record's machine
-      pub rule-ready : length ws ≡ room → t .ending ≡ Ready → Decider rule c (entryOf t (m - 1)) ws
+      -- none has: the machines of the records that are reached
+      rule-ready : length ws ≡ room → t .ending ≡ Ready → Roomy 2 n rs c × ReachedBuilt rule c (entryOf t) ws
       rule-ready same e =
+          let l = long in
           let z = rule-sizes in
           let o = no-over (usedIn xs m) _ (ruleShape rule c) m t ws made e in
-          let last : lastOf rs ≡ m - 1 = ap (λ (j : ℕ). j - 1) long in
-          let g = rw last at (last-good n c rule-shaped rs good xs decoded (o .0) (outcome-is ∙ o .1)) in
-          record {
-            roomy = roomy n c rule-shaped rs good xs decoded (o .0) (outcome-is ∙ o .1);
-            readable = record {
-              shape = rule-shaped;
-              number = omega arith;
-              share = omega (arith, share-next (ruleShape rule c) (m - 1) m (omega arith), room-shares n m c rule-shaped, w .long);
-              machine = getD (o .0) (m - 1) noMach;
-              stored = o .2 .2 (m - 1) (omega arith) (last-reached (namedIn xs) m (z .3));
-            };
-            decides = rw last (g .machine);
-            full = g .full;
-          }
+          let ended = outcome-is ∙ o .1 in (
+            roomy n c rule-shaped rs good xs decoded (o .0) ended,
+            λ r u.
+                let h = reached-within 2 n rs good r u in
+                let g = all-good n c rule-shaped rs good xs decoded (o .0) ended r u in
+                record {
+                  readable = record {
+                    shape = rule-shaped;
+                    number = omega arith;
+                    share = omega (arith, share-next (ruleShape rule c) r m (omega arith), room-shares n m c rule-shaped, w .long);
+                    machine = getD (o .0) r noMach;
+                    stored = o .2 .2 r (omega arith)
+                        (subst (λ (j : ℕ). T (usedIn xs j r)) l ((used-iff n c rule-shaped rs good xs decoded r) .1 u));
+                  };
+                  decides = g .machine;
+                  full = g .full;
+                },
+          )
+
+      pub rule-built : length ws ≡ room → BuiltRecords rule c t ws
+      rule-built same = go (t .ending) refl
+        where
+          go : (e : Ending) → t .ending ≡ e → EndedAs rule c (entryOf t) e ws
+          go (Over r) e = rule-over r e
+          go Ready e = rule-ready same e
+
+  -- the last one's machine decides the rule
+  pub rule-decided : (t : Machines) (ws : List ℕ) → BuiltRecords rule c t ws → t .ending ≡ Ready → Decider rule c (entryOf t (m - 1)) ws
+  rule-decided t ws b e =
+      let last : lastOf rs ≡ m - 1 = ap (λ (j : ℕ). j - 1) long in
+      let v = rw e at b in
+      record {
+        roomy = v .0;
+        last = subst (λ (j : ℕ). MachineFor rule c ws j (entryOf t j) (formulaAt rs (lastOf rs))) last (v .1 (lastOf rs) itself);
+      }
 
 -- the workspace: the build changes nothing past the shares, and they are cleared
 pub work-cleared : (need : ℕ) (ws made : List ℕ) {ended : List ℕ} → drop need made ≡ drop need ws → ended ≡ cleared need made → ended ≡ cleared need ws

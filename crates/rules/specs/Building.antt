@@ -4,7 +4,9 @@ use mathlib.Core.Path.{_≡_}
 use mathlib.Core.Bool.{Bool}
 use mathlib.Core.List.{List}
 use lib.ListN.{length}
+use Rattle.logic.specs.Meaning.{Formula}
 use Rattle.logic.specs.Rule.{formulaAt, lastOf}
+use Rattle.logic.specs.ReachedRecords.{ReachedRecord}
 use Rattle.logic.specs.Tree.{Tree}
 use Rattle.logic.specs.Alike.{MachineOf, Full}
 use Rattle.logic.specs.Claims.{FirstOver, Roomy}
@@ -13,6 +15,10 @@ use Rattle.layout.specs.Shape.{shapeOf}
 use Rattle.layout.specs.declared.Shape.{Shape}
 use Rattle.records.specs.Rule.{machOf}
 use Rattle.records.specs.declared.Summary.{Summary}
+use Rattle.building.specs.Build.{entryOf}
+use Rattle.building.specs.declared.Ending.{Ending}
+use Rattle.building.specs.declared.Ending.the-variants.{Over as TooMany, Ready as AllBuilt}
+use Rattle.building.specs.declared.Machines.{Machines}
 use Rattle.reading.specs.Reading.{HasMachine}
 use Rattle.search.specs.Rounds.{answerOf, Ended}
 use Rattle.search.specs.declared.Found.{Found}
@@ -25,13 +31,29 @@ use Rattle.rules.specs.declared.build.Built.the-variants.{Over, Ready}
 abbrev pub ruleShape : List ℕ → ℕ → Shape
 ruleShape rule c = shapeOf (variablesOf rule) c
 
--- no record that is reached has more than c states; the machine that k is kept of stands in the last record's share, is document 01's machine
--- of the rule up to the names of its states, and comes to each of them
+-- the machine that k is kept of stands in the share of number r, is document 01's machine of the formula f up to the names of its states, and
+-- comes to each of them
+pub record MachineFor (rule : List ℕ) (c : ℕ) (ws : List ℕ) (r : ℕ) (k : Summary) (f : Formula 2) : Type 0 where
+  pub readable : HasMachine ws (ruleShape rule c) r k
+  pub decides : MachineOf (variablesOf rule) f (machOf (readable .machine))
+  pub full : Full (variablesOf rule) (length (readable .machine .codes)) (machOf (readable .machine))
+
+-- the machines of the records that are reached, of which the entries of t are kept, stand in their shares
+abbrev pub ReachedBuilt : List ℕ → ℕ → (ℕ → Summary) → List ℕ → Type 0
+ReachedBuilt rule c es ws = (r : ℕ) → ReachedRecord (recordsOf rule) r → MachineFor rule c ws r (es r) (formulaAt (recordsOf rule) r)
+
+-- how building the records ended
+abbrev pub EndedAs : List ℕ → ℕ → (ℕ → Summary) → Ending → List ℕ → Type 0
+EndedAs rule c es (TooMany r) ws = FirstOver 2 (variablesOf rule) (recordsOf rule) c r
+EndedAs rule c es AllBuilt ws = Roomy 2 (variablesOf rule) (recordsOf rule) c × ReachedBuilt rule c es ws
+
+abbrev pub BuiltRecords : List ℕ → ℕ → Machines → List ℕ → Type 0
+BuiltRecords rule c t ws = EndedAs rule c (entryOf t) (t .ending) ws
+
+-- no record that is reached has more than c states, and k is kept of the last one's machine
 pub record Decider (rule : List ℕ) (c : ℕ) (k : Summary) (ws : List ℕ) : Type 0 where
   pub roomy : Roomy 2 (variablesOf rule) (recordsOf rule) c
-  pub readable : HasMachine ws (ruleShape rule c) (countOf rule - 1) k
-  pub decides : MachineOf (variablesOf rule) (formulaAt (recordsOf rule) (lastOf (recordsOf rule))) (machOf (readable .machine))
-  pub full : Full (variablesOf rule) (length (readable .machine .codes)) (machOf (readable .machine))
+  pub last : MachineFor rule c ws (countOf rule - 1) k (formulaAt (recordsOf rule) (lastOf (recordsOf rule)))
 
 -- how building ended
 abbrev pub BuiltRule : List ℕ → ℕ → Built → List ℕ → Type 0
