@@ -37,17 +37,18 @@ spared-at {s} {r} {ws} {ws′} sp a q d from to = elim (ℕ-tri a r) [
       sym (at ws′) ∙ ap (λ (v : List ℕ). getD v (q - end) 0) (sp .high) ∙ at ws
 ]
 
--- a machine stays stored where only another share is changed
-stored-spared : {s : Shape} (a : ℕ) {r : ℕ} {m : Mach} {k : Summary} {ws ws′ : List ℕ} → (a ≡ r → ⊥) → Spared s r ws ws′
+-- a machine stays stored where its share stays
+pub stored-same : {s : Shape} (a : ℕ) {m : Mach} {k : Summary} {ws ws′ : List ℕ}
+    → ((q : ℕ) → shareAt s a ≤ q → q < shareAt s a + shareOf s → getD ws′ q 0 ≡ getD ws q 0)
     → Stored s (shareAt s a) m k ws → Stored s (shareAt s a) m k ws′
 unfolding entry through
-stored-spared {s} a {r} {m} {k} {ws} {ws′} d sp st = record {
+stored-same {s} a {m} {k} {ws} {ws′} same st = record {
   count = st .count;
   accept = st .accept;
   holds = λ l is hl t.
       let b = seen (k .looks) l in
       let near = place-in s b is (omega (arith, seen-le (k .looks) l)) (tuple-up (st .few) t) in
-      (spared-at sp a (shareAt s a + placeIn s b is) d (omega arith) (omega arith) ∙ st .holds l is hl t .0, st .holds l is hl t .1);
+      (same (shareAt s a + placeIn s b is) (omega arith) (omega arith) ∙ st .holds l is hl t .0, st .holds l is hl t .1);
   some-state = st .some-state;
   few = st .few;
 }
@@ -90,7 +91,7 @@ builds {x} {s} {r} {es} {es′} {k} {ws} {ws′} {over} adds sp same many few = 
   tried = λ used ms all names.
       let added = adds (ms (x .first)) (ms (x .second)) (parts-stored x used ms all names) in
       let others : (a : ℕ) → (a ≡ r → ⊥) → T (used a) → Stored s (shareAt s a) (ms a) (es′ a) ws′ =
-      λ a d u. rw (same a (λ e. absurd (d e))) (stored-spared a d sp (all a u)) in
+      λ a d u. rw (same a (λ e. absurd (d e))) (stored-same a (λ q. spared-at sp a q d) (all a u)) in
       record {
         others = λ a u. elim (ℕ-discrete a r) [
           | yes e ↦ absurd (rw (e, changed-here used r false) at u)

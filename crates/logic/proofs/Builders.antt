@@ -30,7 +30,7 @@ use Rattle.logic.proofs.Projection.{projection-bounded}
 use Rattle.logic.proofs.Satisfiable.{reached-tree, tree-reached}
 use Rattle.logic.proofs.Pigeon.{pigeon}
 use Rattle.logic.proofs.Tables.{Valid, Right, table-right, subset-bounded, singleton-bounded, successor-bounded, root-bounded, product-bounded}
-use Rattle.logic.proofs.Rules.{record-right}
+use Rattle.logic.proofs.Rules.{record-valid}
 use Rattle.logic.proofs.Settle.{run-below, search-right}
 use Rattle.logic.proofs.Answers.{sought-right, decide-only, judge-judges}
 use Rattle.logic.proofs.Alike.{alike-sym, alike-trans, complement-alike, numbered-alike, build-alike, product-kernel, projection-kernel, sets-kernel}
@@ -200,39 +200,32 @@ module _ {k : ℕ} (n d : ℕ) (M N : Machine k ℕ) (a : Alike n M N) (F : Full
       (λ i j h l e. let t = w .1 i (omega arith) in let u = w .1 j l in
       apart i j h l (sym (t .2) ∙ (a (t .0) (u .0) (t .1) (u .1)) .1 (t .3 ∙ e ∙ sym (u .3)) ∙ u .2))
 
-  pub at-least : (L : List ℕ) → Distinct L → ((q : ℕ) → T (elem q L) → Reached M (below (2 ^ n)) q) → length L ≤ d
-  at-least L D r = spread (length L) (λ i. getD L i 0) (λ i h. r (getD L i 0) (getD-elem L i h))
-      (λ i j h l e. let z : i ≡ j = sym (position-getD L D i (omega arith)) ∙ ap (λ (q : ℕ). position q L) e ∙ position-getD L D j l in omega arith)
-
 pub same-count : {k : ℕ} (n c d : ℕ) (M N : Machine k ℕ) → Alike n M N → Full n c M → Full n d N → c ≡ d
 same-count n c d M N a F G = le-antisymm
     (spread n d M N a G c (λ i. i) (F .1) (λ i j h l e. omega arith))
     (spread n c N M (alike-sym n M N a) F d (λ i. i) (G .1) (λ i j h l e. omega arith))
 
+module _ {k : ℕ} (n : ℕ) (f : Formula k) (v : Valid n f) (M : Machine k ℕ) (m : MachineOf n f M) where
+  abbrev right : Right {k = k} n f (table n f)
+  right = table-right n f v
+
+  -- a machine of f whose states are all reached has the count of states
+  pub states-any : (c : ℕ) → Full n c M → c ≡ (table n f) .count
+  states-any c F = same-count n c ((table n f) .count) M ((table n f) .machine) (m .alike) F (right .0, right .2)
+
+  -- more than c different states found: it has more than c
+  pub over-index : (c many : ℕ) (g : ℕ → ℕ) → ((i : ℕ) → i < many → Reached M (below (2 ^ n)) (g i)) → ((i j : ℕ) → i < j → j < many → g i ≡ g j → ⊥)
+      → c < many → c < (table n f) .count
+  over-index c many g u apart l =
+      let a = spread n ((table n f) .count) M ((table n f) .machine) (m .alike) (right .0, right .2) many g u apart in omega arith
+
 module _ (k n : ℕ) (rs : List Record) (ok : Accepted k n rs) where
-  module _ (r : ℕ) (h : r < length rs) (M : Machine k ℕ) (m : MachineOf n (formulaAt rs r) M) where
-    abbrev right : Right {k = k} n (formulaAt rs r) (table n (formulaAt rs r))
-    right = record-right n rs (ok .1) r h
-
-    -- a machine of record r whose states are all reached has the count of states
-    pub states-any : (c : ℕ) → Full n c M → c ≡ statesAt k n rs r
-    states-any c F = same-count n c (statesAt k n rs r) M ((table n (formulaAt rs r)) .machine) (m .alike) F (right .0, right .2)
-
-    -- more than c different states found: the record has more than c
-    pub over-any : (c : ℕ) (L : List ℕ) → Distinct L → ((q : ℕ) → T (elem q L) → Reached M (below (2 ^ n)) q) → c < length L → c < statesAt k n rs r
-    over-any c L D u l = let a = at-least n (statesAt k n rs r) M ((table n (formulaAt rs r)) .machine) (m .alike) (right .0, right .2) L D u in omega arith
-
-    -- the same by index
-    pub over-index : (c many : ℕ) (g : ℕ → ℕ) → ((i : ℕ) → i < many → Reached M (below (2 ^ n)) (g i)) → ((i j : ℕ) → i < j → j < many → g i ≡ g j → ⊥)
-        → c < many → c < statesAt k n rs r
-    over-index c many g u apart l =
-        let a = spread n (statesAt k n rs r) M ((table n (formulaAt rs r)) .machine) (m .alike) (right .0, right .2) many g u apart in omega arith
-
   -- and the search over it gives decide's answer
   pub decide-any : (c P : ℕ) → Roomy k n rs c → (M : Machine k ℕ) → MachineOf n (formulaAt rs (lastOf rs)) M → (q : ℕ) → Full n q M
       → report q (search (2 ^ n) (record { count = q; machine = M }) P) ≡ decideOf k n rs c P
   decide-any c P R M m q F =
-      let e : q ≡ statesAt k n rs (lastOf rs) = states-any (lastOf rs) (let h = ok .0 in omega arith) M m q F in
+      let last : lastOf rs < length rs = let h = ok .0 in omega arith in
+      let e : q ≡ statesAt k n rs (lastOf rs) = states-any n (formulaAt rs (lastOf rs)) (record-valid k n rs (ok .1) (lastOf rs) last) M m q F in
       decide-only k n rs c P ok (report q (search (2 ^ n) (record { count = q; machine = M }) P))
       (subst (λ (z : ℕ). Answers n rs c P z (report q (search (2 ^ n) (record { count = q; machine = M }) P))) e
       (sought-right k n rs c P R M (m .decides) q (search (2 ^ n) (record { count = q; machine = M }) P)

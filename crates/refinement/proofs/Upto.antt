@@ -129,7 +129,8 @@ module _ (n c : ℕ) (sh : Shaped (shapeOf n c)) (rs : List Record) (acc : Accep
       → (i : ℕ) → i < m → ReachedRecord rs i → statesAt 2 n rs i ≤ c
   few-states m ns hm h i l u =
       let g = h i l ((used-iff i) .1 u) in
-      omega (arith, states-any 2 n rs acc i (omega arith) (machOf (getD ns i noMach)) (g .machine) (length (getD ns i noMach .codes)) (g .full))
+      omega (arith, states-any n (formulaAt rs i) (record-valid 2 n rs (acc .1) i (omega arith)) (machOf (getD ns i noMach)) (g .machine)
+      (length (getD ns i noMach .codes)) (g .full))
 
   module _ (m : ℕ) (hm : suc m ≤ length rs) (ns : List Mach) (h : Linked m (built ns)) where
     -- one record more, with this machine
@@ -159,7 +160,7 @@ module _ (n c : ℕ) (sh : Shaped (shapeOf n c)) (rs : List Record) (acc : Accep
             let z = w .reached in
             let long = z .2 in (
               (used-iff m) .0 here,
-              over-index 2 n rs acc m hm (w .large) (w .machine) c (suc c) (λ i. getD (z .0) i 0) (λ i l. z .1 .all i (omega arith))
+              over-index n (formulaAt rs m) (record-valid 2 n rs (acc .1) m hm) (w .large) (w .machine) c (suc c) (λ i. getD (z .0) i 0) (λ i l. z .1 .all i (omega arith))
                   (λ i j p l q. omega (arith, z .1 .distinct i j (omega arith) (omega arith) q)) (omega arith),
               few-states m ns (omega arith) (h .1),
             )
