@@ -147,11 +147,11 @@ module _ {k : ℕ} (J : Joiner k) (c : ℕ) where
 
   join-over : (a : Table k) (q : ℕ) → c < J .states a (J .at q) → joinOne J c (jointBy a) q ≡ jointOver q
   unfolding joinOne
-  join-over a q h = rw (lt-ltb c (J .states a (J .at q)) h) refl
+  join-over a q h = ap (λ (v : Bool). cond v (jointOver q) (jointBy (J .join a (J .at q)))) (lt-ltb c (J .states a (J .at q)) h)
 
   join-made : (a : Table k) (q : ℕ) → ltb c (J .states a (J .at q)) ≡ false → joinOne J c (jointBy a) q ≡ jointBy (J .join a (J .at q))
   unfolding joinOne
-  join-made a q e = rw e refl
+  join-made a q e = ap (λ (v : Bool). cond v (jointOver q) (jointBy (J .join a (J .at q)))) e
 
   join-first : (q : ℕ) → joinOne J c noJoint q ≡ jointBy (J .at q)
   unfolding joinOne
