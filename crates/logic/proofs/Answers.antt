@@ -74,7 +74,7 @@ module _ (k n : ℕ) (rs : List Record) (c P : ℕ) where
   abbrev states : ℕ
   states = statesAt k n rs (lastOf rs)
 
-  one-first : (r s : ℕ) → FirstOver k n rs c r → FirstOver k n rs c s → r ≡ s
+  pub one-first : (r s : ℕ) → FirstOver k n rs c r → FirstOver k n rs c s → r ≡ s
   one-first r s p q = elim (ℕ-tri r s) [
     | less h ↦ absurd (let a = q .2 r (omega arith) (p .0) in let b = p .1 in omega arith)
     | same h ↦ h
@@ -225,11 +225,11 @@ module _ (k n : ℕ) (rs : List Record) (c P : ℕ) where
     abbrev Told : Built k → Type 0
     Told = Says k n c used (extend [] rs)
 
-    says-first : (r : ℕ) → Told (over r) → FirstOver k n rs c r
+    pub says-first : (r : ℕ) → Told (over r) → FirstOver k n rs c r
     unfolding Says formulaAt
     says-first r w = ((rule-reached k n rs ok r) .0 (w .0), w .1, λ i l u. w .2 i l ((rule-reached k n rs ok i) .1 u))
 
-    says-roomy : (ts : List (Table k)) → Told (built ts) → Roomy k n rs c
+    pub says-roomy : (ts : List (Table k)) → Told (built ts) → Roomy k n rs c
     unfolding Says formulaAt
     says-roomy ts w r u = w .1 r (let e = long in let h = reached-within k n rs ok r u in omega arith) ((rule-reached k n rs ok r) .1 u)
 

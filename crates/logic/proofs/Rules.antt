@@ -23,7 +23,7 @@ use Rattle.logic.proofs.Reach.{elem-none, elem-one, elem-two}
 use Rattle.logic.proofs.ReachedRecords.{Earlier, reached-iff, reached-below}
 use Rattle.logic.proofs.Tables.{Valid, Right, table-right}
 
-and-both : (a b : Bool) → T (a && b) → T a × T b
+pub and-both : (a b : Bool) → T (a && b) → T a × T b
 and-both a b = (and-iff a b (λ t. t, λ t. t) (λ t. t, λ t. t)) .0
 
 -- one element more
@@ -35,7 +35,7 @@ getD-snoc P z xs x f p j h = elim (ℕ-tri j (length xs)) [
   | more l ↦ absurd (let a = length-append xs (x ∷ []) in omega arith)
 ]
 
-snoc-length : {A : Type 0} (xs : List A) (x : A) → length (xs ++ (x ∷ [])) ≡ suc (length xs)
+pub snoc-length : {A : Type 0} (xs : List A) (x : A) → length (xs ++ (x ∷ [])) ≡ suc (length xs)
 snoc-length xs x = length-append xs (x ∷ []) ∙ omega arith
 
 pub extend-length : {k : ℕ} (rs : List Record) (fs : List (Formula k)) → length (extend fs rs) ≡ length fs + length rs

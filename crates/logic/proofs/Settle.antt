@@ -182,7 +182,7 @@ RightForTrees {k} n M P (tree t) = Accepts n M t × (positions t ≤ P) × ((u :
 RightForTrees {k} n M P large = ((u : Tree k) × Accepts n M u) × ((u : Tree k) → Accepts n M u → P < positions u)
 RightForTrees {k} n M P absent = (u : Tree k) → Accepts n M u → ⊥
 
-some-true : (accepts : ℕ → Bool) (n : ℕ) → anyBelow accepts n ≡ true → (q : ℕ) × (q < n) × (accepts q ≡ true)
+pub some-true : (accepts : ℕ → Bool) (n : ℕ) → anyBelow accepts n ≡ true → (q : ℕ) × (q < n) × (accepts q ≡ true)
 unfolding anyBelow
 some-true accepts zero e = absurd (false≢true e)
 some-true accepts (suc n) e = here (some-true accepts n) (accepts n) refl e
@@ -192,7 +192,7 @@ some-true accepts (suc n) e = here (some-true accepts n) (accepts n) refl e
     here k true h e = (n, omega arith, h)
     here k false h e = let f = k e in (f .0, omega arith, f .2)
 
-some-false : (accepts : ℕ → Bool) (n q : ℕ) → anyBelow accepts n ≡ false → q < n → accepts q ≡ true → ⊥
+pub some-false : (accepts : ℕ → Bool) (n q : ℕ) → anyBelow accepts n ≡ false → q < n → accepts q ≡ true → ⊥
 unfolding anyBelow
 some-false accepts zero q e h a = omega arith
 some-false accepts (suc n) q e h a = here (some-false accepts n q) (accepts n) refl e

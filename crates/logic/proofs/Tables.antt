@@ -91,10 +91,10 @@ module _ {k : ℕ} (n : ℕ) where
   abbrev pub Right : Formula k → Table k → Type 0
   Right f a = Bounded n (a .count) (a .machine) × Decides n (a .machine) f × ((q : ℕ) → q < a .count → Reached (a .machine) (below (2 ^ n)) q)
 
-  build-right : (f : Formula k) (d : ℕ) (M : Machine k ℕ) → Bounded n d M → Decides n M f → Right f (build n d M)
+  pub build-right : (f : Formula k) (d : ℕ) (M : Machine k ℕ) → Bounded n d M → Decides n M f → Right f (build n d M)
   build-right f d M B D = (build-bounded n d M B, build-decides n d M B f D, λ q. (build-states n d M B q) .0)
 
-  pair-right : (op : Bool → Bool → Bool) (f : Formula k) (a b : Table k) → Bounded n (a .count) (a .machine) → Bounded n (b .count) (b .machine)
+  pub pair-right : (op : Bool → Bool → Bool) (f : Formula k) (a b : Table k) → Bounded n (a .count) (a .machine) → Bounded n (b .count) (b .machine)
       → Decides n (product op (a .machine) (b .machine)) f → Right f (productTable n op a b)
   unfolding productTable
   pair-right op f a b A B D =

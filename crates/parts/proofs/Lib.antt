@@ -1,0 +1,4 @@
+pub mod Lists
+pub mod Parts
+pub mod Taking
+pub mod Figures

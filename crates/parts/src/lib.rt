@@ -1,0 +1,1 @@
+// The parts of a rule: the requirements that request A6 tries.

@@ -1,0 +1,4 @@
+pub mod Clash
+pub mod Joins
+pub mod Answer
+pub mod Figures
