@@ -10,7 +10,7 @@ use native.Mathlib.Omega.{arith}
 use native.Mathlib.Decide.{decLt}
 use lib.Dec.{T}
 use lib.ListN.{length, getD}
-use Rattle.logic.specs.Meaning.{Branch, Assignment, Formula, subset, singleton, successor, root, negation, disjunction, conjunction, exists, Holds}
+use Rattle.logic.specs.Meaning.{Branch, Assignment, Formula, subset, singleton, successor, root, negation, disjunction, conjunction, exists, Holds, Valid}
 use Rattle.logic.specs.Tree.{Tree, Proper, TreeOf}
 use Rattle.logic.specs.Rule.{Record, formulaAt, lastOf, Accepted}
 use Rattle.logic.specs.Machine.{Machine, run, Decides, complement, product, Simulates, Projects}
@@ -18,7 +18,7 @@ use Rattle.logic.specs.Atom.{subsetMachine, singletonMachine, successorM
 use Rattle.logic.specs.Reach.{elem, below, Reached, started, stepped, position, numbered, projection}
 use Rattle.logic.specs.Table.{Table, codedProduct, build, productTable, projectionTable, complementTable, table}
 use Rattle.logic.specs.Search.{search}
-use Rattle.logic.specs.Alike.{Bounded, Full, Distinct, Lists, Alike, Agrees, MachineOf}
+use Rattle.logic.specs.Alike.{Bounded, Full, Lists, Alike, Agrees, MachineOf}
 use Rattle.logic.specs.Claims.{statesAt, Roomy, Answers, Judges}
 use Rattle.logic.specs.Decide.{report, decideOf, say, judgeOf}
 use Rattle.logic.proofs.Connectives.{run-product, run-simulates, decides-simulated, decides-negation, decides-disjunction, decides-conjunction}
@@ -29,7 +29,7 @@ use Rattle.logic.proofs.Counts.{position-getD}
 use Rattle.logic.proofs.Projection.{projection-bounded}
 use Rattle.logic.proofs.Satisfiable.{reached-tree, tree-reached}
 use Rattle.logic.proofs.Pigeon.{pigeon}
-use Rattle.logic.proofs.Tables.{Valid, Right, table-right, subset-bounded, singleton-bounded, successor-bounded, root-bounded, product-bounded}
+use Rattle.logic.proofs.Tables.{Right, table-right, subset-bounded, singleton-bounded, successor-bounded, root-bounded, product-bounded}
 use Rattle.logic.proofs.Rules.{record-valid}
 use Rattle.logic.proofs.Settle.{run-below, search-right}
 use Rattle.logic.proofs.Answers.{sought-right, decide-only, judge-judges}

@@ -13,7 +13,7 @@ use lib.Dec.{T, eqb, ltb, ltb→lt}
 use lib.ListN.{length, getD, length-append, List·getD-append}
 use lib.Seq.{getD-append-seam}
 use Rattle.logic.specs.Rule.{Record, noRecord, successorAt, formulaOf, extend, formulaAt, good, goodFrom, Accepted}
-use Rattle.logic.specs.Meaning.{Formula, successor, root, negation, disjunction, conjunction, exists}
+use Rattle.logic.specs.Meaning.{Formula, successor, root, negation, disjunction, conjunction, exists, Valid}
 use Rattle.logic.specs.Reach.{elem}
 use Rattle.logic.specs.ReachedRecords.{namesOf, namesIn, ReachedRecord, isReached}
 use Rattle.logic.specs.Table.{Table, table, tableOf, Built, over, built, admit, buildAll, kindOf}
@@ -21,7 +21,7 @@ use Rattle.logic.proofs.Connectives.{and-iff}
 use Rattle.logic.proofs.Orders.{less, same, more, ℕ-tri}
 use Rattle.logic.proofs.Reach.{elem-none, elem-one, elem-two}
 use Rattle.logic.proofs.ReachedRecords.{Earlier, reached-iff, reached-below}
-use Rattle.logic.proofs.Tables.{Valid, Right, table-right}
+use Rattle.logic.proofs.Tables.{Right, table-right}
 
 pub and-both : (a b : Bool) → T (a && b) → T a × T b
 and-both a b = (and-iff a b (λ t. t, λ t. t) (λ t. t, λ t. t)) .0

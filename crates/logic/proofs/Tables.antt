@@ -8,7 +8,7 @@ use native.Mathlib.Omega.{arith}
 use native.Mathlib.Nat.{div-lt-iff-lt-mul, mod-lt}
 use lib.Arith.{digits-lt, digits-div, digits-mod}
 use borrow.Author.Tests.{eq-eqb}
-use Rattle.logic.specs.Meaning.{Branch, Formula, subset, singleton, successor, root, negation, disjunction, conjunction, exists}
+use Rattle.logic.specs.Meaning.{Branch, Formula, subset, singleton, successor, root, negation, disjunction, conjunction, exists, Valid}
 use Rattle.logic.specs.Tree.{branches, bit}
 use Rattle.logic.specs.Machine.{Machine, Decides, complement, product, Simulates, bitOf, anyOf}
 use Rattle.logic.specs.Atom.{subsetMachine, singletonMachine, successorMachine, rootMachine, successorStep, idle, alone}
@@ -23,17 +23,6 @@ use Rattle.logic.proofs.Rounds.{reach-front}
 use Rattle.logic.proofs.Numbered.{build-bounded, build-decides}
 use Rattle.logic.proofs.Counts.{build-states}
 use Rattle.logic.proofs.Projection.{In, projection-bounded, projection-projects}
-
--- the variables of the formula are below n
-unfoldable pub Valid : {k : ℕ} → ℕ → Formula k → Type 0
-Valid n (subset x y) = (x < n) × (y < n)
-Valid n (singleton x) = x < n
-Valid n (successor i x y) = (x < n) × (y < n)
-Valid n (root x) = x < n
-Valid n (negation f) = Valid n f
-Valid n (disjunction f g) = Valid n f × Valid n g
-Valid n (conjunction f g) = Valid n f × Valid n g
-Valid n (exists x f) = (x < n) × Valid n f
 
 cond-lt : (v : Bool) (a b c : ℕ) → a < c → b < c → cond v a b < c
 cond-lt true a b c h k = h

@@ -59,6 +59,17 @@ pub data Formula (k : ℕ) : Type 0 where
   disjunction conjunction : Formula k → Formula k → Formula k
   exists : ℕ → Formula k → Formula k
 
+-- the variables of the formula are below n
+unfoldable pub Valid : {k : ℕ} → ℕ → Formula k → Type 0
+Valid n (subset x y) = (x < n) × (y < n)
+Valid n (singleton x) = x < n
+Valid n (successor i x y) = (x < n) × (y < n)
+Valid n (root x) = x < n
+Valid n (negation f) = Valid n f
+Valid n (disjunction f g) = Valid n f × Valid n g
+Valid n (conjunction f g) = Valid n f × Valid n g
+Valid n (exists x f) = (x < n) × Valid n f
+
 -- the column "holds when"; inner use of a variable number hides the outer one, because `assign` replaces its set
 unfoldable pub Holds : {k : ℕ} → Formula k → Assignment k → Type 0
 Holds {k} (subset x y) A = (p : Place k) → p ∈ A x → p ∈ A y

@@ -4,14 +4,13 @@ use Rattle.words.proofs.Vocabulary.{ℕ, _≤_, _<_, _+_, _*_, suc, _%_, _^_, _
 use Rattle.words.proofs.Vocabulary.{some, Option, none, lt-ltb, ltb, length, getD, arith}
 use Rattle.layout.specs.Shape.{Shaped, Each, nil, cons, shapeOf}
 use Rattle.layout.proofs.Places.{two-of}
-use Rattle.logic.specs.Meaning.{Formula, negation, disjunction, conjunction, exists as someF}
+use Rattle.logic.specs.Meaning.{Formula, negation, disjunction, conjunction, exists as someF, Valid}
 use Rattle.logic.specs.Machine.{Machine, complement, product, Simulates}
 use Rattle.logic.specs.Reach.{below, Reached, stepped, started, numbered}
 use Rattle.logic.specs.Alike.{Full, Agrees, Lists, MachineOf}
 use Rattle.logic.specs.Two.{one, two, pairOf, branching}
 use Rattle.logic.proofs.Counts.{lists-index}
 use Rattle.logic.proofs.Reach.{elem-below}
-use Rattle.logic.proofs.Tables.{Valid}
 use Rattle.logic.proofs.Two.{each}
 use Rattle.logic.proofs.Builders.{of-negation, of-disjunction, of-conjunction, of-numbered, full-numbered, of-agrees, full-agrees}
 use Rattle.exploring.specs.Explore.{explore}

@@ -3,7 +3,7 @@ use Rattle.words.proofs.Vocabulary.{ℕ, _≤_, _<_, _+_, _-_, suc, _%_, zero, 
 use Rattle.words.proofs.Vocabulary.{subst, ap₂, ⊎-elim, _↔_, List, [], _∷_, eq-eqb, eqb-true, or-lt, eqb, T, length, add-suc, suc-add, zero-add, arith}
 use Rattle.layout.specs.Shape.{Each, Tuple}
 use Rattle.layout.proofs.Places.{two-of, pair-of}
-use Rattle.logic.specs.Meaning.{Branch, Formula, exists}
+use Rattle.logic.specs.Meaning.{Branch, Formula, exists, Valid}
 use Rattle.logic.specs.Machine.{Machine, withBit, Blank, none, grown, Projects}
 use Rattle.logic.specs.Reach.{elem, successors, add, closure, reach}
 use Rattle.logic.specs.Alike.{Bounded, MachineOf}
@@ -13,7 +13,6 @@ use Rattle.logic.proofs.Places.{T→true, true→T}
 use Rattle.logic.proofs.Reach.{elem-cons, successors-iff}
 use Rattle.logic.proofs.Rounds.{elem-add, reach-all}
 use Rattle.logic.proofs.Projection.{one-of, of-blank, blank-bound}
-use Rattle.logic.proofs.Tables.{Valid}
 use Rattle.logic.proofs.Two.{each}
 use Rattle.logic.proofs.Builders.{of-exists}
 use Rattle.table.specs.Entry.{Bit, Step, off, on}

@@ -3,7 +3,7 @@ use Rattle.words.proofs.Vocabulary.{ℕ, _≤_, _<_, _+_, suc, zero, Bool, true
 use Rattle.words.proofs.Vocabulary.{some, Option, none, eqb, ltb, T, ltb→lt, length, getD, length-append, decLt, not-suc-le-zero, arith}
 use Rattle.layout.specs.Shape.{Shaped, shapeOf}
 use Rattle.records.specs.Decode.{bitWeight, decodedOf}
-use Rattle.logic.specs.Meaning.{Branch, Formula, successor, root}
+use Rattle.logic.specs.Meaning.{Branch, Formula, successor, root, Valid}
 use Rattle.logic.specs.Rule.{noRecord, Record, formulaOf, formulaAt, extend, lastOf, good, successorAt, Accepted}
 use Rattle.logic.specs.Reach.{elem}
 use Rattle.logic.specs.ReachedRecords.{itself, named, namesOf, namesIn, ReachedRecord, isReached}
@@ -11,7 +11,6 @@ use Rattle.logic.specs.Two.{one, two}
 use Rattle.logic.specs.Claims.{Roomy, statesAt, FirstOver}
 use Rattle.logic.proofs.Branches.{branch-same}
 use Rattle.logic.proofs.Connectives.{and-iff}
-use Rattle.logic.proofs.Tables.{Valid}
 use Rattle.logic.proofs.Reach.{elem-first, elem-second}
 use Rattle.logic.proofs.ReachedRecords.{reached-cong}
 use Rattle.logic.proofs.Rules.{record-valid, record-formula, good-here, rule-earlier, rule-reached, reached-within, getD-snoc}

@@ -9,7 +9,7 @@ use native.Mathlib.Omega.{arith}
 use borrow.Author.Tests.{ltb-true, lt-ltb}
 use lib.Dec.{T, ltb, T-not}
 use lib.ListN.{length}
-use Rattle.logic.specs.Meaning.{Assignment, Formula, conjunction, Holds}
+use Rattle.logic.specs.Meaning.{Assignment, Formula, conjunction, Holds, Valid}
 use Rattle.logic.specs.Rule.{Record, formulaAt, Accepted}
 use Rattle.logic.specs.Reach.{elem, below, Reached}
 use Rattle.logic.specs.Table.{Table, table, productTable}
@@ -18,7 +18,7 @@ use Rattle.logic.proofs.Connectives.{decides-conjunction}
 use Rattle.logic.proofs.Reach.{elem-none, elem-cons, elem-first, elem-below}
 use Rattle.logic.proofs.Places.{T→true, true→T, not-T}
 use Rattle.logic.proofs.Numbered.{reached-bound}
-use Rattle.logic.proofs.Tables.{Valid, Right, pair-right, table-right}
+use Rattle.logic.proofs.Tables.{Right, pair-right, table-right}
 use Rattle.logic.proofs.Satisfiable.{satisfiable-iff}
 use Rattle.logic.proofs.Settle.{some-true, some-false}
 use Rattle.logic.proofs.Rules.{snoc-length, record-right, record-valid}
