@@ -1,0 +1,2 @@
+pub mod Trying
+pub mod Trials
