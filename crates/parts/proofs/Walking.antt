@@ -2,16 +2,15 @@
 -- Assumes nothing.
 use Prim.Native.Nat.{ℕ, zero, suc, _+_, _-_, _*_, _≤_, _<_}
 use mathlib.Core.Path.{_≡_, refl, ap, ap₂, sym, subst, _∙_}
-use mathlib.Core.Bool.{Bool, true, false, cond, _||_}
+use mathlib.Core.Bool.{Bool, true, false, cond}
 use mathlib.Core.List.{List, [], _∷_, _++_, append-nil}
 use native.Mathlib.Decide.{decLt, ℕ-discrete}
 use native.Mathlib.Numerals.{add-one}
 use native.Mathlib.Omega.{arith}
 use borrow.Author.Tests.{eq-eqb, ne-eqb}
-use lib.Dec.{T, eqb}
 use lib.ListN.{length, getD, set, take, replicate, length-set, length-append, length-replicate, getD-replicate, List·getD-eq-default}
 use lib.Seq.{getD-set-same, getD-set-other, length-take-le, take-suc-set}
-use Rattle.logic.specs.Rule.{Record, noRecord, lastOf, Accepted}
+use Rattle.logic.specs.Rule.{Record, noRecord, Accepted}
 use Rattle.logic.specs.Reach.{elem, flat}
 use Rattle.logic.proofs.Reach.{elem-first}
 use Rattle.logic.proofs.Places.{true→T}
@@ -19,9 +18,9 @@ use Rattle.bits.specs.declared.Fault.the-variants.{Sound}
 use Rattle.rule_strip.specs.RuleStrip.{variablesOf, countOf, recordAt, recordsOf, ruleFault}
 use Rattle.rule_strip.specs.RuleAnswers.{fieldsOf}
 use Rattle.rule_strip.specs.declared.Fields.{Fields}
-use Rattle.rule_strip.proofs.RuleLaws.{RuleFacts, rule-accepted, records-at, widths-at}
+use Rattle.rule_strip.proofs.RuleLaws.{rule-accepted, records-at, widths-at}
 use Rattle.parts.specs.Parts.{firstAt, secondAt, isAnd, walkFrom, fresh, partsOf}
-use Rattle.parts.specs.Taking.{Taking, begun, unmarked}
+use Rattle.parts.specs.Taking.{Taking, unmarked}
 use Rattle.parts.specs.Listed.{Listed}
 use Rattle.parts.proofs.Lists.{elem-later, elem-nothing}
 use Rattle.parts.proofs.Parts.{AndEarlier, and-earlier, parts-few}
