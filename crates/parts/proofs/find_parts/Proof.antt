@@ -40,18 +40,13 @@ add-fields-at c = let h = top-within (c .before .before .loop .inv) (omega arith
 fields-at-requires : tie.Need-fields-at-requires Inv-loop μ-loop
 fields-at-requires c κs = let h = top-within (c .before .before .loop .inv) (omega arith) in (omega arith, omega arith)
 
-cast-stack-2 : tie.Need-cast-stack-2 Inv-loop μ-loop
-cast-stack-2 c = let h = fields-byte _ _ _ (c .before .before .before .fields-at .ensures) in omega arith
-
-cast-stack-3 : tie.Need-cast-stack-3 Inv-loop μ-loop
-cast-stack-3 c = let h = fields-byte _ _ _ (c .before .before .before .before .fields-at .ensures) in omega arith
-
-array-write-stack-3 : tie.Need-array-write-stack-3 Inv-loop μ-loop
-array-write-stack-3 c =
-    let f = c .before .before .before .before in
+push-both-requires : tie.Need-push-both-requires Inv-loop μ-loop
+push-both-requires c κs =
+    let f = c .before .before .before in
     let t = f .before in
-    let h = push-fits (t .before .before .loop .inv) (omega arith) (not-true _ (t .if1 .taken)) (f .fields-at .ensures) (c .before .before .if2 .taken) in
-    omega arith
+    let h = push-fits (t .before .before .loop .inv) (omega arith) (not-true _ (t .if1 .taken)) (f .fields-at .ensures) (c .before .if2 .taken) in
+    let w = fields-byte _ _ _ (f .fields-at .ensures) in
+    (omega arith, w .0, w .1)
 
 loop-less : tie.Need-loop-less Inv-loop μ-loop
 loop-less c =
@@ -62,7 +57,8 @@ loop-again : tie.Need-loop-again Inv-loop μ-loop
 loop-again c =
     let f = c .before .before .before .before in
     let t = f .before in
-    walking-opened (t .before .before .loop .inv) (omega arith) (not-true _ (t .if1 .taken)) (f .fields-at .ensures) (c .before .before .if2 .taken)
+    rw (c .push-both .ensures)
+    (walking-opened (t .before .before .loop .inv) (omega arith) (not-true _ (t .if1 .taken)) (f .fields-at .ensures) (c .before .before .if2 .taken))
 
 cast-parts : tie.Need-cast-parts Inv-loop μ-loop
 cast-parts c = let h = top-within (c .before .before .before .before .before .loop .inv) (omega arith) in omega arith
@@ -91,6 +87,6 @@ pub find-parts-spec : {M : Type 1} → statement M
 find-parts-spec =
     tie.close
     (tie.spec Inv-loop μ-loop (λ c κs. head-long _ (c .before .pre .0)) sub-stack cast-stack (λ c. search needs) loop-holds (λ c. search needs)
-    (λ c. search needs) cast-i array-read-if1 array-write-marks mul-fields-at add-fields-at fields-at-requires cast-stack-2 (λ c. search needs)
-    cast-stack-3 (λ c. search needs) array-write-stack-3 (λ c. search needs) loop-less loop-again cast-parts element-write-parts
-    (λ c. search needs) loop-less-2 loop-again-2 (λ c. search needs) loop-again-3 (λ c. walking-last (c .before .loop .inv) (omega arith)))
+    (λ c. search needs) cast-i array-read-if1 array-write-marks mul-fields-at add-fields-at fields-at-requires push-both-requires
+    (λ c. search needs) loop-less loop-again cast-parts element-write-parts (λ c. search needs) loop-less-2 loop-again-2 (λ c. search needs)
+    loop-again-3 (λ c. walking-last (c .before .loop .inv) (omega arith)))
