@@ -46,7 +46,7 @@ push-both-requires c κs =
     let t = f .before in
     let h = push-fits (t .before .before .loop .inv) (omega arith) (not-true _ (t .if1 .taken)) (f .fields-at .ensures) (c .before .if2 .taken) in
     let w = fields-byte _ _ _ (f .fields-at .ensures) in
-    (omega arith, w .0, w .1)
+    (omega arith, omega arith, omega arith)
 
 loop-less : tie.Need-loop-less Inv-loop μ-loop
 loop-less c =
