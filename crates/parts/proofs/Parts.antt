@@ -8,18 +8,19 @@ use mathlib.Core.List.{List, [], _∷_, _++_}
 use native.Mathlib.Decide.{decLt}
 use native.Mathlib.Nat.{le-refl, not-suc-le-zero}
 use native.Mathlib.Omega.{arith}
-use lib.Dec.{T, eqb, eqb→eq, T-not}
+use lib.Dec.{T, eqb→eq, T-not}
 use lib.ListN.{length, getD, List·getD-eq-default}
 use Rattle.logic.specs.Meaning.{Assignment, Formula, root, conjunction, Holds}
 use Rattle.logic.specs.Rule.{Record, noRecord, lastOf, formulaOf, extend, formulaAt, Satisfies, goodFrom, Accepted}
 use Rattle.logic.specs.Reach.{elem}
 use Rattle.logic.specs.Alike.{Distinct}
 use Rattle.logic.specs.ReachedRecords.{namesOf, namesIn, ReachedFrom, itself, named, ReachedRecord}
-use Rattle.logic.proofs.Reach.{elem-none, elem-one, elem-two, elem-first, elem-second, elem-cons, elem-append}
+use Rattle.logic.proofs.Reach.{elem-none, elem-one, elem-two, elem-first, elem-second, elem-append}
 use Rattle.logic.proofs.Places.{T→true, true→T}
+use Rattle.logic.proofs.Rounds.{pigeonhole}
 use Rattle.logic.proofs.Rules.{rule-earlier, record-formula}
 use Rattle.parts.specs.Parts.{firstAt, secondAt, isAnd, andNames, walk, walkFrom, fresh, partsOf, IsPart, AllHold}
-use Rattle.parts.proofs.Lists.{told, not-false, elem-nothing, fresh-iff, fresh-distinct}
+use Rattle.parts.proofs.Lists.{told, elem-nothing, fresh-iff, fresh-distinct}
 
 names-and : (op a b : ℕ) → op ≡ 7 → namesOf (record { op = op; first = a; second = b }) ≡ a ∷ b ∷ []
 unfolding namesOf
@@ -175,6 +176,10 @@ module _ (k n : ℕ) (rs : List Record) (ok : Accepted k n rs) where
   unfolding partsOf
   parts-within i m =
       let h = walk-below rs (and-earlier k n rs (ok .1)) (lastOf rs) i (((fresh-iff i [] (walkFrom rs (lastOf rs))) .0 m) .0) in let l = ok .0 in omega arith
+
+  -- there are no more parts than records
+  pub parts-few : length (partsOf rs) ≤ length rs
+  parts-few = pigeonhole (length rs) (partsOf rs) (parts-distinct rs (and-earlier k n rs (ok .1))) parts-within
 
   module _ (A : Assignment k) where
     -- a record holds exactly if all that the walk from it meets hold

@@ -2,7 +2,7 @@
 -- Assumes nothing.
 use Prim.Native.Nat.{ℕ, zero, suc, _+_, _*_, _≤_, _<_}
 use mathlib.Core.Path.{_≡_, refl, ap, sym, subst, _∙_}
-use mathlib.Core.Logic.{_↔_, _⊎_, inl, inr, ⊎-elim}
+use mathlib.Core.Logic.{_⊎_, inl, inr, ⊎-elim}
 use mathlib.Core.Bool.{Bool, true, false, cond}
 use mathlib.Core.List.{List, [], _∷_, _++_, append-assoc, append-nil}
 use native.Mathlib.Nat.{le-refl, not-suc-le-zero}
@@ -100,7 +100,7 @@ module _ (rs : List Record) (E : AndEarlier rs) where
     longer : (x : ℕ) → T (elem x (0 ∷ marked)) → T (elem x (0 ∷ (i ∷ marked)))
     longer x m = (elem-cons x 0 (i ∷ marked)) .1 (⊎-elim inl (λ u. inr (elem-later x i marked u)) ((elem-cons x 0 marked) .0 m))
 
-    passed : Going rs now → T (elem i marked) → Going rs (record { marked = marked; stack = rest; found = found })
+    pub passed : Going rs now → T (elem i marked) → Going rs (record { marked = marked; stack = rest; found = found })
     unfolding Ahead flat
     passed I h = record {
       covered = λ j t e x m. ⊎-elim inl (λ w. ⊎-elim (λ u. inl (seen I h (isAnd rs i) refl x u)) inr (w .1)) (I .covered j t e x m);
@@ -111,7 +111,7 @@ module _ (rs : List Record) (E : AndEarlier rs) where
     }
 
     -- a part
-    listed : Going rs now → elem i marked ≡ false → isAnd rs i ≡ false → Going rs (record { marked = i ∷ marked; stack = rest; found = found ++ (i ∷ []) })
+    pub listed : Going rs now → elem i marked ≡ false → isAnd rs i ≡ false → Going rs (record { marked = i ∷ marked; stack = rest; found = found ++ (i ∷ []) })
     unfolding Ahead flat
     listed I e o = record {
       covered = λ j t h x m. ⊎-elim (λ u. inl (elem-later x i marked u))
@@ -125,7 +125,7 @@ module _ (rs : List Record) (E : AndEarlier rs) where
     }
 
     -- an "and"
-    opened : Going rs now → elem i marked ≡ false → T (isAnd rs i)
+    pub opened : Going rs now → elem i marked ≡ false → T (isAnd rs i)
         → Going rs (record { marked = i ∷ marked; stack = firstAt rs i ∷ (secondAt rs i ∷ rest); found = found })
     unfolding Ahead flat
     opened I e t =

@@ -1,8 +1,8 @@
 -- The whole answer is as A6 asks, and no other is.
 -- Assumes nothing.
-use Prim.Native.Nat.{ℕ, _-_, _<_}
+use Prim.Native.Nat.{ℕ, _-_}
 use mathlib.Core.Path.{_≡_, refl, ap, ap₂, sym, subst, _∙_, fun-ext}
-use mathlib.Core.Logic.{_↔_, _⊎_, inl, inr, ⊎-elim}
+use mathlib.Core.Logic.{_↔_, _⊎_, inl, inr}
 use mathlib.Core.Bool.{Bool, true, false, cond}
 use mathlib.Core.List.{List, []}
 use native.Mathlib.Omega.{arith}
@@ -12,7 +12,7 @@ use Rattle.logic.specs.Meaning.{Assignment, root}
 use Rattle.logic.specs.Rule.{Record, lastOf, extend, formulaAt, Satisfies, Accepted}
 use Rattle.logic.specs.ReachedRecords.{namesIn, isReached}
 use Rattle.logic.specs.Table.{Table, table, Built, over, built}
-use Rattle.logic.specs.Decide.{lastTable, buildRule}
+use Rattle.logic.specs.Decide.{buildRule}
 use Rattle.logic.specs.Claims.{FirstOver, Roomy}
 use Rattle.logic.proofs.Places.{true→T}
 use Rattle.logic.proofs.Rules.{tables-at, Says, built-says, record-right}

@@ -1,7 +1,7 @@
 -- The trials: the list that they keep is unsatisfiable, each of its parts is needed, and no other list is kept.
 -- Assumes nothing.
-use Prim.Native.Nat.{ℕ, zero, suc, _≤_, _<_}
-use mathlib.Core.Path.{_≡_, refl, ap, sym, subst, _∙_}
+use Prim.Native.Nat.{ℕ, _≤_, _<_}
+use mathlib.Core.Path.{_≡_, refl, sym, subst, _∙_}
 use mathlib.Core.Logic.{_↔_, _⊎_, inl, inr, ⊎-elim}
 use mathlib.Core.Bool.{Bool, true, false, cond}
 use mathlib.Core.List.{List, [], _∷_, _++_, append-assoc, append-nil}
@@ -13,7 +13,7 @@ use Rattle.logic.specs.Rule.{Record, formulaAt, Satisfies, Accepted}
 use Rattle.logic.specs.Reach.{elem}
 use Rattle.logic.specs.Alike.{Distinct}
 use Rattle.logic.proofs.Reach.{elem-none, elem-one, elem-cons, elem-append}
-use Rattle.parts.specs.Parts.{partsOf, AllHold}
+use Rattle.parts.specs.Parts.{partsOf}
 use Rattle.trials.specs.Clash.{NoneHold, SomeHold, Tells, triedWith, keptOf, TrialsKeep, all-tried, dropped, stays}
 use Rattle.trials.specs.Clash.{Sublist, no-more, left-out, taken, Clash}
 use Rattle.parts.proofs.Lists.{elem-later}

@@ -2,7 +2,7 @@
 -- Assumes nothing.
 use Prim.Native.Nat.{ℕ, zero, suc}
 use mathlib.Core.Path.{_≡_, refl}
-use mathlib.Core.Bool.{Bool, true, false, _&&_, _||_}
+use mathlib.Core.Bool.{Bool, true, _&&_, _||_}
 use mathlib.Core.List.{List, [], _∷_, _++_}
 use native.Mathlib.Decide.{decLt}
 use Rattle.logic.specs.Tree.{downFrom, sumOf, low, bit}
@@ -14,7 +14,7 @@ use Rattle.logic.specs.Table.{Table, table, codedProduct, build, productTable, 
 use Rattle.logic.specs.Search.{anyBelow}
 use Rattle.parts.specs.Parts.{isAnd, walk, fresh, partsOf}
 use Rattle.trials.specs.Clash.{triedWith, keptOf}
-use Rattle.trials.specs.Joins.{Joiner, plainJoiner, accepts, noJoint, joinOne, joinFrom, Trialled, over14, keptList, trialSays, trials, trialsFrom}
+use Rattle.trials.specs.Joins.{Joiner, plainJoiner, accepts, noJoint, joinOne, joinFrom, over14, keptList, trialSays, trials, trialsFrom}
 use Rattle.trials.specs.Answer.{ClashAnswer, refusedFor, satisfiable, clashing, trialsAnswer, afterBuilt, clashOf}
 
 r : ℕ → ℕ → ℕ → Record

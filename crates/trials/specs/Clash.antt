@@ -2,7 +2,6 @@
 -- Assumes nothing.
 use Prim.Native.Nat.{ℕ, _<_}
 use mathlib.Core.Path.{_≡_}
-use mathlib.Core.Logic.{_↔_}
 use mathlib.Core.Bool.{Bool, true, false, cond}
 use mathlib.Core.List.{List, [], _∷_, _++_}
 use lib.Dec.{T}
@@ -10,7 +9,7 @@ use lib.ListN.{length}
 use Rattle.logic.specs.Meaning.{Assignment, Holds}
 use Rattle.logic.specs.Rule.{Record, formulaAt}
 use Rattle.logic.specs.Reach.{elem}
-use Rattle.parts.specs.Parts.{partsOf, AllHold}
+use Rattle.parts.specs.Parts.{AllHold}
 
 -- no assignment satisfies all records of the list
 abbrev pub NoneHold : (k : ℕ) → List Record → List ℕ → Type 0
