@@ -41,6 +41,10 @@ confined-more {rule} {c} {r} {s} h a b = record {
   beyond = b .beyond ∙ a .beyond;
 }
 
+-- fewer shares are changed
+pub confined-from : {rule : List ℕ} {c : ℕ} (r s : ℕ) {ws ws′ : List ℕ} → r ≤ s → Confined rule c s ws ws′ → Confined rule c r ws ws′
+confined-from r s h b = confined-more h confined-none b
+
 -- one share behind the records' own
 pub confined-share : {rule : List ℕ} {c r : ℕ} {ws ws′ : List ℕ} → countOf rule ≤ r → r < countOf rule + 15 → Spared (ruleShape rule c) r ws ws′
     → Confined rule c r ws ws′

@@ -23,7 +23,7 @@ pub enum Trial {
 }
 
 // The trial of part i: those not yet tried are joined to those kept, which are joined in j, and some assignment must satisfy them all.
-fn trial(
+fn try_part(
     rule: &[u8],
     c: usize,
     ws: &mut [u8],
@@ -132,7 +132,7 @@ pub fn try_parts(
     let mut kept: usize = 0;
     let mut i: usize = 0;
     while i < count {
-        let t = trial(
+        let t = try_part(
             rule,
             c,
             ws,
