@@ -124,11 +124,15 @@ module _ {rule : List ℕ} {c room : ℕ} (w : Workable rule c room) where
           go (Over r) e = rule-over r e
           go Ready e = rule-ready same e
 
+  -- where building ended well, the records that are reached have their machines
+  pub rule-machines : (t : Machines) (ws : List ℕ) → BuiltRecords rule c t ws → t .ending ≡ Ready → Roomy 2 n rs c × ReachedBuilt rule c (entryOf t) ws
+  rule-machines t ws b e = subst (λ (x : Ending). EndedAs rule c (entryOf t) x ws) e b
+
   -- the last one's machine decides the rule
   pub rule-decided : (t : Machines) (ws : List ℕ) → BuiltRecords rule c t ws → t .ending ≡ Ready → Decider rule c (entryOf t (m - 1)) ws
   rule-decided t ws b e =
       let last : lastOf rs ≡ m - 1 = ap (λ (j : ℕ). j - 1) long in
-      let v = rw e at b in
+      let v = rule-machines t ws b e in
       record {
         roomy = v .0;
         last = subst (λ (j : ℕ). MachineFor rule c ws j (entryOf t j) (formulaAt rs (lastOf rs))) last (v .1 (lastOf rs) itself);

@@ -137,3 +137,8 @@ module _ (k n : ℕ) (rs : List Record) (ok : Accepted k n rs) (c : ℕ) where
       go : (d : Built k) → Told d → o ≡ clashOf k n rs c
       go (over r) w = let f = says-first k n rs c 0 ok r w in a .refused-rule r f ∙ sym (b .refused-rule r f)
       go (built ts) w = at (says-roomy k n rs c 0 ok ts w) (accepts Last) refl
+
+  -- where the rule has room: 29, or what the trials come to
+  pub roomy-answer : Roomy k n rs c → (v : Bool) → accepts (table {k = k} n (formulaAt rs (lastOf rs))) ≡ v
+      → clashOf k n rs c ≡ cond v satisfiable (trialsAnswer (trials (plainJoiner k n rs) c [] (partsOf rs)))
+  roomy-answer R v e = sym (clash-only (after v) (roomy-right R v e))

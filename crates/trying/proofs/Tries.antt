@@ -35,7 +35,7 @@ satisfiable-built {rule} {F = F} u {b} s =
     (accepts-iff (variablesOf rule) F (machTable (h .machine)) (u .full .0, u .decides .decides, u .full .1))
 
 -- so it is with the definition's machine
-satisfiable-same : {rule : List ℕ} {c : ℕ} {ws : List ℕ} {r : ℕ} {k : Summary} {F : Formula 2} → Valid (variablesOf rule) F → MachineFor rule c ws r k F
+pub satisfiable-same : {rule : List ℕ} {c : ℕ} {ws : List ℕ} {r : ℕ} {k : Summary} {F : Formula 2} → Valid (variablesOf rule) F → MachineFor rule c ws r k F
     → {b : Bool} → Satisfiable k b → b ≡ accepts (table (variablesOf rule) F)
 satisfiable-same {rule} {F = F} v u {b} s =
     let n = variablesOf rule in
