@@ -385,7 +385,8 @@ static void tell_clash(const struct arguments *a)
     bool dash = false;
     for (unsigned i = 0; i < a->operands; i++)
         dash = dash || (a->operand[i][0] == '-' && a->operand[i][1]);
-    fflush(stdout); /* the answer comes first where both go to one file; main tells if this fails */
+    if (fflush(stdout) != 0) /* the answer comes first where both go to one file; main tells that it was not written */
+        return;
     fputs("ws2s: to see which requirements clash: ws2s clash", stderr);
     if (a->c != WS2S_MAX_STATES)
         fprintf(stderr, " -c %u", (unsigned)a->c);
