@@ -105,7 +105,10 @@ structures() { # FILE...: the results' fields, with their names
 }
 structures include/ws2s.h >"$room/structures"
 [ "$(wc -l <"$room/structures")" -eq 7 ] || { echo 'the header does not have 7 results'; failed=1; }
-differs 'manual pages, structures' "$(structures man/ws2s_check_rule.3 man/ws2s_check_tree.3 man/ws2s_judge.3 man/ws2s_decide.3 man/ws2s_clash.3 man/ws2s_import.3 man/ws2s_text_fault.3)" "$(cat "$room/structures")"
+pages=
+for name in check_rule check_tree judge decide clash import text_fault; do pages="$pages man/ws2s_$name.3"; done
+# shellcheck disable=SC2086 # a word for each page
+differs 'manual pages, structures' "$(structures $pages)" "$(cat "$room/structures")"
 
 # ---- The samples: `file` in the first column, records in the last but one, `verdict` in the last
 
