@@ -222,6 +222,8 @@ static void try_clash(const struct strip *s, char *name)
     if (list.kind == WS2S_KEPT) {
         count_strip(lists(&list), words, 0, s);
         kept++;
+    } else if (!once_in(8)) {
+        return;
     }
     words = WORDS((char *)"decide", (char *)"-c", (char *)"8", (char *)"-p", (char *)"0", name);
     int status = run(words);
