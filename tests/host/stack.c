@@ -323,11 +323,9 @@ static void try_shown(unsigned nodes)
     try_made(OP_decide, NULL);
 }
 
-/* Rules of which the first or the last part alone, X0 = X0 1, clashes: "and" as far as
- * there are records, of the record before twice, of it and the first, and of the first
- * and it; and as many parts as there may be, and one more, in a chain to the left and to
- * the right. Then the rules above. */
-static void try_clash(unsigned n)
+/* X0 = X0 1, which clashes by itself, below "and" as far as there are records: of the
+ * record before twice, of it and the first, and of the first and it. */
+static void try_crowded(unsigned n)
 {
     static const char *const chains[] = { "the record before, twice", "the record before and the first", "the first and the record before" };
     size_t at;
@@ -340,19 +338,32 @@ static void try_clash(unsigned n)
         snprintf(what, sizeof what, "n = %u, 127 \"and\" of %s", n, chains[chain]);
         try_made(OP_clash, "kept 1 0");
     }
-    for (unsigned parts = WS2S_MAX_PARTS; parts <= WS2S_MAX_PARTS + 1; parts++)
-        for (unsigned right = 0; right < 2; right++) {
-            put_heading(&rule, &at, n, 2 * parts - 1);
-            for (unsigned i = 0; i < parts; i++)
-                put_record(&rule, &at, i + 1 < parts ? 0 : 2, 0, 0);
-            for (unsigned i = 1; i < parts; i++) {
-                unsigned before = i == 1 ? (right ? parts - 1 : 0) : parts + i - 2, part = right ? parts - 1 - i : i;
-                put_record(&rule, &at, 7, right ? part : before, right ? before : part);
-            }
-            set_ceilings(64);
-            snprintf(what, sizeof what, "n = %u, %u parts in a chain to the %s", n, parts, right ? "right" : "left");
-            try_made(OP_clash, parts > WS2S_MAX_PARTS ? "refused 28" : "kept 1 15");
-        }
+}
+
+/* So many parts in a chain, of which the last clashes by itself. */
+static void try_chain(unsigned n, unsigned parts, bool right)
+{
+    size_t at;
+    put_heading(&rule, &at, n, 2 * parts - 1);
+    for (unsigned i = 0; i < parts; i++)
+        put_record(&rule, &at, i + 1 < parts ? 0 : 2, 0, 0);
+    for (unsigned i = 1; i < parts; i++) {
+        unsigned before = i > 1 ? parts + i - 2 : right ? parts - 1 : 0, part = right ? parts - 1 - i : i;
+        put_record(&rule, &at, 7, right ? part : before, right ? before : part);
+    }
+    set_ceilings(64);
+    snprintf(what, sizeof what, "n = %u, %u parts in a chain to the %s", n, parts, right ? "right" : "left");
+    try_made(OP_clash, parts > WS2S_MAX_PARTS ? "refused 28" : "kept 1 15");
+}
+
+static void try_clash(unsigned n)
+{
+    static const unsigned parts[] = { WS2S_MAX_PARTS, WS2S_MAX_PARTS + 1, WS2S_MAX_RECORDS / 2 };
+    try_crowded(n);
+    for (unsigned i = 0; i < sizeof parts / sizeof parts[0]; i++) {
+        try_chain(n, parts[i], false);
+        try_chain(n, parts[i], true);
+    }
     for (int i = 0; i < RULES; i++) {
         make_plain_rule(&rule, n, rules[i].records, rules[i].op, NULL);
         set_ceilings(rules[i].c);
