@@ -160,12 +160,15 @@ bound: $(HOST)/bound
 example: $(HOST)/example
 	@$(HOST)/example "$$RULE" $(NAMES)
 
+COMPARED := $(foreach f,decide clash clash_lists,tests/vectors/base/$(f).txt)
+TIMED := $(foreach f,tests/vectors/heavy bench/sing bench/leftovers bench/clash bench/worst,-l $(f).txt)
+COUNTED := $(foreach l,1 2 3 4 5,tests/vectors/heavy.txt:$(l)) $(foreach l,1 2,bench/sing.txt:$(l)) $(foreach l,1 2 3 4 5 6 7 8 9,bench/clash.txt:$(l))
 bench: $(HOST)/bench $(VERDICT) $(COMMAND)
-	$(HOST)/bench -v tests/vectors/base/decide.txt -l tests/vectors/heavy.txt -l bench/sing.txt -l bench/leftovers.txt -l bench/worst.txt $(SAMPLES) $(MADE_TEXTS) $(TEXTS)
-	bench/instructions.sh $(HOST)/bench $(foreach l,1 2 3 4 5,tests/vectors/heavy.txt:$(l)) $(foreach l,1 2,bench/sing.txt:$(l)) $(SAMPLES) $(MADE_TEXTS) $(TEXTS)
+	$(HOST)/bench -v tests/vectors/base/decide.txt $(TIMED) $(SAMPLES) $(MADE_TEXTS) $(TEXTS)
+	bench/instructions.sh $(HOST)/bench $(COUNTED) $(SAMPLES) $(MADE_TEXTS) $(TEXTS)
 	bench/leftovers.sh $(HOST)/bench
 	bench/mona.py --texts $(COMMAND) $(TEXTS)
-	if command -v mona > /dev/null; then bench/mona.py --time $(VERDICT) $(SAMPLES) && bench/mona.py --compare tests/vectors/base/decide.txt; else echo 'MONA is not installed'; fi
+	if command -v mona > /dev/null; then bench/mona.py --time $(VERDICT) $(SAMPLES) && bench/mona.py --compare $(COMPARED); else echo 'MONA is not installed'; fi
 
 # Where things go. The names may have spaces in them.
 INSTALLED = $(foreach f,$(MAN1),"$(DESTDIR)$(MANDIR)/man1/$(notdir $(f))") $(foreach f,$(MAN3),"$(DESTDIR)$(MANDIR)/man3/$(notdir $(f))") \

@@ -6,7 +6,7 @@
  * Each RULE, a file with one rule strip, is decided with the ceilings C (64) and
  * P (255) and makes a row of the table. A TEXT, a file whose name ends in .mona or
  * one of the texts made here (made:longest, made:chain, made:nests, made:open), is
- * imported. -v makes one row of all decide and judge lines of a vector file
+ * imported. -v makes one row of all decide, judge and clash lines of a vector file
  * together, -l a row of each such line. Options, rules and texts count from left to
  * right. A row is run until SECONDS (0.3) have passed for each side, three times at
  * least; the shortest time counts. Both sides must answer alike, and to the texts
@@ -59,11 +59,11 @@ static double now(void)
 
 /* ---- Requests ---- */
 
-/* Whether a line is a decide or judge request, which it then becomes. */
+/* Whether a line is a decide, judge or clash request, which it then becomes. */
 static bool read_line(char *line, struct request *r)
 {
     line[strcspn(line, "\r\n")] = 0;
-    if (strncmp(line, "decide ", 7) != 0 && strncmp(line, "judge ", 6) != 0)
+    if (strncmp(line, "decide ", 7) != 0 && strncmp(line, "judge ", 6) != 0 && strncmp(line, "clash ", 6) != 0)
         return false;
     char *own = strdup(line); /* which the request needs as long as the program runs */
     return own && read_request(own, r);
@@ -309,7 +309,7 @@ static int run_once(const char *who, const char *name)
         count = read_name(name);
     }
     if (count != 1)
-        stop(name, "not one decide or judge line");
+        stop(name, "not one decide, judge or clash line");
     for (int i = 0; i < 2; i++)
         if (strcmp(who, sides[i]) == 0) {
             ask(i, &requests[0], &answer);
@@ -323,7 +323,7 @@ int main(int argc, char **argv)
 {
     const char *once = NULL;
     bool heading = false;
-    workspace = mmap(NULL, WS2S_MAX_WORKSPACE, PROT_READ | PROT_WRITE, MAP_PRIVATE | MAP_ANONYMOUS, -1, 0);
+    workspace = mmap(NULL, WS2S_MAX_CLASH_WORKSPACE, PROT_READ | PROT_WRITE, MAP_PRIVATE | MAP_ANONYMOUS, -1, 0);
     if (workspace == MAP_FAILED)
         stop("workspace", strerror(errno));
     for (int i = 1; i < argc; i++) {
@@ -354,7 +354,7 @@ int main(int argc, char **argv)
         if (once)
             return run_once(once, argv[i]);
         if (!heading) {
-            memset(workspace, 1, WS2S_MAX_WORKSPACE); /* so that no row pays for its pages */
+            memset(workspace, 1, WS2S_MAX_CLASH_WORKSPACE); /* so that no row pays for its pages */
             printf("%-28s %6s %14s %14s %8s\n", "", "calls", "library us", "oracle us", "ratio");
             heading = true;
         }

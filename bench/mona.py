@@ -8,7 +8,9 @@
                                be satisfiable, the last not. Trees that are shown
                                or judged: the rule must be satisfiable with just
                                their sets if the answer is shown or yes, and not
-                               if it is no
+                               if it is no. Rules that are asked which parts clash:
+                               each trial that the list tells of, and the list; a
+                               rule refused 29 must be satisfiable
     mona.py --time PROGRAM RULE...  the verdict program's time and MONA's on rule
                                files, each as a process of its own, the least of
                                nine runs. Rules that are not accepted are left out
@@ -80,9 +82,9 @@ def read_tree(strip):
     return sets
 
 
-def to_mona(strip, tree=None):
+def to_mona(strip, tree=None, parts=None):
     """MONA text that is satisfiable exactly if the rule is, with a tree's sets alone
-    if there is one."""
+    if there is one; or, if parts are given, if all these records are."""
     n, records = read_strip(strip)
     names = [f"X{i}" for i in range(n)]
 
@@ -107,7 +109,8 @@ def to_mona(strip, tree=None):
     head = ", ".join(f"var2 {name}" for name in names)
     lines = ["ws2s;"]
     lines += [f"pred r{i}({head}) = {body(*record)};" for i, record in enumerate(records)]
-    lines += [f"var2 {', '.join(names)};", call(len(records) - 1) + ";"]
+    asked = [len(records) - 1] if parts is None else parts
+    lines += [f"var2 {', '.join(names)};", " & ".join(map(call, asked)) + ";"]
     for name, members in zip(names, read_tree(tree) if tree else []):
         lines.append(f"{name} = {{{', '.join(members)}}};" if members else f"empty({name});")
     return "\n".join(lines) + "\n"
@@ -136,6 +139,25 @@ def run_mona(text, limit):
     return None, taken
 
 
+def parts_of(records):
+    """The parts of a rule, in their order: of each record, from the first on, the plain
+    list without repeats."""
+    parts = []
+    for number, (op, first, second) in enumerate(records):
+        parts.append(list(dict.fromkeys(parts[first] + parts[second])) if op == 7 else [number])
+    return parts[-1]
+
+
+def trials(rule, kept):
+    """What the trials of a rule ask, if they keep these parts, and the list itself."""
+    parts = parts_of(read_strip(rule)[1])
+    for i, part in enumerate(parts):
+        rest = [before for before in parts[:i] if before in kept] + parts[i + 1:]
+        if rest:
+            yield to_mona(rule, parts=rest), part in kept
+    yield to_mona(rule, parts=kept), False
+
+
 def questions(line):
     """What to ask MONA about a vector line: text and whether it is satisfiable."""
     request, _, answer = line.strip().partition(" = ")
@@ -147,6 +169,10 @@ def questions(line):
             yield to_mona(rule, bytes.fromhex(said[3])), True
     elif words[0] == "judge" and said[0] in ("yes", "no"):
         yield to_mona(bytes.fromhex(words[1]), bytes.fromhex(words[4])), said[0] == "yes"
+    elif words[0] == "clash" and said[0] == "kept":
+        yield from trials(bytes.fromhex(words[1]), [int(part) for part in said[2:]])
+    elif words[0] == "clash" and said[:2] == ["refused", "29"]:
+        yield to_mona(bytes.fromhex(words[1])), True
 
 
 def compare(files, limit):

@@ -1,4 +1,4 @@
-/* What a rule strip says, and why and where a strip is refused, in words. */
+/* What a rule strip says, record by record or whole, and why and where a strip is refused, in words. */
 #ifndef WORDS_H
 #define WORDS_H
 
@@ -8,6 +8,9 @@
 
 /* What a word ends in that stands after a number. */
 const char *plural(uint64_t count);
+
+/* No rule of a text takes more than its 128 records: nothing there is written twice. */
+enum { MOST_SAID = 256 };
 
 /* A variable that "exists" binds, and the records in which it is that one: from the
  * first of what it is about to the "exists" itself. */
@@ -42,6 +45,11 @@ unsigned bound_variables(const struct strip *rule, struct bound *bound);
 
 /* A record in words, if it lies within the rule. */
 void put_record(FILE *to, const struct strip *rule, unsigned record, const struct names *names);
+
+/* A record of an accepted rule with all that it stands on, in words. Of one that would
+ * take more than MOST_SAID records, since some are written again and again, the record
+ * alone, and where the others can be seen. */
+void put_sense(FILE *to, const struct strip *rule, unsigned record, const struct names *names);
 
 /* The number of variables and each record on a line of its own, as far as the
  * bytes go, the first bad one marked with the place. Of a rule that is refused for

@@ -1,5 +1,5 @@
 /* The command ws2s: decides, judges, checks and shows rule and tree strips, and
- * rules typed as text, by libws2s. See man/ws2s.1. */
+ * rules typed as text, and tells what clashes in them, by libws2s. See man/ws2s.1. */
 #define _DEFAULT_SOURCE
 #include "drawing.h"
 #include "text.h"
@@ -18,6 +18,7 @@ enum status { GOOD = 0, BAD = 1, LARGER = 2, REFUSED = 3, USAGE = 64, TROUBLE = 
 
 static const char help[] =
     "usage: ws2s decide [-c N] [-p N] [--outline|--hex|--strip|--dot|--svg] RULE [NAME...]\n"
+    "       ws2s clash [-c N] RULE [NAME...]\n"
     "       ws2s judge [-c N] RULE TREE\n"
     "       ws2s check rule|tree FILE\n"
     "       ws2s print RULE [NAME...]\n"
@@ -26,6 +27,8 @@ static const char help[] =
     "       ws2s --help | --version\n"
     "\n"
     "decide  show the earliest tree that satisfies a rule, or say that there is none\n"
+    "clash   list requirements of a rule that nothing satisfies: together they clash,\n"
+    "        and without any one of them the others can be satisfied\n"
     "judge   say whether a tree satisfies a rule\n"
     "check   say whether a file is a rule strip or a tree strip, or where it is at fault\n"
     "print   write each record of a rule in words, and mark the first bad one\n"
@@ -45,8 +48,9 @@ static const char help[] =
     "  --svg      the picture itself\n"
     "  -o RULE    the file that the strip is written to, instead of standard output\n"
     "\n"
-    "Status: 0 shown, yes or accepted; 1 none or no; 2 larger; 3 refused; 64 a wrong\n"
-    "command line; 74 trouble with files, output that could not be written included.\n";
+    "Status: 0 shown, listed, yes or accepted; 1 none or no; 2 larger; 3 refused; 64 a\n"
+    "wrong command line; 74 trouble with files, output that could not be written\n"
+    "included.\n";
 
 /* ---- What goes wrong ---- */
 
@@ -361,6 +365,40 @@ static void put_tree(const struct tree *tree, enum form form, const struct names
     }
 }
 
+/* A word of a command line, as a shell takes it. */
+static void put_word(FILE *to, const char *word)
+{
+    static const char plain[] = "ABCDEFGHIJKLMNOPQRSTUVWXYZabcdefghijklmnopqrstuvwxyz0123456789_./+,:=@%-";
+    if (*word && word[strspn(word, plain)] == 0) {
+        fputs(word, to);
+        return;
+    }
+    fputc('\'', to);
+    for (; *word; word++)
+        fputs(*word == '\'' ? "'\\''" : (char[]){ *word, 0 }, to);
+    fputc('\'', to);
+}
+
+/* How to ask what clashes in the rule that was decided. */
+static void tell_clash(const struct arguments *a)
+{
+    bool dash = false;
+    for (unsigned i = 0; i < a->operands; i++)
+        dash = dash || (a->operand[i][0] == '-' && a->operand[i][1]);
+    if (fflush(stdout) != 0) /* the answer comes first where both go to one file; main tells that it was not written */
+        return;
+    fputs("ws2s: to see which requirements clash: ws2s clash", stderr);
+    if (a->c != WS2S_MAX_STATES)
+        fprintf(stderr, " -c %u", (unsigned)a->c);
+    if (dash)
+        fputs(" --", stderr);
+    for (unsigned i = 0; i < a->operands; i++) {
+        fputc(' ', stderr);
+        put_word(stderr, a->operand[i]);
+    }
+    fputc('\n', stderr);
+}
+
 static enum status decide(const struct arguments *a)
 {
     uint8_t out[WS2S_MAX_TREE_BYTES];
@@ -386,6 +424,7 @@ static enum status decide(const struct arguments *a)
         return GOOD;
     case WS2S_NONE:
         fprintf(words, "none: no finite sets satisfy the rule\n");
+        tell_clash(a);
         return BAD;
     case WS2S_LARGER:
         fprintf(words, "larger: finite sets satisfy the rule, but all of them take more than %u place%s\n", (unsigned)a->p,
@@ -394,6 +433,30 @@ static enum status decide(const struct arguments *a)
     default:
         return refuse(a->operand[0], (struct refusal){ v.refusal, v.record, v.place }, &rule, &names);
     }
+}
+
+static enum status clash(const struct arguments *a)
+{
+    struct strip rule;
+    struct names names;
+    ws2s_rule checked;
+    enum status status;
+    if ((status = read_named_rule(a, &rule, &names, &checked)))
+        return status;
+    size_t size = ws2s_clash_workspace_size(checked, a->c);
+    uint8_t *workspace = malloc(size > 0 ? size : 1);
+    if (!workspace)
+        return trouble("workspace");
+    ws2s_clash_list l = ws2s_clash(rule.byte, rule.length, a->c, workspace, size);
+    free(workspace);
+    if (l.kind == WS2S_REFUSED)
+        return refuse(a->operand[0], (struct refusal){ l.refusal, l.record, l.place }, &rule, &names);
+    for (unsigned i = 0; i < l.count && i < WS2S_MAX_PARTS; i++) {
+        printf("%u: ", (unsigned)l.parts[i]);
+        put_sense(stdout, &rule, (unsigned)l.parts[i], &names);
+        printf("\n");
+    }
+    return GOOD;
 }
 
 static enum status judge(const struct arguments *a)
@@ -518,6 +581,7 @@ static const struct subcommand {
     enum status (*run)(const struct arguments *);
 } subcommands[] = {
     { "decide", "cpfs", 1, 1 + WS2S_MAX_VARIABLES, decide },
+    { "clash", "c", 1, 1 + WS2S_MAX_VARIABLES, clash },
     { "judge", "c", 2, 2, judge },
     { "check", "", 2, 2, check },
     { "print", "", 1, 1 + WS2S_MAX_VARIABLES, print },

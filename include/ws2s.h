@@ -1,5 +1,6 @@
 /* ws2s.h - decide rules of WS2S, the weak second-order logic of two
- * successors, judge trees against them, and import rules typed as text.
+ * successors, judge trees against them, tell which requirements of a rule clash,
+ * and import rules typed as text.
  *
  * Rules and trees are strips: bit-packed bytes, most significant bit first,
  * padded with zero bits to a whole byte.
@@ -57,11 +58,13 @@
  * longer the more workspace is asked for: the longest calls known, with 8
  * variables, 128 records and c = 64, take about a second, up to 10 ns for each
  * byte asked for; that makes a third of a millisecond for 3 variables, 16 records
- * and c = 16. Most rules take a small part of it. A lower c bounds the time.
+ * and c = 16. Most rules take a small part of it. A lower c bounds the time. Clash
+ * takes what decide takes without its search, and up to 133 joins more, each like
+ * building an "and".
  *
  * Stack and time are measured, on a machine of 2026, not proved.
  *
- * What the six functions return, and what they leave in the buffers, is proved
+ * What the seven functions return, and what they leave in the buffers, is proved
  * for all inputs. What is static inline here is plain C, and tested.
  */
 #ifndef WS2S_H
@@ -74,7 +77,7 @@
 extern "C" {
 #endif
 
-#define WS2S_VERSION "2.3.0"
+#define WS2S_VERSION "2.4.0"
 
 /* Limits. Buffers of these sizes serve every rule and every tree. */
 #define WS2S_MAX_VARIABLES 8
@@ -83,10 +86,12 @@ extern "C" {
 #define WS2S_MAX_POSITIONS 255         /* the highest P; nodes of a tree */
 #define WS2S_MAX_RULE_BYTES 290        /* also the out buffer that ws2s_import asks for */
 #define WS2S_MAX_TREE_BYTES 320        /* also the longest out buffer asked for */
-#define WS2S_MAX_WORKSPACE 134217728   /* 128 MiB */
+#define WS2S_MAX_WORKSPACE 134217728   /* of ws2s_judge and ws2s_decide: 128 MiB */
+#define WS2S_MAX_CLASH_WORKSPACE 149946368 /* of ws2s_clash: 143 MiB */
+#define WS2S_MAX_PARTS 16              /* requirements that ws2s_clash tries */
 #define WS2S_MAX_LEVELS 32             /* how deep a text nests */
 
-/* The kind of an answer: of ws2s_decide, of ws2s_judge, of both. */
+/* The kind of an answer: of ws2s_decide, of ws2s_judge, of ws2s_clash, of all. */
 enum {
     WS2S_SHOWN = 0,
     WS2S_NONE = 1,
@@ -94,6 +99,8 @@ enum {
 
     WS2S_NO = 0,
     WS2S_YES = 1,
+
+    WS2S_KEPT = 0,
 
     WS2S_REFUSED = 3
 };
@@ -122,11 +129,13 @@ enum {
     WS2S_REFUSED_RECORD = 9,           /* record naming a record not below its own number [the field] */
     WS2S_REFUSED_UNUSED = 10,          /* record with an unused field that is not 0 [the field] */
     WS2S_REFUSED_CEILING = 11,         /* c not 1 to 64, or P above 255 */
-    WS2S_REFUSED_WORKSPACE = 12,       /* workspace shorter than ws2s_workspace_size */
+    WS2S_REFUSED_WORKSPACE = 12,       /* workspace shorter than ws2s_workspace_size, of ws2s_clash than
+                                          ws2s_clash_workspace_size */
     WS2S_REFUSED_OUT = 13,             /* out buffer shorter than ws2s_out_size */
     WS2S_REFUSED_STATES = 14,          /* a record that the last one reaches, or that one itself, has
                                           more than c states; "record" is its number, the lowest if
-                                          there are several */
+                                          there are several. Of ws2s_clash also: a trial's join has
+                                          more; "record" is the part that was being joined */
     WS2S_REFUSED_TREE_SHORT = 15,      /* tree strip of no bytes [the bit length] */
     WS2S_REFUSED_TREE_VERSION = 16,    /* tree strip of a version other than 1 [0] */
     WS2S_REFUSED_TREE_VARIABLES = 17,  /* tree strip with n not 1 to 8 [4] */
@@ -142,7 +151,9 @@ enum {
                                           declarations, or of the wrong order (a place, a set) */
     WS2S_REFUSED_TEXT_VARIABLES = 25,  /* text with a name that needs a ninth variable */
     WS2S_REFUSED_TEXT_RECORDS = 26,    /* text that makes more than 128 records */
-    WS2S_REFUSED_RULE_OUT = 27         /* out buffer shorter than 290 bytes, for a rule strip */
+    WS2S_REFUSED_RULE_OUT = 27,        /* out buffer shorter than 290 bytes, for a rule strip */
+    WS2S_REFUSED_PARTS = 28,           /* rule with more than 16 parts, to be asked which clash */
+    WS2S_REFUSED_SATISFIABLE = 29      /* rule that can be satisfied, asked which of its parts clash */
 };
 
 /* In every result the fields that do not apply are 0. "place" applies where a
@@ -174,6 +185,13 @@ typedef struct {
 typedef struct {
     uint64_t kind, refusal, record, positions, states, length, place;
 } ws2s_verdict;
+
+/* Which parts of a rule clash: WS2S_KEPT (with count and, as the first so many of
+ * parts, the record numbers) or WS2S_REFUSED (refusal; with 14 record, with 1 to 10
+ * place). */
+typedef struct {
+    uint64_t kind, refusal, record, place, count, parts[16];
+} ws2s_clash_list;
 
 /* What is written of a text: refusal 0 if it is accepted, then n, m and the length
  * of the rule strip in bytes; else the refusal, 23 to 27. place and strip are 0:
@@ -231,6 +249,27 @@ ws2s_verdict ws2s_decide(const uint8_t *rule, size_t rule_len, uint64_t c, uint6
                          uint8_t *workspace, size_t workspace_len,
                          uint8_t *out, size_t out_len);
 
+/* Tells which requirements of a rule clash that ws2s_decide answers "none", with
+ * machines of at most c states.
+ *
+ * The parts of a rule are the records other than "and" that are reached from the
+ * last one, itself included, through "and" only: first field before second, a
+ * repeated record once. A record is known by its number; "not", "or" and "exists"
+ * are not looked into, so a rule that is no "and" is its own one part. The parts are
+ * tried in that order, and one is dropped if no finite sets satisfy all the others
+ * that are still there, those not yet tried among them. Those kept are returned, in
+ * that order: no finite sets satisfy all of them, and if any one is taken away, some
+ * satisfy the rest. There is always at least one.
+ *
+ * The workspace needs (m + 15) * 2^n * c * c bytes, however few parts there are:
+ * ws2s_clash_workspace_size. Refusals in order: 1 to 10; 11 for c; 12; 28; 14 for the
+ * rule itself, as ws2s_decide has it; 29; 14 in a trial, where the parts that are
+ * left are joined one after the other: "record" is then the part with which the
+ * states became more than c. After a list, 14 and 29 those bytes of the workspace are
+ * zero and any later ones unchanged; after another refusal all are unchanged. */
+ws2s_clash_list ws2s_clash(const uint8_t *rule, size_t rule_len, uint64_t c,
+                           uint8_t *workspace, size_t workspace_len);
+
 /* Imports a rule typed as text: writes the rule strip that holds exactly for the
  * assignments that satisfy the text, with the free places as sets of one member.
  * The names declared are variables in the order of their declarations, from 0; a
@@ -257,6 +296,16 @@ static inline size_t ws2s_workspace_size(ws2s_rule rule, uint64_t c)
         || c > WS2S_MAX_STATES)
         return 0;
     return (rule.records << rule.variables) * c * c;
+}
+
+/* The bytes of workspace that ws2s_clash asks for, of a rule that ws2s_check_rule
+ * accepted; 0 for any other, and for a c that it refuses. */
+static inline size_t ws2s_clash_workspace_size(ws2s_rule rule, uint64_t c)
+{
+    if (rule.refusal != 0 || rule.variables > WS2S_MAX_VARIABLES || rule.records > WS2S_MAX_RECORDS
+        || c > WS2S_MAX_STATES)
+        return 0;
+    return ((rule.records + WS2S_MAX_PARTS - 1) << rule.variables) * c * c;
 }
 
 /* The bytes of the out buffer that ws2s_decide asks for, of a rule that
@@ -299,6 +348,8 @@ static inline const char *ws2s_refusal_text(uint64_t refusal)
     case WS2S_REFUSED_TEXT_VARIABLES: return "a name needs a ninth variable";
     case WS2S_REFUSED_TEXT_RECORDS: return "the text makes more than 128 records";
     case WS2S_REFUSED_RULE_OUT: return "the out buffer is too short for a rule";
+    case WS2S_REFUSED_PARTS: return "more than 16 requirements are joined by \"and\"";
+    case WS2S_REFUSED_SATISFIABLE: return "the rule can be satisfied, so no requirements clash";
     default: return "no such refusal";
     }
 }
@@ -318,7 +369,7 @@ static inline const char *ws2s_refusal_help(uint64_t refusal)
     case WS2S_REFUSED_RECORD: return "put the record that it uses before it";
     case WS2S_REFUSED_UNUSED: return "set it to 0";
     case WS2S_REFUSED_CEILING: return "c from 1 to 64, P at most 255";
-    case WS2S_REFUSED_WORKSPACE: return "lend m * 2^n * c * c bytes, or lower c";
+    case WS2S_REFUSED_WORKSPACE: return "lend m * 2^n * c * c bytes, for clash (m + 15) * 2^n * c * c, or lower c";
     case WS2S_REFUSED_OUT: return "lend (8 + P(n+1) + P + 1) bits, rounded up to bytes, or lower P";
     case WS2S_REFUSED_STATES: return "raise c, at most to 64, or simplify that record";
     case WS2S_REFUSED_TREE_SHORT: return "was the whole file read?";
@@ -334,6 +385,8 @@ static inline const char *ws2s_refusal_help(uint64_t refusal)
     case WS2S_REFUSED_TEXT_VARIABLES: return "have at most 8 names in use at once";
     case WS2S_REFUSED_TEXT_RECORDS: return "split it";
     case WS2S_REFUSED_RULE_OUT: return "lend 290 bytes";
+    case WS2S_REFUSED_PARTS: return "ask about a rule with some of them";
+    case WS2S_REFUSED_SATISFIABLE: return "decide it, to be shown how";
     default: return "";
     }
 }

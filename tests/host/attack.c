@@ -8,13 +8,16 @@
  * spare or are not there. Both get the same buffers, with the same bytes in and
  * around them; their results and all these bytes must agree after the call, and
  * whatever is shown must check, be walked with a stack of as many bytes as states
- * are told, and be judged as satisfying the rule. One call in three is of a text
+ * are told, and be judged as satisfying the rule; of parts that are said to clash the
+ * library must decide that there is none, and without any one of them that there is.
+ * One call in three is of a text
  * (typed.h); strips that were imported must check, and are decided and judged at
  * times. The same seed makes the same requests. Differences are printed as vector
  * lines; the status is then 1. How often each answer came is printed too, and at how
  * many places a strip or text was refused; of many calls none of them may be missing,
  * nor may texts be accepted seldom, or none that reaches a limit, nor may records of
- * more than c states be missing that the last one does not reach. */
+ * more than c states be missing that the last one does not reach, nor lists of three
+ * parts and more, of fewer parts than there are, and of a rule with sixteen. */
 #define _DEFAULT_SOURCE
 #include "both.h"
 #include "lent.h"
@@ -64,10 +67,10 @@ static uint64_t huge(uint64_t small)
 }
 
 /* A state ceiling for which an accepted rule needs no more than this space. */
-static uint64_t some_states(const struct strip *rule, bool accepted, size_t most)
+static uint64_t some_states(enum operation o, const struct strip *rule, bool accepted, size_t most)
 {
     uint64_t c = once_in(3) ? 64 : once_in(3) ? 1 + below(64) : 1 + below(16);
-    while (accepted && c > 1 && space_asked(rule->byte, c) > most)
+    while (accepted && c > 1 && space_asked(o, rule->byte, c) > most)
         c -= (c + 3) / 4;
     if (once_in(30))
         return once_in(3) ? 0 : once_in(2) ? 65 + below(3) : huge(c);
@@ -134,6 +137,8 @@ static void make_rule_and_tree(struct request *r)
         made.rule = imported;
     else if (once_in(12))
         make_bytes(&made.rule);
+    else if (r->operation == OP_clash && !once_in(4))
+        make_clashing_rule(&made.rule);
     else if (once_in(4))
         make_broad_rule(&made.rule);
     else
@@ -144,10 +149,10 @@ static void make_rule_and_tree(struct request *r)
         damage(&made.rule, 4);
     bool accepted = is_rule(&made.rule);
     r->number[C] = again && !once_in(4) ? (once_in(3) ? kept.states - below(2) : kept.c)
-                 : some_states(&made.rule, accepted, once_in(2000) ? LARGE_SPACE : once_in(20) ? MIDDLE_SPACE : SMALL_SPACE);
+                 : some_states(r->operation, &made.rule, accepted, once_in(2000) ? LARGE_SPACE : once_in(20) ? MIDDLE_SPACE : SMALL_SPACE);
     r->number[P] = some_places();
     bool sized = accepted && r->number[C] <= 64;
-    r->number[WORKSPACE] = some_length(sized ? space_asked(made.rule.byte, r->number[C]) : below(2000), LARGE_SPACE);
+    r->number[WORKSPACE] = some_length(sized ? space_asked(r->operation, made.rule.byte, r->number[C]) : below(2000), LARGE_SPACE);
     r->number[OUT] = some_length(sized && r->number[P] <= 255
                                  ? (8 + r->number[P] * (variables(&made.rule) + 1) + r->number[P] + 1 + 7) / 8 : below(400),
                                  MOST_MADE_OUT);
@@ -246,6 +251,28 @@ static const char *shown_wrong(const struct request *r, const ws2s_verdict *v)
     return j.kind == 1 ? NULL : "shown tree is not judged to satisfy the rule";
 }
 
+/* Whether the library decides that nothing satisfies the parts listed, one left out if
+ * it is among them; a conjunction that has no answer is as it should be. */
+static bool decides(const struct request *r, const ws2s_clash_list *list, unsigned without, uint64_t none)
+{
+    static struct strip rule;
+    uint8_t out[WS2S_MAX_TREE_BYTES];
+    if (!make_conjunction(&rule, &made.rule, list->parts, (unsigned)list->count, without))
+        return true;
+    ws2s_verdict v = ws2s_decide(rule.byte, rule.length, r->number[C], WS2S_MAX_POSITIONS, ours[WORKSPACE].at, r->number[WORKSPACE], out, sizeof out);
+    return v.kind == WS2S_REFUSED || (v.kind == WS2S_NONE) == none;
+}
+
+static const char *list_wrong(const struct request *r, const ws2s_clash_list *list)
+{
+    if (!decides(r, list, WS2S_MAX_PARTS, true))
+        return "parts listed are decided to be satisfied together";
+    for (unsigned i = 0; list->count > 1 && i < list->count; i++)
+        if (!decides(r, list, i, false))
+            return "parts listed are decided to clash without one of them";
+    return NULL;
+}
+
 /* A strip that was imported checks, with the numbers told; it is kept. */
 static const char *imported_wrong(const ws2s_written *w)
 {
@@ -310,6 +337,38 @@ static void count_text(const ws2s_written *w)
     }
 }
 
+/* Lists: of three parts and more, of fewer than there are, and of a rule with as many as
+ * there may be. */
+static struct {
+    unsigned long long_ones, some_dropped, of_most;
+} lists;
+
+/* How many parts a rule has, by the marks of all records from the last down: a part is a
+ * marked record that is no "and". */
+static unsigned parts_of(const struct strip *rule)
+{
+    bool marked[WS2S_MAX_RECORDS] = { false };
+    unsigned count = 0;
+    marked[records(rule) - 1] = true;
+    for (unsigned i = records(rule); i-- > 0;) {
+        if (!marked[i])
+            continue;
+        if (bits_at(rule, record_at(i), 4) != 7)
+            count++;
+        else
+            marked[bits_at(rule, record_at(i) + 4, 7)] = marked[bits_at(rule, record_at(i) + 11, 7)] = true;
+    }
+    return count;
+}
+
+static void count_list(const ws2s_clash_list *list)
+{
+    unsigned parts = parts_of(&made.rule);
+    lists.long_ones += list->count >= 3;
+    lists.some_dropped += list->count < parts;
+    lists.of_most += parts == WS2S_MAX_PARTS;
+}
+
 /* Rules with records of more than c states: how often a record left over had more
  * and the rule was answered; how often one did before the record that 14 named; how
  * often a later record that is reached did, and the first was named. */
@@ -343,10 +402,10 @@ static void count_over(const struct request *r, const union result *o)
     uint64_t other, again;
     bool left_over = false;
     uint64_t refusal = refusal_of(r->operation, o);
-    if (!has(r->operation, WORKSPACE) || (refusal && refusal != 14))
+    if (!has(r->operation, WORKSPACE) || (refusal && !is_of_machines(refusal)))
         return;
     /* none that is reached has more if there is an answer, nor before the one named */
-    bool answered = refusal == 0;
+    bool answered = refusal != 14;
     unsigned named = (unsigned)number_at(o, operations[r->operation].answer->record), end = answered ? records(&made.rule) : named;
     for (unsigned i = 0; i < end && !left_over; i++)
         left_over = is_over_at(r, i, &other);
@@ -405,6 +464,8 @@ static void say_answers(void)
         if (has(o, WORKSPACE))
             printf("%s with records of more than c states: %lu answered, as they are left over, %lu refused after such, %lu refused for the first of several reached\n",
                    operations[o].name, over[o].answered, over[o].passed_over, over[o].first_named);
+    printf("lists: %lu of three parts and more, %lu of fewer than there are, %lu of %d parts\n", lists.long_ones, lists.some_dropped,
+           lists.of_most, WS2S_MAX_PARTS);
 }
 
 /* Whether the strips above still reach every refusal. */
@@ -422,6 +483,10 @@ static bool all_met(void)
     if (!most_levels || !most_variables || !most_records || !level_too_many || !all)
         printf("a limit, a refusal or an op was not met\n");
     all = all && most_levels && most_variables && most_records && level_too_many;
+    if (!lists.long_ones || !lists.some_dropped || !lists.of_most) {
+        printf("no list of three parts, of fewer parts than there are, or of as many parts as there may be\n");
+        all = false;
+    }
     for (enum operation o = 1; o < KINDS; o++) {
         if (has(o, WORKSPACE) && (!over[o].answered || !over[o].passed_over || !over[o].first_named)) {
             printf("%s met no records of more than c states left over, or no several reached\n", operations[o].name);
@@ -458,6 +523,10 @@ int main(int argc, char **argv)
         const char *what = differs(&r, &one, &two);
         if (!what && r.operation == OP_decide && two.verdict.kind == 0)
             what = shown_wrong(&r, &one.verdict);
+        if (!what && r.operation == OP_clash && two.clash_list.refusal == 0) {
+            what = list_wrong(&r, &one.clash_list);
+            count_list(&two.clash_list);
+        }
         if (!what && r.operation == OP_import && two.written.refusal == 0)
             what = imported_wrong(&one.written);
         if (!what && r.operation == OP_import)

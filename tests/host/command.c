@@ -6,7 +6,9 @@
  * Its status must be the one that the library's answer has, for every subcommand
  * and form, and a refusal's sentence must begin with the library's number and
  * place; of a rule with a bad record, print must mark the first, with the place of
- * the field that was made bad. Of a text that is refused the sentence must have the
+ * the field that was made bad. Of requirements that clash there must be a line for
+ * each that the library lists, with its number, and decide must say how to ask. Of a
+ * text that is refused the sentence must have the
  * line and column of the library's token, and the mark must stand under it; nothing
  * may be written. Of one that is accepted the strip must be the library's, and the
  * names in it those that were put there. The same seed makes the same strips and
@@ -74,7 +76,7 @@ static void damage_often(struct strip *s)
 static char room[64], rule_name[80], tree_name[80], text_name[80], made_name[80], out_name[80], err_name[80];
 static char said[1 << 16], complained[1 << 13];
 static size_t said_length;
-static unsigned long passed, failed, accepted, refused;
+static unsigned long passed, failed, accepted, refused, kept;
 
 static void save_bytes(const char *name, const void *bytes, size_t length)
 {
@@ -192,6 +194,44 @@ static void try_mark(const struct strip *s, const struct bad *bad, uint64_t refu
     count_strip(right, WORDS((char *)"print", rule_name), (int)bad->record, s);
 }
 
+/* A line for each part, with its number and something said of it, in brackets that close. */
+static bool lists(const ws2s_clash_list *list)
+{
+    const char *at = said;
+    for (unsigned i = 0; i < list->count; i++) {
+        char *end;
+        int open = 0;
+        if (strtoul(at, &end, 10) != list->parts[i] || end == at || strncmp(end, ": ", 2) != 0 || end[2] <= ' ')
+            return false;
+        for (at = end; *at && *at != '\n' && open >= 0; at++)
+            open += (*at == '(') - (*at == ')');
+        if (open != 0 || *at++ != '\n')
+            return false;
+    }
+    return *at == 0 && !*complained;
+}
+
+/* The rule in a file: a strip, or a text that was imported to it. */
+static void try_clash(const struct strip *s, char *name)
+{
+    static uint8_t workspace[(WS2S_MAX_RECORDS + 15) << WS2S_MAX_VARIABLES << 3 << 3], out[WS2S_MAX_TREE_BYTES];
+    ws2s_clash_list list = ws2s_clash(s->byte, s->length, 8, workspace, sizeof workspace);
+    ws2s_verdict v = ws2s_decide(s->byte, s->length, 8, 0, workspace, sizeof workspace, out, sizeof out);
+    char **words = WORDS((char *)"clash", (char *)"-c", (char *)"8", name);
+    expect(list.kind == WS2S_KEPT ? 0 : 3, list.refusal, list.place, words, s);
+    if (list.kind == WS2S_KEPT) {
+        count_strip(lists(&list), words, 0, s);
+        kept++;
+    } else if (!once_in(8)) {
+        return;
+    }
+    words = WORDS((char *)"decide", (char *)"-c", (char *)"8", (char *)"-p", (char *)"0", name);
+    int status = run(words);
+    char asks[200];
+    snprintf(asks, sizeof asks, "ws2s: to see which requirements clash: ws2s clash -c 8 %s\n", name);
+    count_strip((v.kind == WS2S_NONE) == (strcmp(complained, asks) == 0), words, status, s);
+}
+
 static void try_rule(const struct strip *s, const struct bad *bad)
 {
     static uint8_t workspace[128 << 8 << 2 << 2], out[WS2S_MAX_TREE_BYTES];
@@ -207,6 +247,7 @@ static void try_rule(const struct strip *s, const struct bad *bad)
     try_mark(s, bad, checked.refusal);
     expect(statuses[v.kind], v.refusal, v.place,
            WORDS((char *)"decide", (char *)"-c", (char *)"4", (char *)"-p", (char *)"3", forms[below(4)], rule_name), s);
+    try_clash(s, rule_name);
 }
 
 static void try_tree(const struct strip *rule, const struct strip *s)
@@ -404,6 +445,9 @@ static void try_text(const struct typed *t, bool whole)
     if (good) {
         ws2s_verdict v = ws2s_decide(strip, w.length, 4, 3, workspace, sizeof workspace, tree, sizeof tree);
         count_text(status == statuses[v.kind] && (v.kind != WS2S_REFUSED || strstr(complained, ": refused 14: ")), words, status, t);
+        struct strip imported = { .length = w.length };
+        memcpy(imported.byte, strip, w.length);
+        try_clash(&imported, text_name);
     } else {
         count_text(status == 3 && said_length == 0 && complains_right(t), words, status, t);
     }
@@ -428,6 +472,10 @@ int main(int argc, char **argv)
     for (unsigned long i = 0; i < strips && failed < 10; i++) {
         struct bad bad = make_bad_rule(&rule);
         make_any_tree(&tree, 1 + below(8));
+        if (once_in(3)) {
+            make_clashing_rule(&rule);
+            bad.record = NO_RECORD;
+        }
         if (below(2)) {
             damage_often(&rule);
             bad.record = NO_RECORD;
@@ -449,7 +497,7 @@ int main(int argc, char **argv)
     remove(out_name);
     remove(err_name);
     rmdir(room);
-    printf("the command on strips and texts at random: %lu passed, %lu failed (%lu texts accepted, %lu refused)\n", passed, failed,
-           accepted, refused);
-    return failed || accepted < strips / 4 || refused < strips / 4;
+    printf("the command on strips and texts at random: %lu passed, %lu failed (%lu texts accepted, %lu refused, %lu lists)\n", passed,
+           failed, accepted, refused, kept);
+    return failed || accepted < strips / 4 || refused < strips / 4 || kept < strips / 100;
 }

@@ -102,8 +102,10 @@ expect 0 1100 '' decide --hex $samples/hidden_part.rul
 expect 0 12B800 '' decide $samples/first_inside.rul belt --hex seat
 expect 0 12B800 '' decide --hex -c 4 -p 2 -- $samples/first_inside.rul
 expect 0 12B800 '' decide --hex -c4 -p2 $samples/first_inside.rul
-expect 1 'none: no finite sets satisfy the rule' '' decide $samples/kinds_in_a_circle.rul
-expect 1 '' 'none: no finite sets satisfy the rule' decide --svg $samples/kinds_in_a_circle.rul
+none='none: no finite sets satisfy the rule' asks='ws2s: to see which requirements clash: ws2s clash'
+expect 1 "$none" "$asks samples/kinds_in_a_circle.rul" decide $samples/kinds_in_a_circle.rul
+expect 1 '' "$none
+$asks samples/kinds_in_a_circle.rul" decide --svg $samples/kinds_in_a_circle.rul
 expect 2 'larger: finite sets satisfy the rule, but all of them take more than 1 place' '' decide -p 1 $samples/first_inside.rul
 expect 2 '' 'larger: finite sets satisfy the rule, but all of them take more than 1 place' decide -p 1 --hex $samples/first_inside.rul
 expect 3 '' 'ws2s: samples/cut_short.rul: refused 5 at bit 32: the rule'\''s length does not fit its records (1 record takes 5 bytes, and there are 4); it was cut, or has bytes left over' \
@@ -594,7 +596,7 @@ expect 3 '' "ws2s: $room/empty: refused 22: tree and rule have different numbers
     judge "$room/inside.mona" "$room/empty"
 expect 2 'larger: finite sets satisfy the rule, but all of them take more than 1 place' '' decide -p 1 "$room/inside.mona"
 text none.mona 'ws2s; var1 x; x = x.0;'
-expect 1 'none: no finite sets satisfy the rule' '' decide "$room/none.mona"
+expect 1 "$none" "$asks $room/none.mona" decide "$room/none.mona"
 
 # a hidden name is told apart by its number; one number may have a name in each scope
 text names.mona 'ws2s; var1 x; var2 Set;
@@ -811,6 +813,88 @@ status=$?
 [ $status -eq 74 ] && [ "$(cat "$room/err")" = 'ws2s: standard input: Cannot allocate memory' ] && [ ! -s "$room/out" ] && right=yes || right=no
 verdict $right 'decide of 64 MiB of blanks with less memory'
 
+# ---- clash
+expect 0 '0: X0 ⊆ X1
+1: X1 ⊆ X2
+6: not (X0 ⊆ X2)' '' clash $samples/kinds_in_a_circle.rul
+expect 0 '0: belt ⊆ strap
+1: strap ⊆ X2
+6: not (belt ⊆ X2)' '' clash $samples/kinds_in_a_circle.rul belt -c 14 strap
+expect 0 '0: Belt ⊆ Strap
+1: Strap ⊆ other
+6: not (Belt ⊆ other)' '' clash $samples/kinds_in_a_circle.mona Belt Strap other
+expect 0 '0: report = ε
+1: report = other 1' '' clash -- $samples/report_inside_another.mona
+expect 0 '1: X0 ⊆ X1
+3: X1 ⊆ X2
+6: not (X0 ⊆ X2)' '' clash $samples/belt_did_not_fire.rul
+satisfied='the rule can be satisfied, so no requirements clash; decide it, to be shown how'
+expect 3 '' "ws2s: samples/first_inside.rul: refused 29: $satisfied" clash $samples/first_inside.rul
+expect 3 '' "ws2s: samples/first_inside.mona: refused 29: $satisfied" clash $samples/first_inside.mona
+expect 3 '' 'ws2s: samples/first_inside.rul: refused 11: a ceiling is out of range; c from 1 to 64, P at most 255' clash -c 0 $samples/first_inside.rul
+refuses 3 'samples/kinds_in_a_circle.rul: refused 14: a record needs more than c states (record 7: 4 and 6); raise c' clash -c 13 $samples/kinds_in_a_circle.rul
+refuses 3 'refused 5 at bit 32: the rule'\''s length does not fit its records (1 record takes 5 bytes, and there are 4)' clash $samples/cut_short.rul
+refuses 3 'refused 9 at bit 38: a record names itself or a later record (record 1, first field: not 2)' clash $samples/out_of_order.rul
+"$command" decide $samples/out_of_order.mona >"$room/out" 2>"$room/fault"
+expect 3 '' "$(cat "$room/fault")" clash $samples/out_of_order.mona
+refuses 64 'there are more names than variables' clash $samples/report_inside_another.rul a b c
+refuses 64 '-c or -p is for another subcommand' clash -p 3 $samples/kinds_in_a_circle.rul
+refuses 64 'the form is for another subcommand' clash --hex $samples/kinds_in_a_circle.rul
+refuses 64 'there are too few words' clash
+refuses 64 'there are too many words' clash $samples/one_part.rul a b c d e f g h i
+refuses 74 "$room/missing: No such file or directory" clash "$room/missing"
+input=$samples/kinds_in_a_circle.mona
+expect 0 '0: Belt ⊆ Strap
+1: Strap ⊆ Band
+6: not (Belt ⊆ Band)' '' clash -
+expect 1 "$none" "$asks -" decide -
+input=
+# sixteen requirements, and one more
+joined() { # COUNT: a rule of so many parts, of which the last alone clashes
+    set -- "$1"
+    for part in $(seq $(($1 - 1))); do set -- "$@" '0 0 0'; done
+    set -- "$@" '2 0 0' '7 0 1'
+    for part in $(seq 2 $(($1 - 1))); do set -- "$@" "7 $(($1 + part - 2)) $part"; done
+    shift
+    rule parts 1 "$@"
+}
+joined 16
+expect 0 '15: X0 = X0 1' '' clash "$room/parts"
+joined 17
+expect 3 '' "ws2s: $room/parts: refused 28: more than 16 requirements are joined by \"and\"; ask about a rule with some of them" clash "$room/parts"
+# how to ask is told as a shell takes it
+cp $samples/kinds_in_a_circle.rul "$room/it's a rule"
+expect 1 "$none" "$asks -c 14 '$room/it'\\''s a rule' 'a kind' b '\$c'" decide -c 14 "$room/it's a rule" 'a kind' b '$c'
+expect 1 "$none" "$asks -- $samples/kinds_in_a_circle.rul -a -b" decide $samples/kinds_in_a_circle.rul -- -a -b
+sed -n "s/^$asks/clash/p" "$room/err" >"$room/asked"
+eval "\"\$command\" $(cat "$room/asked")" >"$room/out" 2>"$room/err"
+status=$?
+[ "$(cat "$room/out")" = "0: -a ⊆ -b
+1: -b ⊆ X2
+6: not (-a ⊆ X2)" ] && right=yes || right=no
+verdict $right 'what is told of clash, asked'
+# each reading of records, whole and in brackets where it must be: a formula, and that it does not hold
+sense() { # WORDS NUMBER NUMBER FORMULA
+    text sense.mona "ws2s; var2 A, B; ($4) & ~($4);"
+    expect 0 "$2: $1
+$3: not ($1)" '' clash "$room/sense.mona"
+}
+sense 'A ⊆ B or not (B ⊆ A)' 3 8 'A sub B | ~B sub A'
+sense '(A ⊆ B and B ⊆ A) or A ⊆ B' 4 10 '(A sub B & B sub A) | A sub B'
+sense 'if (if A ⊆ B then B ⊆ A) then A ⊆ A and B ⊆ A' 8 18 '(A sub B => B sub A) => A sub A & B sub A'
+sense 'exists one x: x ⊆ A and (x ⊆ B or x = ε)' 7 16 'ex1 x: x in A & (x in B | x = root)'
+sense 'for each x: if x ⊆ A then (exists one y: y ⊆ B and x = y 2)' 13 28 'all1 x: x in A => (ex1 y: y in B & x = y.1)'
+sense 'for all X: if X ⊆ A then X ⊆ B' 6 14 'all2 X: X sub A => X sub B'
+sense 'exists X: X ⊆ A and (A ⊆ B exactly if B ⊆ X)' 9 20 'ex2 X: X sub A & (A sub B <=> B sub X)'
+sense 'not (A ⊆ B and B ⊆ A)' 3 8 '~(A sub B & B sub A)'
+sense 'not (exists X: X ⊆ A and not (X ⊆ B))' 5 12 '~ex2 X: X sub A & ~X sub B'
+sense 'if (exists X: A ⊆ X) then A ⊆ B' 4 10 '(ex2 X: A sub X) => A sub B'
+# a record that is written again and again is not written whole
+rule again 1 '2 0 0' '6 0 0' '6 1 1' '6 2 2' '6 3 3' '6 4 4' '6 5 5' '6 6 6'
+expect 0 "7: $(for number in $(seq 127); do printf 'X0 = X0 1 or '; done)X0 = X0 1" '' clash "$room/again"
+rule again 1 '2 0 0' '6 0 0' '6 1 1' '6 2 2' '6 3 3' '6 4 4' '6 5 5' '6 6 6' '6 7 7'
+expect 0 '8: 7 or 7 (too long to be written whole; ws2s print has the records)' '' clash "$room/again"
+
 told() { # WHAT STATUS: standard error has this, once
     right=no
     [ "$status" -eq "$2" ] && [ "$(cat "$room/err")" = "ws2s: standard output: $1" ] && right=yes
@@ -819,6 +903,7 @@ told() { # WHAT STATUS: standard error has this, once
 : >"$room/out"
 for words in "decide $samples/first_inside.rul" "decide --svg $samples/first_inside.rul" "decide --strip $samples/first_inside.rul" \
     "decide $samples/kinds_in_a_circle.rul" "decide -p 1 $samples/first_inside.rul" "judge $samples/crash_report.rul $room/tree" \
+    "clash $samples/kinds_in_a_circle.rul" \
     "import $room/inside.mona" "print $room/inside.mona" \
     "check rule $samples/one_part.rul" "print $samples/one_part.rul" "print $samples/cut_short.rul" "tree $room/tree" '--help' '--version'; do
     # shellcheck disable=SC2086

@@ -8,7 +8,7 @@
 #   a prompt is run, and must write what they show after it.
 # - The README's C programs are the examples; its table of refusals and those of
 #   ws2s(3) have the header's names, texts and places; the manual's structures are
-#   the header's; the manual's example prints what it says.
+#   the header's; the manual's examples print what it says.
 # - Every sample has a row in samples/README.md, with its records as the command
 #   prints them and the verdict program's verdict.
 # - The picture is the one that the command draws.
@@ -61,10 +61,15 @@ program() { # NUMBER: the README's so many-th C program
 }
 program 1 | cmp - examples/host.c || failed=1
 program 2 | cmp - examples/import.c || failed=1
-sed -n '/^\.SH EXAMPLES/,/^\.fi/p' man/ws2s.3 | sed -n "/^    /{$unroff; s/^    //; p;}" >"$room/manual.c"
-${CC:-cc} -std=c99 -pedantic -Wall -Wextra -Werror -Iinclude "$room/manual.c" "$archive" -o "$room/manual"
+manual() { # PAGE: what its example prints
+    sed -n '/^\.SH EXAMPLES/,/^\.fi/p' "man/$1.3" | sed -n "/^    /{$unroff; s/^    //; p;}" >"$room/manual.c"
+    ${CC:-cc} -std=c99 -pedantic -Wall -Wextra -Werror -Iinclude "$room/manual.c" "$archive" -o "$room/manual"
+    "$room/manual"
+}
 differs 'ws2s(3), example' 'label 1
-  label 2' "$("$room/manual")"
+  label 2' "$(manual ws2s)"
+differs 'ws2s_clash(3), example' 'record 0
+record 1' "$(manual ws2s_clash)"
 
 cat >"$room/refusals.c" <<'END'
 #include <stdio.h>
@@ -80,7 +85,7 @@ END
 ${CC:-cc} -std=c99 -Iinclude "$room/refusals.c" -o "$room/refusals"
 # shellcheck disable=SC2046 # a word for each name, in the order of their numbers
 "$room/refusals" $(sed -n 's/^ *WS2S_REFUSED_\([A-Z_]*\) = \([0-9]*\).*/\2 \1/p' include/ws2s.h | sort -n | cut -d' ' -f2) >"$room/refused"
-[ "$(wc -l <"$room/refused")" -eq 27 ] || { echo 'the header does not have 27 refusals'; failed=1; }
+[ "$(wc -l <"$room/refused")" -eq 29 ] || { echo 'the header does not have 29 refusals'; failed=1; }
 # the places stand in brackets after the header's words for a refusal, at times on the next line
 awk '/^ *WS2S_REFUSED_[A-Z_]* = / { name = $1; sub(/^WS2S_REFUSED_/, "", name); number = $3 + 0 }
     /^};/ { name = "" }
@@ -95,12 +100,15 @@ table() { # SECTION: the numbered rows of a table of ws2s(3)
 differs 'ws2s(3), refusals' "$(table REFUSALS)" "$(cut -d'|' -f1-3 "$room/refused")"
 differs 'ws2s(3), places' "$(table PLACES)" "$(cat "$room/places")"
 structures() { # FILE...: the results' fields, with their names
-    sed 's/^\.B "*//; s/"$//' "$@" | awk '/^typedef struct \{/ { fields = ""; next } /^ *uint64_t [a-z, ]*;$/ { sub(/^ */, ""); fields = $0; next }
-        /^\} ws2s_[a-z]*;/ { if (fields) print $2, fields; fields = "" }' | sort
+    sed 's/^\.B "*//; s/"$//' "$@" | awk '/^typedef struct \{/ { fields = ""; next } /^ *uint64_t [][a-z0-9, ]*;$/ { sub(/^ */, ""); fields = $0; next }
+        /^\} ws2s_[a-z_]*;/ { if (fields) print $2, fields; fields = "" }' | sort
 }
 structures include/ws2s.h >"$room/structures"
-[ "$(wc -l <"$room/structures")" -eq 6 ] || { echo 'the header does not have 6 results'; failed=1; }
-differs 'manual pages, structures' "$(structures man/ws2s_check_rule.3 man/ws2s_check_tree.3 man/ws2s_judge.3 man/ws2s_decide.3 man/ws2s_import.3 man/ws2s_text_fault.3)" "$(cat "$room/structures")"
+[ "$(wc -l <"$room/structures")" -eq 7 ] || { echo 'the header does not have 7 results'; failed=1; }
+pages=
+for name in check_rule check_tree judge decide clash import text_fault; do pages="$pages man/ws2s_$name.3"; done
+# shellcheck disable=SC2086 # a word for each page
+differs 'manual pages, structures' "$(structures $pages)" "$(cat "$room/structures")"
 
 # ---- The samples: `file` in the first column, records in the last but one, `verdict` in the last
 

@@ -2,7 +2,8 @@
  * does: header
  *
  * - the sizes: with that many bytes a call is not refused for its buffer, with one
- *   less it is, for every number of variables and records and every ceiling;
+ *   less it is, for every number of variables and records and every ceiling (of a
+ *   clash with few records, which is then built, for some ceilings);
  * - the names of kinds and refusals: a request that has just this answer, at the
  *   place that the header states, and a text's at the token;
  * - the texts: one for every refusal, no two alike;
@@ -81,6 +82,36 @@ static void try_sizes(uint8_t *workspace)
           "sizes of what is no check's result", 0, 0);
 }
 
+/* Rules of 17 parts and more, which are refused for them once 12 is past, and of fewer,
+ * which are built and can be satisfied. */
+static void try_clash_sizes(uint8_t *workspace)
+{
+    static struct strip rule;
+    size_t at, most = 0;
+    for (unsigned n = 1; n <= WS2S_MAX_VARIABLES; n++)
+        for (unsigned m = 1; m <= WS2S_MAX_RECORDS; m++) {
+            unsigned parts = (m + 1) / 2; /* in a chain; with an even m the first is met again */
+            put_heading(&rule, &at, n, m);
+            for (unsigned i = 0; i < m; i++)
+                put_record(&rule, &at, i < parts ? 0 : 7, i < parts ? 0 : i == parts ? 0 : i - 1, i < parts ? 0 : (i - parts + 1) % parts);
+            ws2s_rule checked = ws2s_check_rule(rule.byte, rule.length);
+            for (unsigned c = 1; c <= WS2S_MAX_STATES; c += m > 32 ? 1 : 21) {
+                size_t size = ws2s_clash_workspace_size(checked, c);
+                ws2s_clash_list enough = ws2s_clash(rule.byte, rule.length, c, workspace, size);
+                ws2s_clash_list less = ws2s_clash(rule.byte, rule.length, c, workspace, size - 1);
+                most = size > most ? size : most;
+                count(enough.refusal == (parts > WS2S_MAX_PARTS ? WS2S_REFUSED_PARTS : WS2S_REFUSED_SATISFIABLE)
+                          && less.refusal == WS2S_REFUSED_WORKSPACE, "size of a clash's workspace", n, c);
+            }
+            count(ws2s_clash_workspace_size(checked, 0) == 0 && ws2s_clash_workspace_size(checked, WS2S_MAX_STATES + 1) == 0
+                      && ws2s_clash_workspace_size(checked, UINT64_MAX) == 0, "a clash's workspace of a ceiling out of range", n, m);
+        }
+    ws2s_rule refused = ws2s_check_rule(rule.byte, 1), odd = { 0, 64, 1, 0 }, many = { 0, 1, UINT64_MAX, 0 };
+    count(most == WS2S_MAX_CLASH_WORKSPACE, "largest size of a clash's workspace", most, 0);
+    count(ws2s_clash_workspace_size(refused, 1) == 0 && ws2s_clash_workspace_size(odd, 1) == 0 && ws2s_clash_workspace_size(many, 1) == 0,
+          "a clash's workspace of what is no check's result", 0, 0);
+}
+
 /* ---- Names ---- */
 
 /* A request that has this refusal, and where. "more" bytes follow the strip as it is written, all zero. */
@@ -153,9 +184,10 @@ static void try_lengths(void)
         ws2s_rule r = ws2s_check_rule(lent.at, length);
         ws2s_verdict v = ws2s_decide(lent.at, length, 1, 0, NULL, 0, NULL, 0);
         ws2s_judgement j = ws2s_judge(lent.at, length, 1, NULL, 0, NULL, 0);
-        count(r.refusal == WS2S_REFUSED_RULE_LENGTH && v.refusal == r.refusal && j.refusal == r.refusal, "refusal of a length",
-              length, r.refusal);
-        count(r.place == bits && v.place == bits && j.place == bits, "place of a length", length, r.place);
+        ws2s_clash_list l = ws2s_clash(lent.at, length, 1, NULL, 0);
+        count(r.refusal == WS2S_REFUSED_RULE_LENGTH && v.refusal == r.refusal && j.refusal == r.refusal && l.refusal == r.refusal,
+              "refusal of a length", length, r.refusal);
+        count(r.place == bits && v.place == bits && j.place == bits && l.place == bits, "place of a length", length, r.place);
     }
 }
 
@@ -199,6 +231,36 @@ static void try_names(uint8_t *workspace)
     count(ws2s_judge(rule.byte, rule.length, 64, workspace, 1 << 16, tree.byte, tree.length).kind == WS2S_YES, "name of yes", 0, 0);
     read_strip(&tree, "1100", 0);
     count(ws2s_judge(rule.byte, rule.length, 64, workspace, 1 << 16, tree.byte, tree.length).kind == WS2S_NO, "name of no", 0, 0);
+}
+
+/* What no tree is asked for is refused by a clash as by decide, but that P is not asked
+ * for and the workspace is longer; then the names that are a clash's own. */
+static void try_clash_names(uint8_t *workspace)
+{
+    static struct strip rule;
+    size_t at;
+    for (size_t i = 0; i < sizeof refusals / sizeof refusals[0]; i++) {
+        if (refusals[i].tree || refusals[i].p > WS2S_MAX_POSITIONS || refusals[i].refusal == WS2S_REFUSED_OUT)
+            continue;
+        read_strip(&rule, refusals[i].rule, refusals[i].more);
+        ws2s_clash_list l = ws2s_clash(rule.byte, rule.length, refusals[i].c, workspace, 16 * refusals[i].workspace);
+        count(l.kind == WS2S_REFUSED && l.refusal == refusals[i].refusal, "name of a clash's refusal", refusals[i].refusal, l.refusal);
+        count(l.place == refusals[i].place && l.record == 0 && l.count == 0, "place of a clash's refusal", refusals[i].refusal, l.place);
+    }
+    read_strip(&rule, "1201200040", 0);
+    count(ws2s_clash(rule.byte, rule.length, 64, workspace, 1 << 20).refusal == WS2S_REFUSED_SATISFIABLE, "name of a refusal",
+          WS2S_REFUSED_SATISFIABLE, 0);
+    read_strip(&rule, "1101200000", 0); /* X0 = X0 1 */
+    ws2s_clash_list one = ws2s_clash(rule.byte, rule.length, 64, workspace, 1 << 20);
+    count(one.kind == WS2S_KEPT && one.count == 1 && one.parts[0] == 0, "name of a list", one.kind, one.count);
+    for (unsigned parts = WS2S_MAX_PARTS; parts <= WS2S_MAX_PARTS + 1; parts++) { /* all of them X0 = X0 1, so the last is kept */
+        put_heading(&rule, &at, 1, 2 * parts - 1);
+        for (unsigned i = 0; i < 2 * parts - 1; i++)
+            put_record(&rule, &at, i < parts ? 2 : 7, i <= parts ? 0 : i - 1, i < parts ? 0 : i - parts + 1);
+        ws2s_clash_list l = ws2s_clash(rule.byte, rule.length, 2, workspace, 1 << 20);
+        count(parts > WS2S_MAX_PARTS ? l.refusal == WS2S_REFUSED_PARTS : l.kind == WS2S_KEPT && l.count == 1 && l.parts[0] == parts - 1,
+              "most parts", parts, l.refusal);
+    }
 }
 
 /* ---- Texts ---- */
@@ -265,13 +327,13 @@ static void try_typed_limits(void)
 static void try_texts(void)
 {
     const char *none = ws2s_refusal_text(0);
-    for (uint64_t k = 1; k <= WS2S_REFUSED_RULE_OUT; k++) {
+    for (uint64_t k = 1; k <= WS2S_REFUSED_SATISFIABLE; k++) {
         bool alone = strcmp(ws2s_refusal_text(k), none) != 0 && *ws2s_refusal_help(k);
         for (uint64_t other = 1; other < k; other++)
             alone = alone && strcmp(ws2s_refusal_text(k), ws2s_refusal_text(other)) != 0;
         count(alone, "text of a refusal", k, 0);
     }
-    count(ws2s_refusal_text(WS2S_REFUSED_RULE_OUT + 1) == none && ws2s_refusal_text(UINT64_MAX) == none
+    count(ws2s_refusal_text(WS2S_REFUSED_SATISFIABLE + 1) == none && ws2s_refusal_text(UINT64_MAX) == none
               && !*ws2s_refusal_help(0) && !*ws2s_refusal_help(UINT64_MAX), "text of what is no refusal", 0, 0);
 }
 
@@ -339,7 +401,7 @@ static void try_bytes(size_t length)
 
 int main(void)
 {
-    uint8_t *workspace = malloc(WS2S_MAX_WORKSPACE);
+    uint8_t *workspace = malloc(WS2S_MAX_CLASH_WORKSPACE);
     if (!workspace)
         return 2;
     lent_watch();
@@ -347,7 +409,9 @@ int main(void)
     lent_open(&lent_stack, WS2S_MAX_POSITIONS);
     snprintf(lent_doing, sizeof lent_doing, "header");
     try_sizes(workspace);
+    try_clash_sizes(workspace);
     try_names(workspace);
+    try_clash_names(workspace);
     try_lengths();
     try_typed_limits();
     try_texts();

@@ -20,13 +20,14 @@ int uses(ws2s_rule rule, const uint8_t *tree, size_t length, uint64_t number)
     uint8_t out[WS2S_MAX_RULE_BYTES], stack[WS2S_MAX_POSITIONS];
     ws2s_written written = ws2s_import(tree, length, out, sizeof out);
     ws2s_fault fault = ws2s_text_fault(tree, length);
+    ws2s_clash_list list = ws2s_clash(tree, length, number, stack, sizeof stack);
     ws2s_walk walk;
     int members = rule.place == ws2s_check_tree(tree, length).place;
     ws2s_walk_begin(&walk, tree, length, stack);
     while (ws2s_walk_next(&walk))
         members += ws2s_walk_has(&walk, 0);
-    members += written.refusal == fault.refusal && written.place == written.strip;
-    return members + (ws2s_workspace_size(rule, number) > ws2s_out_size(rule, number))
+    members += written.refusal == fault.refusal && written.place == written.strip && list.count <= sizeof list.parts / sizeof list.parts[0];
+    return members + (ws2s_workspace_size(rule, number) > ws2s_out_size(rule, number)) + (ws2s_clash_workspace_size(rule, number) > 0)
         + *ws2s_refusal_text(number) + *ws2s_refusal_help(number) + *WS2S_VERSION;
 }
 END

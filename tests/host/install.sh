@@ -44,7 +44,7 @@ for name in $functions; do
     grep -A1 '^\.SH NAME' "${target:+$prefix/share/man/}${target:-$page}" | grep -qw "$name" || fail "the manual page of $name is of something else"
     pages=$((pages + 1))
 done
-[ "$pages" -ge 13 ] || fail "only $pages functions were found"
+[ "$pages" -ge 15 ] || fail "only $pages functions were found"
 if command -v man >/dev/null; then
     for page in "$prefix"/share/man/man?/*; do
         name=$(basename "$page")

@@ -22,6 +22,8 @@
         BYTES(RULE), NUMBER(C), NUMBER(P), BYTES(WORKSPACE), BYTES(OUT)) \
     ROW(judge, judgement, FROM(1, 12) | FROM(14, 22), (RULE, C, WORKSPACE, TREE), \
         BYTES(RULE), NUMBER(C), BYTES(WORKSPACE), BYTES(TREE)) \
+    ROW(clash, clash_list, FROM(1, 12) | FROM(14, 14) | FROM(28, 29), (RULE, C, WORKSPACE), \
+        BYTES(RULE), NUMBER(C), BYTES(WORKSPACE)) \
     ROW(import, written, FROM(23, 27), (TEXT, OUT), BYTES(TEXT), BYTES(OUT)) \
     ROW(text_fault, fault, FROM(23, 26), (TEXT), BYTES(TEXT))
 

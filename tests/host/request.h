@@ -21,8 +21,9 @@ enum { VERDICT_INPUT = 300, VERDICT_C = 16, VERDICT_P = 60, VERDICT_WORKSPACE = 
 /* ---- Operations ---- */
 
 /* What an operation can be handed: bytes to read, which a line has in hex; bytes to
- * write, of which a line has the length; numbers. After an answer and after 14 as much
- * of the workspace is zero as 12 asks for, and out begins with the strip written. */
+ * write, of which a line has the length; numbers. After an answer, and after a refusal
+ * that comes of what was built, as much of the workspace is zero as 12 asks for, and
+ * out begins with the strip written. */
 enum argument { NO_ARGUMENT, RULE, TREE, TEXT, WORKSPACE, OUT, C, P, ARGUMENTS };
 
 static inline bool is_read(enum argument a) { return a >= RULE && a <= TEXT; }
@@ -41,6 +42,7 @@ union result {
     ws2s_tree tree;
     ws2s_judgement judgement;
     ws2s_verdict verdict;
+    ws2s_clash_list clash_list;
     ws2s_written written;
     ws2s_fault fault;
 };
@@ -79,42 +81,48 @@ static inline void call_library(const struct request *r, uint8_t *const *at, uni
 #define TOLD(type, name) (1u << AT(type, name))
 
 /* What a line says for one kind of answer: a word, and these numbers in their order in
- * the result. A strip may stand in out, and be told last. All other numbers are 0. */
+ * the result. A strip may stand in out, and be told last; or a list in the result, of
+ * as many numbers as the one before it says. All other numbers are 0. */
 struct form {
     const char *word;
     unsigned told;
-    enum { NO_STRIP, STRIP, STRIP_TOLD } strip;
+    enum { ALONE, STRIP, STRIP_TOLD, LIST_TOLD } with;
 };
 
 /* The numbers of a result: how many, and where those stand that many results have
- * (length is that of the strip in out). Then the forms by kind, the first if there is
- * no kind, and the form of a refusal if it is not the usual one. */
+ * (length is that of the strip in out, and list where a list starts). Then the forms by
+ * kind, the first if there is no kind, and the form of a refusal if it is not the usual
+ * one. */
 struct answer {
-    unsigned numbers, kind, refusal, record, place, length;
+    unsigned numbers, kind, refusal, record, place, length, list;
     struct form form[3], refused;
 };
 
 #define NUMBERS(type) .numbers = sizeof(type) / sizeof(uint64_t), .refusal = AT(type, refusal)
 static const struct answer answer_check_rule = {
     NUMBERS(ws2s_rule), .place = AT(ws2s_rule, place),
-    .form = { { "ok", TOLD(ws2s_rule, variables) | TOLD(ws2s_rule, records), NO_STRIP } } };
+    .form = { { "ok", TOLD(ws2s_rule, variables) | TOLD(ws2s_rule, records), ALONE } } };
 static const struct answer answer_check_tree = {
     NUMBERS(ws2s_tree), .place = AT(ws2s_tree, place),
-    .form = { { "ok", TOLD(ws2s_tree, variables) | TOLD(ws2s_tree, positions), NO_STRIP } } };
+    .form = { { "ok", TOLD(ws2s_tree, variables) | TOLD(ws2s_tree, positions), ALONE } } };
 static const struct answer answer_decide = {
     NUMBERS(ws2s_verdict), .kind = AT(ws2s_verdict, kind), .record = AT(ws2s_verdict, record),
     .place = AT(ws2s_verdict, place), .length = AT(ws2s_verdict, length),
     .form = { { "shown", TOLD(ws2s_verdict, positions) | TOLD(ws2s_verdict, states), STRIP_TOLD },
-              { "none", TOLD(ws2s_verdict, states), NO_STRIP }, { "larger", TOLD(ws2s_verdict, states), NO_STRIP } } };
+              { "none", TOLD(ws2s_verdict, states), ALONE }, { "larger", TOLD(ws2s_verdict, states), ALONE } } };
 static const struct answer answer_judge = {
     NUMBERS(ws2s_judgement), .kind = AT(ws2s_judgement, kind), .record = AT(ws2s_judgement, record),
-    .place = AT(ws2s_judgement, place), .form = { { "no", 0, NO_STRIP }, { "yes", 0, NO_STRIP } } };
+    .place = AT(ws2s_judgement, place), .form = { { "no", 0, ALONE }, { "yes", 0, ALONE } } };
+static const struct answer answer_clash = {
+    NUMBERS(ws2s_clash_list), .kind = AT(ws2s_clash_list, kind), .record = AT(ws2s_clash_list, record),
+    .place = AT(ws2s_clash_list, place), .list = AT(ws2s_clash_list, parts),
+    .form = { { "kept", TOLD(ws2s_clash_list, count), LIST_TOLD } } };
 static const struct answer answer_import = {
     NUMBERS(ws2s_written), .place = AT(ws2s_written, place), .length = AT(ws2s_written, length),
     .form = { { "ok", TOLD(ws2s_written, variables) | TOLD(ws2s_written, records), STRIP } } };
 static const struct answer answer_text_fault = {
-    NUMBERS(ws2s_fault), .place = AT(ws2s_fault, start), .form = { { "ok", 0, NO_STRIP } },
-    .refused = { "", TOLD(ws2s_fault, refusal) | TOLD(ws2s_fault, start) | TOLD(ws2s_fault, length), NO_STRIP } };
+    NUMBERS(ws2s_fault), .place = AT(ws2s_fault, start), .form = { { "ok", 0, ALONE } },
+    .refused = { "", TOLD(ws2s_fault, refusal) | TOLD(ws2s_fault, start) | TOLD(ws2s_fault, length), ALONE } };
 
 static const struct operation_row {
     const char *name;
@@ -159,15 +167,21 @@ static inline bool has_place(uint64_t refusal)
     return (refusal >= 1 && refusal <= 10) || (refusal >= 15 && refusal <= 21);
 }
 
+/* Refusals that come of what was built, after which the workspace is zero. */
+static inline bool is_of_machines(uint64_t refusal)
+{
+    return refusal == 14 || refusal == 29;
+}
+
 static inline struct form form_of(const struct answer *a, const union result *result)
 {
     uint64_t kind = number_at(result, a->kind), refusal = number_at(result, a->refusal);
     if (a->kind ? kind != WS2S_REFUSED : refusal == 0)
-        return kind < 3 && a->form[kind].word ? a->form[kind] : (struct form){ "kind", 1u << a->kind, NO_STRIP };
+        return kind < 3 && a->form[kind].word ? a->form[kind] : (struct form){ "kind", 1u << a->kind, ALONE };
     if (a->refused.word)
         return a->refused;
     unsigned more = refusal == 14 ? a->record : has_place(refusal) ? a->place : 0;
-    return (struct form){ "refused", 1u << a->refusal | 1u << more, NO_STRIP };
+    return (struct form){ "refused", 1u << a->refusal | 1u << more, ALONE };
 }
 
 static inline int tell_bytes(char *line, const uint8_t *byte, size_t length)
@@ -178,22 +192,31 @@ static inline int tell_bytes(char *line, const uint8_t *byte, size_t length)
     return used;
 }
 
+/* How many numbers the list of an answer has, which is no more than there is room for. */
+static inline unsigned list_length(const struct answer *a, const union result *result)
+{
+    uint64_t count = form_of(a, result).with == LIST_TOLD ? number_at(result, a->list - 1) : 0, room = a->numbers - a->list + 1;
+    return (unsigned)(count < room ? count : room);
+}
+
 /* Writes an answer to a line of 2 * MOST_LINE characters; whether the numbers that do
  * not apply are 0. out: the buffer that was lent, and its length. */
 static inline bool tell(enum operation o, const union result *result, const uint8_t *out, size_t out_length, char *line)
 {
     const struct answer *a = operations[o].answer;
     struct form form = form_of(a, result);
-    uint64_t length = form.strip ? number_at(result, a->length) : 0;
-    unsigned apply = 1u << a->kind | form.told | (form.strip ? 1u << a->length : 0);
+    bool strip = form.with == STRIP || form.with == STRIP_TOLD;
+    uint64_t length = strip ? number_at(result, a->length) : 0;
     int used = sprintf(line, "%s", form.word);
     bool idle = true;
+    form.told |= ((1u << list_length(a, result)) - 1) << a->list;
+    unsigned apply = 1u << a->kind | form.told | (strip ? 1u << a->length : 0);
     for (unsigned at = 1; at <= a->numbers; at++) {
         if (form.told >> at & 1)
             used += sprintf(line + used, used ? " %" PRIu64 : "%" PRIu64, number_at(result, at));
         idle = idle && (apply >> at & 1 || number_at(result, at) == 0);
     }
-    if (form.strip == STRIP_TOLD) {
+    if (form.with == STRIP_TOLD) {
         line[used++] = ' ';
         line[used + tell_bytes(line + used, out, length < out_length ? length : out_length)] = 0;
     }
@@ -242,7 +265,7 @@ static inline bool read_word(char *word, enum argument a, struct request *r)
     if (!word || word[0] < '0' || word[0] > '9')
         return false;
     r->number[a] = strtoull(word, &end, 10);
-    return *end == 0 && (a != WORKSPACE || r->number[a] <= WS2S_MAX_WORKSPACE) && (a != OUT || r->number[a] <= MOST_OUT);
+    return *end == 0 && (a != WORKSPACE || r->number[a] <= WS2S_MAX_CLASH_WORKSPACE) && (a != OUT || r->number[a] <= MOST_OUT);
 }
 
 /* What a line that begins with this name asks for, and the words after it; NULL if there is none. */
@@ -280,10 +303,11 @@ static inline bool read_request(char *line, struct request *r)
     return !strtok(NULL, " ");
 }
 
-/* The bytes of workspace that 12 asks for, of a rule strip that is accepted. */
-static inline size_t space_asked(const uint8_t *rule, uint64_t c)
+/* The bytes of workspace that 12 asks for, of a rule strip that is accepted. A clash
+ * has 15 shares for its trials, however many parts there are. */
+static inline size_t space_asked(enum operation o, const uint8_t *rule, uint64_t c)
 {
-    return ((size_t)rule[1] << (rule[0] & 15)) * c * c;
+    return ((rule[1] + (o == OP_clash ? (size_t)15 : 0)) << (rule[0] & 15)) * c * c;
 }
 
 #endif

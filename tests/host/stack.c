@@ -6,7 +6,8 @@
  * which nothing may be touched. The calls are the lines of the vector files,
  * those of the verdict program aside, and what goes deepest: the longest rule
  * strips, trees of 255 nodes in several shapes, whole and refused late, these
- * trees judged by the files' rules, and texts that nest as deep as they may and
+ * trees judged by the files' rules, conjunctions of as many records and parts as
+ * there may be, and texts that nest as deep as they may and
  * deeper, with and without a long way to go on each level. For calls that are no vectors the
  * oracle must give the same answer, which is mostly stated here too. It prints
  * what fails, the most bytes of stack that each function used, counted from the
@@ -43,7 +44,7 @@ struct call {
 static void open_all(void)
 {
     uint8_t *all = mmap(NULL, GUARD + STACK, PROT_NONE, MAP_PRIVATE | MAP_ANONYMOUS, -1, 0);
-    workspace = malloc(WS2S_MAX_WORKSPACE);
+    workspace = malloc(WS2S_MAX_CLASH_WORKSPACE);
     if (!workspace || all == MAP_FAILED || mprotect(all + GUARD, STACK, PROT_READ | PROT_WRITE) != 0) {
         perror("stack");
         exit(2);
@@ -254,7 +255,7 @@ static void set_ceilings(uint64_t c)
 {
     made.number[C] = c;
     made.number[P] = NODES;
-    made.number[WORKSPACE] = space_asked(rule.byte, c);
+    made.number[WORKSPACE] = space_asked(OP_clash, rule.byte, c); /* the most that is asked for */
     made.number[OUT] = WS2S_MAX_TREE_BYTES;
 }
 
@@ -320,6 +321,55 @@ static void try_shown(unsigned nodes)
     set_ceilings(64);
     snprintf(what, sizeof what, "a chain of %u nodes to be shown", nodes);
     try_made(OP_decide, NULL);
+}
+
+/* X0 = X0 1, which clashes by itself, below "and" as far as there are records: of the
+ * record before twice, of it and the first, and of the first and it. */
+static void try_crowded(unsigned n)
+{
+    static const char *const chains[] = { "the record before, twice", "the record before and the first", "the first and the record before" };
+    size_t at;
+    for (unsigned chain = 0; chain < 3; chain++) {
+        put_heading(&rule, &at, n, WS2S_MAX_RECORDS);
+        put_record(&rule, &at, 2, 0, 0);
+        for (unsigned i = 1; i < WS2S_MAX_RECORDS; i++)
+            put_record(&rule, &at, 7, chain == 2 ? 0 : i - 1, chain == 1 ? 0 : i - 1);
+        set_ceilings(64);
+        snprintf(what, sizeof what, "n = %u, 127 \"and\" of %s", n, chains[chain]);
+        try_made(OP_clash, "kept 1 0");
+    }
+}
+
+/* So many parts in a chain, of which the last clashes by itself. */
+static void try_chain(unsigned n, unsigned parts, bool right)
+{
+    size_t at;
+    put_heading(&rule, &at, n, 2 * parts - 1);
+    for (unsigned i = 0; i < parts; i++)
+        put_record(&rule, &at, i + 1 < parts ? 0 : 2, 0, 0);
+    for (unsigned i = 1; i < parts; i++) {
+        unsigned before = i > 1 ? parts + i - 2 : right ? parts - 1 : 0, part = right ? parts - 1 - i : i;
+        put_record(&rule, &at, 7, right ? part : before, right ? before : part);
+    }
+    set_ceilings(64);
+    snprintf(what, sizeof what, "n = %u, %u parts in a chain to the %s", n, parts, right ? "right" : "left");
+    try_made(OP_clash, parts > WS2S_MAX_PARTS ? "refused 28" : "kept 1 15");
+}
+
+static void try_clash(unsigned n)
+{
+    static const unsigned parts[] = { WS2S_MAX_PARTS, WS2S_MAX_PARTS + 1, WS2S_MAX_RECORDS / 2 };
+    try_crowded(n);
+    for (unsigned i = 0; i < sizeof parts / sizeof parts[0]; i++) {
+        try_chain(n, parts[i], false);
+        try_chain(n, parts[i], true);
+    }
+    for (int i = 0; i < RULES; i++) {
+        make_plain_rule(&rule, n, rules[i].records, rules[i].op, NULL);
+        set_ceilings(rules[i].c);
+        snprintf(what, sizeof what, "n = %u, records %u, op %u, c = %d", n, rules[i].records, rules[i].op, (int)rules[i].c);
+        try_made(OP_clash, NULL);
+    }
 }
 
 /* Judges the deepest trees by a rule that has an answer. */
@@ -480,6 +530,7 @@ int main(int argc, char **argv)
     for (unsigned n = 1; n <= 8; n += 7) {
         try_trees(n);
         try_decide(n);
+        try_clash(n);
     }
     for (unsigned nodes = 1; nodes <= 17; nodes++)
         try_shown(nodes);

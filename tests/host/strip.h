@@ -6,7 +6,7 @@
 
 #include <stddef.h>
 
-enum { MOST_STRIP = 2048, MOST_NODES = 512 };
+enum { MOST_STRIP = 2048, MOST_NODES = 512, MOST_JOINED = 16 };
 
 struct strip {
     uint8_t byte[MOST_STRIP];
@@ -85,6 +85,29 @@ static inline size_t make_plain_rule(struct strip *s, unsigned n, unsigned m, un
     return at;
 }
 
+/* A rule that reaches the records of another, an accepted one, up to the last of these
+ * parts, and joins all of them but one from left to right. There is at least one; whether
+ * there is room for the records. */
+static inline bool make_conjunction(struct strip *s, const struct strip *rule, const uint64_t *part, unsigned count, unsigned without)
+{
+    size_t at;
+    unsigned m = 0, left[MOST_JOINED], joined = 0;
+    for (unsigned i = 0; i < count; i++) {
+        m = part[i] + 1 > m ? (unsigned)part[i] + 1 : m;
+        if (i != without)
+            left[joined++] = (unsigned)part[i];
+    }
+    unsigned more = joined > 1 ? joined - 1 : 1; /* one alone is joined with itself */
+    if (m + more > 128)
+        return false;
+    put_heading(s, &at, variables(rule), m + more);
+    for (unsigned i = 0; i < m; i++)
+        put_record(s, &at, bits_at(rule, record_at(i), 4), bits_at(rule, record_at(i) + 4, 7), bits_at(rule, record_at(i) + 11, 7));
+    for (unsigned i = 0; i < more; i++)
+        put_record(s, &at, 7, i ? m + i - 1 : left[0], left[joined > 1 ? i + 1 : 0]);
+    return true;
+}
+
 /* One of the records below this one, late ones more often. */
 static inline unsigned some_record(unsigned below_this)
 {
@@ -153,6 +176,59 @@ static inline void make_broad_rule(struct strip *s)
             put_record(s, &at, 5, i - 1, 0);
         else
             put_record(s, &at, 8, below(n), i - 1);
+}
+
+/* What the parts of a rule that may clash are made of: at most three atoms, mostly
+ * inclusions, each with its "not", from record 0 on. */
+struct literals {
+    unsigned variables, atoms;
+};
+
+static inline struct literals put_literals(struct strip *s, size_t *at)
+{
+    struct literals l = { 1 + below(3), 1 + below(3) };
+    put_heading(s, at, l.variables, 0);
+    for (unsigned i = 0; i < l.atoms; i++) {
+        unsigned op = once_in(4) ? below(5) : 0;
+        put_record(s, at, op, below(l.variables), names_second_variable(op) ? below(l.variables) : 0);
+        put_record(s, at, 5, 2 * i, 0);
+    }
+    return l;
+}
+
+/* A part: an atom or its "not", or some of them joined by "or". Returns its number. */
+static inline unsigned put_part(struct strip *s, size_t *at, const struct literals *l, unsigned *number)
+{
+    unsigned part = below(2 * l->atoms);
+    for (unsigned i = 0; i < l->atoms; i++)
+        if (i != part / 2 && !once_in(3)) {
+            put_record(s, at, 6, part, 2 * i + below(2));
+            part = (*number)++;
+        }
+    return part;
+}
+
+/* A rule strip that joins such parts by "and": from the left, from the right, or any
+ * two neighbours. Now and then what was met before is met again. */
+static inline void make_clashing_rule(struct strip *s)
+{
+    size_t at = 0;
+    unsigned count = once_in(4) ? 15 + below(4) : 1 + below(12), order = below(3), held[18];
+    struct literals l = put_literals(s, &at);
+    unsigned number = 2 * l.atoms;
+    for (unsigned i = 0; i < count; i++)
+        held[i] = put_part(s, &at, &l, &number);
+    while (count > 1) {
+        unsigned one = order == 0 ? 0 : order == 1 ? count - 2 : below(count - 1), two = one + 1;
+        if (once_in(8)) {
+            put_record(s, &at, 7, held[one], below(number));
+            held[one] = number++;
+        }
+        put_record(s, &at, 7, held[one], held[two]);
+        held[one] = number++;
+        held[two] = held[--count];
+    }
+    s->byte[1] = (uint8_t)number;
 }
 
 /* Puts records that the last one does not reach among those of an accepted rule

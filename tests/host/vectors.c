@@ -4,8 +4,9 @@
  *
  * Every lent buffer stands between guard bytes, in places where a step outside
  * it ends the program, and holds nonzero bytes before the call. Besides the
- * answer this checks what each call leaves in the buffers, and that a rule strip
- * that was imported is one. A line of a text that is decided or judged is skipped
+ * answer this checks what each call leaves in the buffers, that a rule strip that
+ * was imported is one, and that the parts of a rule that are said to clash do, and
+ * any of them left out, do not. A line of a text that is decided or judged is skipped
  * where a record has more than 64 states, which is no part of the answer it states.
  * A file without lines fails, and so does one that is mostly skipped. It prints what
  * fails and a count, and ends with status 1 if anything did. */
@@ -49,9 +50,10 @@ static bool buffers_right(const struct request *r, const union result *result)
             return fails("out not as it must be left");
     if (!has(r->operation, WORKSPACE))
         return true;
-    if (refusal != 0 && refusal != 14)
+    if (refusal != 0 && !is_of_machines(refusal))
         return lent_kept_after(&lent[WORKSPACE], 0) || fails("workspace altered by a refusal before the build");
-    return lent_zero(&lent[WORKSPACE], space_asked(r->byte[RULE], r->number[C])) || fails("workspace not as it must be left");
+    return lent_zero(&lent[WORKSPACE], space_asked(r->operation, r->byte[RULE], r->number[C]))
+        || fails("workspace not as it must be left");
 }
 
 /* The text's fault is the import's, if its out buffer was long enough, and lies at a
@@ -78,6 +80,35 @@ static bool import_right(const struct request *r, uint8_t *const *at, const ws2s
     return (f.start < length && f.length <= length - f.start) || fails("a token outside the text");
 }
 
+/* Decides the conjunction of the parts listed, one left out if it is among them. It has
+ * no more states than the trials had, and no more records than 12 has room for. */
+static bool is_none(const struct request *r, const uint64_t *part, unsigned count, unsigned without, bool *none)
+{
+    static struct strip rule, conjunction;
+    uint8_t out[WS2S_MAX_TREE_BYTES];
+    rule.length = r->number[RULE];
+    memcpy(rule.byte, r->byte[RULE], rule.length);
+    if (!make_conjunction(&conjunction, &rule, part, count, without))
+        return false;
+    ws2s_verdict v = ws2s_decide(conjunction.byte, conjunction.length, r->number[C], 255, lent[WORKSPACE].at, r->number[WORKSPACE], out, sizeof out);
+    *none = v.kind == WS2S_NONE;
+    return v.kind != WS2S_REFUSED;
+}
+
+/* The parts that are listed clash, and any of them left out, they do not. */
+static bool list_right(const struct request *r, const ws2s_clash_list *list)
+{
+    bool none;
+    if (list->count == 0 || list->count > WS2S_MAX_PARTS)
+        return fails("a list of no parts, or of more than there may be");
+    if (is_none(r, list->parts, (unsigned)list->count, WS2S_MAX_PARTS, &none) && !none)
+        return fails("parts listed that can be satisfied together");
+    for (unsigned i = 0; list->count > 1 && i < list->count; i++)
+        if (is_none(r, list->parts, (unsigned)list->count, i, &none) && none)
+            return fails("a part listed without which there is none, too");
+    return true;
+}
+
 /* One call, with its buffers in one place. */
 static bool run_call(const struct request *r, enum lent_place place, union result *result)
 {
@@ -94,7 +125,8 @@ static bool run_call(const struct request *r, enum lent_place place, union resul
         return fails("another answer");
     if (!idle)
         return fails("a field that does not apply is not 0");
-    return buffers_right(r, result) && (r->operation != OP_import || import_right(r, at, &result->written));
+    return buffers_right(r, result) && (r->operation != OP_import || import_right(r, at, &result->written))
+        && (r->operation != OP_clash || refusal_of(r->operation, result) || list_right(r, &result->clash_list));
 }
 
 /* Asks what a line wants to know about the strip that was imported for it. */
@@ -113,7 +145,7 @@ static bool run_then(const struct request *line, enum lent_place place)
     then.operation = line->then;
     then.byte[RULE] = strip;
     then.number[RULE] = result.written.length;
-    then.number[WORKSPACE] = space_asked(strip, then.number[C]);
+    then.number[WORKSPACE] = space_asked(then.operation, strip, then.number[C]);
     then.number[OUT] = has(then.operation, OUT) ? WS2S_MAX_TREE_BYTES : 0;
     return run_call(&then, place, &result);
 }
@@ -155,7 +187,7 @@ int main(int argc, char **argv)
     static char line[MOST_LINE], copy[MOST_LINE];
     unsigned long passed = 0, failed = 0, skips = 0;
     lent_watch();
-    lent_open_all(lent, MOST_LINE, WS2S_MAX_WORKSPACE);
+    lent_open_all(lent, MOST_LINE, WS2S_MAX_CLASH_WORKSPACE);
     for (int i = 1; i < argc; i++) {
         FILE *file = fopen(argv[i], "r");
         unsigned long number = 0, skips_before = skips;

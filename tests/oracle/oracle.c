@@ -6,7 +6,8 @@
 
 enum { NOT = ATOMS, OR, AND, EXISTS, OPS };
 enum { MOST_STATES = 64, MOST_RECORDS = 128, MOST_POSITIONS = 255 };
-enum { SHOWN = 0, NONE = 1, LARGER = 2, REFUSED = 3 };
+enum { MOST_PARTS = 16, MORE_SHARES = 15 };
+enum { SHOWN = 0, NONE = 1, LARGER = 2, KEPT = 0, REFUSED = 3 };
 
 #define BIT(state) (UINT64_C(1) << (state))
 
@@ -143,12 +144,12 @@ struct machine {
 };
 
 /* What one call builds: the machines of reached records in the workspace, each in
- * its record's share of it. */
+ * its record's share of it; and behind them those of a trial's joins. */
 struct build {
     struct rule rule;
     unsigned c, labels;
     size_t share; /* bytes of one machine's table */
-    struct machine machine[MOST_RECORDS];
+    struct machine machine[MOST_RECORDS + MORE_SHARES];
 };
 
 static const uint8_t *row(const struct build *b, const struct machine *m, unsigned label,
@@ -375,13 +376,14 @@ static unsigned build_reached(struct build *b, uint8_t *workspace)
     return b->rule.records;
 }
 
-/* Sets the ceiling and sizes; the number of workspace bytes asked for. */
-static size_t size_up(struct build *b, uint64_t c)
+/* Sets the ceiling and sizes; the number of workspace bytes asked for, with so many
+ * shares more than there are records. */
+static size_t size_up(struct build *b, uint64_t c, unsigned more)
 {
     b->c = (unsigned)c;
     b->labels = 1u << b->rule.variables;
     b->share = (size_t)b->labels * b->c * b->c;
-    return b->rule.records * b->share;
+    return (b->rule.records + more) * b->share;
 }
 
 /* ---- Trees ---- */
@@ -539,7 +541,7 @@ static size_t put_tree(uint8_t *out, size_t at, unsigned variables, const struct
     return put_tree(out, at, variables, s, s->tree[rank] & 255);
 }
 
-/* ---- The four operations ---- */
+/* ---- Check, judge, decide ---- */
 
 ws2s_rule oracle_check_rule(const uint8_t *rule, size_t rule_len)
 {
@@ -570,7 +572,7 @@ ws2s_judgement oracle_judge(const uint8_t *rule, size_t rule_len, uint64_t c,
         return refuse_to_judge(fault.refusal, fault.place);
     if (c < 1 || c > MOST_STATES)
         return refuse_to_judge(11, 0);
-    size_t asked = size_up(&b, c);
+    size_t asked = size_up(&b, c, 0);
     if (workspace_len < asked)
         return refuse_to_judge(12, 0);
     ws2s_tree checked = read_tree(tree, tree_len);
@@ -605,7 +607,7 @@ ws2s_verdict oracle_decide(const uint8_t *rule, size_t rule_len, uint64_t c, uin
         return refuse_to_decide(fault.refusal, fault.place);
     if (c < 1 || c > MOST_STATES || p > MOST_POSITIONS)
         return refuse_to_decide(11, 0);
-    size_t asked = size_up(&b, c);
+    size_t asked = size_up(&b, c, 0);
     if (workspace_len < asked)
         return refuse_to_decide(12, 0);
     if (out_len < (8 + p * (b.rule.variables + 1) + p + 1 + 7) / 8)
@@ -627,6 +629,101 @@ ws2s_verdict oracle_decide(const uint8_t *rule, size_t rule_len, uint64_t c, uin
             answer.kind = LARGER;
         }
     }
+    memset(workspace, 0, asked);
+    return answer;
+}
+
+/* ---- Which requirements clash ---- */
+
+struct parts {
+    unsigned count; /* may be more than are kept here */
+    unsigned record[MOST_PARTS];
+};
+
+/* Lists the parts of a record in the order in which they are met. What was met before
+ * has its parts in the list already, so each record is gone into once. */
+static void list_parts(const struct rule *rule, unsigned number, bool *met, struct parts *parts)
+{
+    const struct record *r = &rule->record[number];
+    if (met[number])
+        return;
+    met[number] = true;
+    if (r->op == AND) {
+        list_parts(rule, r->first, met, parts);
+        list_parts(rule, r->second, met, parts);
+        return;
+    }
+    if (parts->count < MOST_PARTS)
+        parts->record[parts->count] = number;
+    parts->count++;
+}
+
+/* A conjunction of parts: the number of its machine, which is its one part's own, or
+ * that of a join. */
+enum { EMPTY = MOST_RECORDS + MORE_SHARES };
+
+/* Joins a part to what stands before it, in the share of this number behind the
+ * rule's own; false if there are more than c states. */
+static bool join(struct build *b, uint8_t *workspace, unsigned *before, unsigned part, unsigned share)
+{
+    struct record both = { AND, *before, part };
+    struct machine *m = &b->machine[MOST_RECORDS + share];
+    if (*before == EMPTY) {
+        *before = part;
+        return true;
+    }
+    m->table = workspace + (b->rule.records + share) * b->share;
+    *before = MOST_RECORDS + share;
+    return explore(b, &both, m);
+}
+
+static ws2s_clash_list refuse_to_list(unsigned refusal, uint64_t record, uint64_t place)
+{
+    return (ws2s_clash_list){ .kind = REFUSED, .refusal = refusal, .record = record, .place = place };
+}
+
+/* Tries the parts, one after the other. Those kept are joined as far as the next trial
+ * asks for them, by turns in shares 0 and 1; what is not yet tried is joined to them
+ * for each trial anew, by turns in shares 2 and 3. */
+static ws2s_clash_list try_parts(struct build *b, uint8_t *workspace, const struct parts *parts)
+{
+    ws2s_clash_list list = { .kind = KEPT };
+    unsigned kept = EMPTY, joined = 0;
+    for (unsigned i = 0; i < parts->count; i++) {
+        for (; joined < list.count; joined++)
+            if (!join(b, workspace, &kept, (unsigned)list.parts[joined], joined % 2))
+                return refuse_to_list(14, list.parts[joined], 0);
+        unsigned rest = kept;
+        for (unsigned k = i + 1; k < parts->count; k++)
+            if (!join(b, workspace, &rest, parts->record[k], 2 + k % 2))
+                return refuse_to_list(14, parts->record[k], 0);
+        if (rest == EMPTY || b->machine[rest].accepting)
+            list.parts[list.count++] = parts->record[i];
+    }
+    return list;
+}
+
+ws2s_clash_list oracle_clash(const uint8_t *rule, size_t rule_len, uint64_t c,
+                             uint8_t *workspace, size_t workspace_len)
+{
+    struct build b;
+    struct parts parts = { .count = 0 };
+    bool met[MOST_RECORDS] = { false };
+    struct fault fault = read_rule(&b.rule, rule, rule_len);
+    if (fault.refusal)
+        return refuse_to_list(fault.refusal, 0, fault.place);
+    if (c < 1 || c > MOST_STATES)
+        return refuse_to_list(11, 0, 0);
+    size_t asked = size_up(&b, c, MORE_SHARES);
+    if (workspace_len < asked)
+        return refuse_to_list(12, 0, 0);
+    list_parts(&b.rule, b.rule.records - 1, met, &parts);
+    if (parts.count > MOST_PARTS)
+        return refuse_to_list(28, 0, 0);
+    unsigned over = build_reached(&b, workspace);
+    ws2s_clash_list answer = refuse_to_list(14, over, 0);
+    if (over == b.rule.records)
+        answer = b.machine[over - 1].accepting ? refuse_to_list(29, 0, 0) : try_parts(&b, workspace, &parts);
     memset(workspace, 0, asked);
     return answer;
 }
