@@ -10,10 +10,14 @@ ghost use Rattle.judge.specs.Judge.{judgementFor, workspaceFor};
 ghost use Rattle.judge.specs.Numbers.{judgementNumbers, JudgedInNumbers};
 ghost use Rattle.decide.specs.Decide.{verdictOf, workspaceOf, outOf};
 ghost use Rattle.decide.specs.Numbers.{verdictNumbers, DecidedInNumbers, ShallowInNumbers};
+ghost use Rattle.clash.specs.Clashes.{clashListOf, clashWorkspace};
+ghost use Rattle.clash.specs.Numbers.{clashNumbers, ClashedInNumbers};
 ghost use Rattle.text.specs.Grammar.{textOf};
 ghost use Rattle.text.specs.Import.{import, outAfterImport};
 ghost use Rattle.import.specs.Answers.{importedOf, faultOf};
 ghost use Rattle.import.specs.Numbers.{writtenNumbers, faultNumbers, ImportedInNumbers};
+use clash::numbers::ClashNumbers;
+use clash::numbers::clash_numbers;
 use decide::numbers::VerdictNumbers;
 use decide::numbers::verdict_numbers;
 use import::numbers::FaultNumbers;
@@ -76,6 +80,16 @@ pub extern "C" fn ws2s_decide(
     ensures { λ r. ⌜ ShallowInNumbers c r (now (out .exit)) ⌝ }
 {
     verdict_numbers(decide::decide(rule, c, p, workspace, out))
+}
+
+// Which parts of a rule that no sets satisfy clash, with the state ceiling c.
+#[no_mangle]
+pub extern "C" fn ws2s_clash(rule: &[u8], c: u64, workspace: &mut [u8]) -> ClashNumbers
+    ensures { λ r. ⌜ r ≡ clashNumbers (clashListOf (now (rule .entry)) c (length (now (workspace .entry)))) ⌝ }
+    ensures { λ _. ⌜ now (workspace .exit) ≡ clashWorkspace (now (rule .entry)) c (now (workspace .entry)) ⌝ }
+    ensures { λ r. ⌜ ClashedInNumbers (now (rule .entry)) c (length (now (workspace .entry))) r ⌝ }
+{
+    clash_numbers(clash::clash(rule, c, workspace))
 }
 
 // The rule that a text says, written as a rule strip at the front of out.
