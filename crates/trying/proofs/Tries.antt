@@ -51,8 +51,8 @@ joint-later rule c ws end later h = joint-stays {rule = rule} {c = c} {r = end} 
 -- ---- one trial
 module _ (rule : List ℕ) (c : ℕ) (ws : List ℕ) (i : ℕ) (j : Joint) where
   -- those not yet tried are joined behind those kept
-  pub rest-joint : SomeJoint rule c ws (countOf rule + i - 1) j → SomeJoint rule c ws (countOf rule + (i + 1) - 1) j
-  rest-joint s = (s .0, joint-later rule c ws (countOf rule + i - 1) (countOf rule + (i + 1) - 1) (omega arith) j (s .0) (s .1))
+  pub rest-joint : {later : ℕ} → countOf rule + i - 1 ≤ later → SomeJoint rule c ws (countOf rule + i - 1) j → SomeJoint rule c ws later j
+  rest-joint {later} h s = (s .0, joint-later rule c ws (countOf rule + i - 1) later h j (s .0) (s .1))
 
   abbrev end : ℕ
   end = countOf rule + length (partsOf (recordsOf rule)) - 1

@@ -13,7 +13,7 @@ join-rest-requires c κs =
     let p = s .pre in
     let a = s .args in
     let u = p .1 .1 .0 in
-    (p .0, (p .1 .0, ((u .0, omega (arith, u .1), u .2), rest-joint (a .rule .now) (a .c) (a .ws .now) (a .i) (a .j) (p .1 .1 .1))))
+    (p .0, (p .1 .0, ((u .0, omega (arith, u .1), u .2), rest-joint (a .rule .now) (a .c) (a .ws .now) (a .i) (a .j) (omega arith) (p .1 .1 .1))))
 
 -- where the call starts, from where the rest is joined; and what is changed by then
 abbrev start-of : tie.After-join-rest → tie.Start

@@ -24,10 +24,11 @@ join-pair-requires : tie.Need-join-pair-requires
 join-pair-requires d κs =
     let s = start-of d in
     let u = s .pre .1 .1 .0 in
-    let x = made d .1 in (
+    let x = made d .1 in
+    let below = reached-below (s .pre .0) (s .args .q) (u .0) in (
       s .pre .0,
       (
-        (x .before, omega (arith, x .behind, reached-below (s .pre .0) (s .args .q) (u .0)), u .2),
+        (omega (arith, x .before, x .behind, below), omega (arith, x .behind, below), u .2),
         joins-pair (s .pre .0) (s .pre .1 .0) (u .0) _ (u .1) x (d .before .before .before .before .kept .ensures),
       ),
     )
