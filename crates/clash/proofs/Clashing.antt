@@ -1,5 +1,5 @@
 -- From an accepted rule strip to clash's answer, and its claim. Assumes nothing.
-use Rattle.words.proofs.Vocabulary.{ℕ, zero, suc, _+_, _-_, _*_, _^_, _≤_, _<_, _≡_, refl, sym, ap, ap₂, subst, _∙_, _⊎_, inl, inr, ⊎-elim, Bool, true, false, cond}
+use Rattle.words.proofs.Vocabulary.{ℕ, zero, suc, _+_, _-_, _*_, _^_, _≤_, _<_, _≡_, refl, sym, ap, ap₂, _∙_, ⊎-elim, Bool, true, false, cond}
 use Rattle.words.proofs.Vocabulary.{List, [], _∷_, _++_, length, take, drop, replicate, mul-le-mul-right, arith}
 use lib.ListN.{take-append-drop}
 use lib.Seq.{drop-nil}

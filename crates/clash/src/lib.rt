@@ -143,16 +143,7 @@ fn clash_accepted(
             if reading::satisfiable(building::kept(&counts, &accepts, &looks, last)) {
                 return refused(Refusal::Plain(29));
             }
-            list_kept(
-                rule,
-                c,
-                ws,
-                &counts,
-                &accepts,
-                &looks,
-                parts,
-                count,
-            )
+            list_kept(rule, c, ws, &counts, &accepts, &looks, parts, count)
         }
     }
 }

@@ -12,7 +12,8 @@ use Rattle.logic.specs.Two.{one, two, pairOf, branching}
 use Rattle.logic.proofs.Counts.{lists-index}
 use Rattle.logic.proofs.Reach.{elem-below}
 use Rattle.logic.proofs.Two.{each}
-use Rattle.logic.proofs.Builders.{of-negation, of-disjunction, of-conjunction, of-numbered, full-numbered, of-agrees, full-agrees}
+use Rattle.logic.specs.Table.{table}
+use Rattle.logic.proofs.Builders.{states-any, over-index, of-negation, of-disjunction, of-conjunction, of-numbered, full-numbered, of-agrees, full-agrees}
 use Rattle.exploring.specs.Explore.{explore}
 use Rattle.words.specs.Word.{mem}
 use Rattle.table.specs.Entry.{Step}
@@ -43,6 +44,17 @@ pub record Large (n c : ℕ) (F : Formula 2) : Type 0 where
   pub large : Machine 2 ℕ
   pub machine : MachineOf n F large
   pub reached : (cs : List ℕ) × Codes (Reached large (below (2 ^ n))) cs × (length cs ≡ suc c)
+
+-- a machine of F's has as many states as document 01's
+pub good-few : {n c : ℕ} {F : Formula 2} {m : Mach} → Valid n F → Good n c F m → (table n F) .count ≤ c
+good-few {n} {F = F} {m = m} v g = omega (arith, g .few, states-any n F v (machOf m) (g .machine) (length (m .codes)) (g .full))
+
+pub large-many : {n c : ℕ} {F : Formula 2} → Valid n F → Large n c F → c < (table n F) .count
+large-many {n} {c} {F} v w =
+    let z = w .reached in
+    let long = z .2 in
+    over-index n F v (w .large) (w .machine) c (suc c) (λ i. getD (z .0) i 0) (λ i l. z .1 .all i (omega arith))
+    (λ i j h l e. omega (arith, z .1 .distinct i j (omega arith) (omega arith) e)) (omega arith)
 
 -- what the builder makes of a record of formula F
 abbrev pub Makes : ℕ → ℕ → Formula 2 → Option Mach → Type 0

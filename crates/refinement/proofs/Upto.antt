@@ -14,14 +14,13 @@ use Rattle.logic.proofs.Connectives.{and-iff}
 use Rattle.logic.proofs.Reach.{elem-first, elem-second}
 use Rattle.logic.proofs.ReachedRecords.{reached-cong}
 use Rattle.logic.proofs.Rules.{record-valid, record-formula, good-here, rule-earlier, rule-reached, reached-within, getD-snoc}
-use Rattle.logic.proofs.Builders.{states-any, over-index}
 use Rattle.table.specs.Succ.{startCode, kindCode}
 use Rattle.records.specs.Rule.{Mach, noMach, machOf, machineOf, noDecoded}
 use Rattle.records.specs.declared.Decoded.{Decoded}
 use Rattle.building.specs.Named.{namedOf as decodedNames, namedIn as decodedNamesIn, usedIn}
 use Rattle.building.specs.Build.{Progress, built, over, more, after, passed, upto}
 use Rattle.refinement.proofs.Atoms.{atom-subset, atom-single, atom-root, atom-first, atom-second}
-use Rattle.refinement.proofs.Records.{Good, Makes, explored, complemented, either-pair, both-pair, some-set}
+use Rattle.refinement.proofs.Records.{Good, Makes, good-few, large-many, explored, complemented, either-pair, both-pair, some-set}
 
 both-of : (a b : Bool) → T (a && b) → T a × T b
 both-of a b = (and-iff a b (λ t. t, λ t. t) (λ t. t, λ t. t)) .0
@@ -126,10 +125,7 @@ module _ (n c : ℕ) (sh : Shaped (shapeOf n c)) (rs : List Record) (acc : Accep
 
   few-states : (m : ℕ) (ns : List Mach) → m ≤ length rs → ((r : ℕ) → r < m → T (used r) → GoodAt r (getD ns r noMach))
       → (i : ℕ) → i < m → ReachedRecord rs i → statesAt 2 n rs i ≤ c
-  few-states m ns hm h i l u =
-      let g = h i l ((used-iff i) .1 u) in
-      omega (arith, states-any n (formulaAt rs i) (record-valid 2 n rs (acc .1) i (omega arith)) (machOf (getD ns i noMach)) (g .machine)
-      (length (getD ns i noMach .codes)) (g .full))
+  few-states m ns hm h i l u = good-few (record-valid 2 n rs (acc .1) i (omega arith)) (h i l ((used-iff i) .1 u))
 
   module _ (m : ℕ) (hm : suc m ≤ length rs) (ns : List Mach) (h : Linked m (built ns)) where
     -- one record more, with this machine
@@ -155,14 +151,7 @@ module _ (n c : ℕ) (sh : Shaped (shapeOf n c)) (rs : List Record) (acc : Accep
         parts j e = h .1 j (rule-earlier 2 n rs (acc .1) m hm j e) ((used-iff j) .1 (named m j ((used-iff m) .0 here) e))
 
         go : (o : Option Mach) → Makes n c (formulaAt rs m) o → Linked (suc m) (more m ns o)
-        go none w =
-            let z = w .reached in
-            let long = z .2 in (
-              (used-iff m) .0 here,
-              over-index n (formulaAt rs m) (record-valid 2 n rs (acc .1) m hm) (w .large) (w .machine) c (suc c) (λ i. getD (z .0) i 0) (λ i l. z .1 .all i (omega arith))
-                  (λ i j p l q. omega (arith, z .1 .distinct i j (omega arith) (omega arith) q)) (omega arith),
-              few-states m ns (omega arith) (h .1),
-            )
+        go none w = ((used-iff m) .0 here, large-many (record-valid 2 n rs (acc .1) m hm) w, few-states m ns (omega arith) (h .1))
         go (some mach) w = longer mach (λ u. w)
 
     -- a leftover

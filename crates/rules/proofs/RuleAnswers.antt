@@ -32,7 +32,8 @@ module _ {rule : List ℕ} {c room : ℕ} (w : Workable rule c room) {k : Summar
       record {
         ended = record { answer = refl; counted = λ t g. e .counted t (sym (e .answer) ∙ g); back = e .back; low = e .low; high = e .high };
         decided = rw (h .stored .count, e .answer)
-            (decide-any 2 (variablesOf rule) (recordsOf rule) (rule-accepted rule (w .sound) .records-accepted) c P (d .roomy) _ (d .last .decides) _ (d .last .full));
+            (decide-any 2 (variablesOf rule) (recordsOf rule) (rule-accepted rule (w .sound) .records-accepted) c P (d .roomy) _ (d .last .decides) _
+            (d .last .full));
       }
 
   pub rule-says : {tree : List ℕ} → AcceptedTree tree (variablesOf rule) → {b : Bool} → Accepts ws s (m - 1) k tree b → SaysOfTree rule c tree b

@@ -111,7 +111,8 @@ module _ {rule : List ℕ} {c room : ℕ} (t : Triable rule c room) where
       record-valid 2 (variablesOf rule) (recordsOf rule) (a .records-accepted .1) i
       (reached-within 2 (variablesOf rule) (recordsOf rule) (a .records-accepted) i u)
 
-  module _ {ws : List ℕ} {es : ℕ → Summary} (b : ReachedBuilt rule c es ws) {q : ℕ} (u : ReachedRecord (recordsOf rule) q) (r : ℕ) (h : countOf rule ≤ r + 1) where
+  module _ {ws : List ℕ} {es : ℕ → Summary} (b : ReachedBuilt rule c es ws) {q : ℕ} (u : ReachedRecord (recordsOf rule) q) (r : ℕ)
+      (h : countOf rule ≤ r + 1) where
     -- two machines to be joined
     pub joins-pair : {number : ℕ} {f g : Summary} {x : Conjunct 2} → JointMade rule c ws r number f x → g ≡ es q → SomePair rule c ws number f q g
     joins-pair m e =

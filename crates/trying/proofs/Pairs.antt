@@ -4,13 +4,12 @@ use Rattle.layout.specs.Shape.{shareAt, shareOf}
 use Rattle.layout.proofs.Places.{share-next}
 use Rattle.logic.specs.Meaning.{Formula, conjunction, Valid}
 use Rattle.logic.specs.Table.{table}
-use Rattle.logic.proofs.Builders.{states-any, over-index}
 use Rattle.table.specs.declared.plan.Kind.the-variants.{And}
 use Rattle.table.proofs.Labels.{bit-of}
 use Rattle.records.specs.Rule.{Mach, machOf, machineOf, Fits, SomeParts, Adds}
 use Rattle.records.specs.declared.Decoded.{Decoded}
 use Rattle.records.specs.declared.Summary.{Summary}
-use Rattle.refinement.proofs.Records.{Good, Makes, explored, both-pair}
+use Rattle.refinement.proofs.Records.{Good, Makes, good-few, large-many, explored, both-pair}
 use Rattle.rule_strip.specs.RuleStrip.{variablesOf, countOf}
 use Rattle.rules.specs.Building.{ruleShape, MachineFor}
 use Rattle.rules.proofs.Rooms.{room-shares}
@@ -65,18 +64,11 @@ module _ {rule : List ℕ} {c room : ℕ} (t : Triable rule c room) where
     valid = (vf, vg)
 
     many : (a b : ℕ) → machineOf (ruleShape rule c) (andOf a b) f g ≡ none → c < (table n (conjunction F G)) .count
-    many a b e =
-        let w = rw e at (makes a b) in
-        let z = w .reached in
-        let long = z .2 in
-        over-index n (conjunction F G) valid (w .large) (w .machine) c (suc c) (λ i. getD (z .0) i 0) (λ i l. z .1 .all i (omega arith))
-        (λ i j h l s. omega (arith, z .1 .distinct i j (omega arith) (omega arith) s)) (omega arith)
+    many a b e = large-many valid (rw e at (makes a b))
 
     few : (a b : ℕ) (m : Mach) → machineOf (ruleShape rule c) (andOf a b) f g ≡ some m
         → Good n c (conjunction F G) m × ((table n (conjunction F G)) .count ≤ c)
-    few a b m e =
-        let w = rw e at (makes a b) in
-        (w, omega (arith, w .few, states-any n (conjunction F G) valid (machOf m) (w .machine) (length (m .codes)) (w .full)))
+    few a b m e = let w = rw e at (makes a b) in (w, good-few valid w)
 
   -- what `build_next` says of it
   pub conjoined : {ws ws′ : List ℕ} {a b r : ℕ} {f g k : Summary} → length ws′ ≡ room → r < countOf rule + 15

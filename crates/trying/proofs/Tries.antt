@@ -217,7 +217,8 @@ module _ {rule : List ℕ} {c room : ℕ} (t : Triable rule c room) {count : ℕ
           x = joinOne (joinerOf rule) c (s .x) (getD xs i 0);
           K = s .K ++ (getD xs i 0 ∷ []);
           counted = omega (arith, s .counted, length-append (s .K) (getD xs i 0 ∷ []));
-          front = rw (add-one kept) (take-suc-set list kept (getD xs i 0) (omega (arith, s .few, s .sixteen))) ∙ ap (λ (L : List ℕ). L ++ (getD xs i 0 ∷ [])) (s .front);
+          front = rw (add-one kept) (take-suc-set list kept (getD xs i 0) (omega (arith, s .few, s .sixteen)))
+              ∙ ap (λ (L : List ℕ). L ++ (getD xs i 0 ∷ [])) (s .front);
           rest = drop-set-lt (kept + 1) list kept (getD xs i 0) (omega arith) ∙ drop-later kept (kept + 1) list list₀ (omega arith) (s .rest);
           joint = λ more.
               let w = joint-stays same f (countOf rule + i - 1) (countOf rule + i - 1) (omega arith) (omega arith) j (s .x) joint-here in

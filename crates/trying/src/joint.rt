@@ -115,17 +115,7 @@ pub fn join_rest(
     let mut p = i;
     while p < count {
         let q = parts[p] as usize;
-        joined = join_part(
-            rule,
-            c,
-            ws,
-            counts,
-            accepts,
-            looks,
-            joined,
-            q,
-            m + p - 1,
-        );
+        joined = join_part(rule, c, ws, counts, accepts, looks, joined, q, m + p - 1);
         p += 1;
     }
     joined

@@ -9,9 +9,9 @@ ghost use Rattle.building.specs.OneRecord.{keptIn};
 ghost use Rattle.rules.specs.Building.{ReachedBuilt};
 ghost use Rattle.trying.specs.Trying.{Triable, SomeJoint, Confined};
 ghost use Rattle.trying.specs.Trials.{TrialTells, JoinsKept, TriedAll};
+use crate::joint::Joint;
 use crate::joint::join_part;
 use crate::joint::join_rest;
-use crate::joint::Joint;
 
 pub mod joint; // the machine of two machines' conjunction, and those of parts, left to right
 
@@ -42,18 +42,7 @@ fn try_part(
     ensures { λ t. ⌜ TrialTells (now (rule .entry)) c (now (ws .entry)) i j t ⌝ }
     ensures { λ t. ⌜ Confined (now (rule .entry)) c (countOf (now (rule .entry)) + i) (now (ws .entry)) (now (ws .exit)) ⌝ }
 {
-    let rest = join_rest(
-        rule,
-        c,
-        ws,
-        counts,
-        accepts,
-        looks,
-        parts,
-        count,
-        i + 1,
-        j,
-    );
+    let rest = join_rest(rule, c, ws, counts, accepts, looks, parts, count, i + 1, j);
     match rest {
         Joint::Empty => Trial::Stays,
         Joint::Over(q) => Trial::Over(q),
@@ -91,17 +80,7 @@ fn join_kept(
     }
     let m = rule_strip::count_of(rule);
     let q = parts[i] as usize;
-    join_part(
-        rule,
-        c,
-        ws,
-        counts,
-        accepts,
-        looks,
-        j,
-        q,
-        m + i - 1,
-    )
+    join_part(rule, c, ws, counts, accepts, looks, j, q, m + i - 1)
 }
 
 // How the trials end: at a join with too many states, by the part joined, or with so many parts kept.
@@ -132,18 +111,7 @@ pub fn try_parts(
     let mut kept: usize = 0;
     let mut i: usize = 0;
     while i < count {
-        let t = try_part(
-            rule,
-            c,
-            ws,
-            counts,
-            accepts,
-            looks,
-            parts,
-            count,
-            i,
-            joined,
-        );
+        let t = try_part(rule, c, ws, counts, accepts, looks, parts, count, i, joined);
         match t {
             Trial::Over(q) => {
                 return Tried::Over(q);
@@ -154,18 +122,7 @@ pub fn try_parts(
             Trial::Stays => {
                 list[kept] = parts[i] as u64;
                 kept += 1;
-                joined = join_kept(
-                    rule,
-                    c,
-                    ws,
-                    counts,
-                    accepts,
-                    looks,
-                    parts,
-                    count,
-                    i,
-                    joined,
-                );
+                joined = join_kept(rule, c, ws, counts, accepts, looks, parts, count, i, joined);
                 i += 1;
             }
         }

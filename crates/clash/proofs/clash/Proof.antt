@@ -14,7 +14,8 @@ returns c =
     let b = c .before .before in
     let a = c .before .before .before .before .before .before .args in
     promised (a .rule .now) (a .c) (a .ws .now)
-    (rw (c .refused .ensures) (ends-refused (a .rule .now) (a .c) (a .ws .now) (b .clash-refusal .ensures .0) (λ e. nothing-else (rw e at (c .before .match .keys2)))))
+    (rw (c .refused .ensures)
+    (ends-refused (a .rule .now) (a .c) (a .ws .now) (b .clash-refusal .ensures .0) (λ e. nothing-else (rw e at (c .before .match .keys2)))))
 
 -- nothing is refused
 abbrev refused-of : tie.After-enum-told → tie.After-clash-refusal
@@ -53,4 +54,5 @@ returns-2 c =
 pub clash-spec : {M : Type 1} → statement M
 clash-spec =
     tie.close
-    (tie.spec (λ c κs. search needs) (λ c. search needs) (λ c κs. search needs) returns clash-accepted-requires clear-trials-requires (λ c. search needs) returns-2)
+    (tie.spec (λ c κs. search needs) (λ c. search needs) (λ c κs. search needs) returns clash-accepted-requires clear-trials-requires
+    (λ c. search needs) returns-2)

@@ -29,6 +29,7 @@ room c =
 pub clear-trials-spec : {M : Type 1} → statement M
 clear-trials-spec =
     tie.close
-    (tie.spec (λ c κs. rule-sizes (c .before .before .pre .work) .0) (λ c κs. rule-sizes (c .before .before .before .pre .work) .0) (λ c. omega (arith, c .before .count-of .ensures, rule-sizes (c .before .before .before .before .before .pre .work))) needed-requires
+    (tie.spec (λ c κs. rule-sizes (c .before .before .pre .work) .0) (λ c κs. rule-sizes (c .before .before .before .pre .work) .0)
+    (λ c. omega (arith, c .before .count-of .ensures, rule-sizes (c .before .before .before .before .before .pre .work))) needed-requires
     (λ c κs. rw (room c) (c .before .before .before .before .before .before .pre .long))
     (λ c. search needs) (λ c. rw (← room (c .before .before .before)) (c .before .before .clear .ensures)))

@@ -49,7 +49,8 @@ returns-2 c =
     let s = start-of b in
     let a = s .args in
     let w = rw (← numbers b .4) at (v .join-part .ensures) in
-    (kept-joined (s .pre .0) (s .pre .1 .1 .0 .0) (a .ws .now) (a .i) (a .j) (v .join-part .last .1 .1 .0) (v .join-part .result) (s .pre .1 .1 .0 .1) (w .0), w .1)
+    let u = s .pre .1 .1 .0 in
+    (kept-joined (s .pre .0) (u .0) (a .ws .now) (a .i) (a .j) (v .join-part .last .1 .1 .0) (v .join-part .result) (u .1) (w .0), w .1)
 
 pub join-kept-spec : {M : Type 1} → statement M
 join-kept-spec =

@@ -21,7 +21,10 @@ start-of b = b .before .before .before .before
 
 changed : (b : tie.After-join-rest)
     → let a = start-of b .args in Confined (a .rule .now) (a .c) (countOf (a .rule .now) + a .i) (a .ws .now) (b .join-rest .last .1 .1 .0)
-changed b = let m = countOf (start-of b .args .rule .now) in let i = start-of b .args .i in confined-from (m + i) (m + (i + 1) - 1) (omega arith) (b .join-rest .ensures .1)
+changed b =
+    let m = countOf (start-of b .args .rule .now) in
+    let i = start-of b .args .i in
+    confined-from (m + i) (m + (i + 1) - 1) (omega arith) (b .join-rest .ensures .1)
 
 -- from where its machine is asked
 abbrev rest-of : tie.After-known-told2 → tie.After-join-rest
@@ -41,8 +44,8 @@ returns c =
     let b = rest-of d in
     let a = start-of b .args in
     let g = d .before .rest2 .given in (
-      tells-stays (a .rule .now) (a .c) (a .ws .now) (a .i) (a .j) _ _ (b .join-rest .ensures .0) (g .0 .0) (g .0 .1 .0) (g .1) (c .before .satisfiable .ensures)
-          (c .if1 .taken),
+      tells-stays (a .rule .now) (a .c) (a .ws .now) (a .i) (a .j) _ _ (b .join-rest .ensures .0) (g .0 .0) (g .0 .1 .0) (g .1)
+          (c .before .satisfiable .ensures) (c .if1 .taken),
       changed b,
     )
 

@@ -108,6 +108,8 @@ try-parts-spec =
     (tie.spec Inv-loop μ-loop (λ c. tries-first (c .before .before .pre .1 .1 .2)) try-part-requires (λ c. search needs)
     (λ c. let b = c .before .before .before .before .before in b .try-part .kept .1 .1 .0 ∙ turn-of b .before .loop .inv .long) returns (λ c. search needs)
     (λ c. omega (arith, numbers (turn-of (c .before .before .before .before)))) loop-less loop-again (λ c. search needs)
-    (λ c. omega (arith, numbers (turn-of (tried-of c)))) (λ c. omega (arith, part-small (c .before))) (λ c. omega (arith, numbers (turn-of (tried-of (c .before)))))
+    (λ c. omega (arith, numbers (turn-of (tried-of c)))) (λ c. omega (arith, part-small (c .before)))
+    (λ c. omega (arith, numbers (turn-of (tried-of (c .before)))))
     (λ c. numbers (turn-of (tried-of (c .before))) .2) (λ c. omega (arith, numbers (turn-of (tried-of (c .before))))) join-kept-requires
-    (λ c. omega (arith, numbers (turn-of (tried-of (c .before .before .before .before .before))))) loop-less-2 loop-again-2 (λ c. c .before .loop .inv .long) returns-2)
+    (λ c. omega (arith, numbers (turn-of (tried-of (c .before .before .before .before .before))))) loop-less-2 loop-again-2
+    (λ c. c .before .loop .inv .long) returns-2)
