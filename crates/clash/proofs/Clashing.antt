@@ -1,6 +1,6 @@
 -- From an accepted rule strip to clash's answer, and its claim. Assumes nothing.
 use Rattle.words.proofs.Vocabulary.{ℕ, zero, suc, _+_, _-_, _*_, _^_, _≤_, _<_, _≡_, refl, sym, ap, ap₂, _∙_, ⊎-elim, Bool, true, false, cond}
-use Rattle.words.proofs.Vocabulary.{List, [], _∷_, _++_, length, take, drop, replicate, mul-le-mul-right, arith}
+use Rattle.words.proofs.Vocabulary.{List, _++_, length, take, drop, replicate, mul-le-mul-right, arith}
 use lib.ListN.{take-append-drop}
 use lib.Seq.{drop-nil}
 use Rattle.logic.specs.Rule.{lastOf}
@@ -18,12 +18,12 @@ use Rattle.records.specs.declared.Summary.{Summary}
 use Rattle.records.proofs.Shares.{drop-later}
 use Rattle.layout.specs.Shape.{shareAt}
 use Rattle.reading.specs.Reading.{Satisfiable}
-use Rattle.rules.specs.Room.{roomFor, roomOf, cleared, Workable}
+use Rattle.rules.specs.Room.{roomOf, cleared}
 use Rattle.rules.specs.Building.{ruleShape, Decider}
 use Rattle.rules.proofs.Rooms.{short-free, work-free, work-unplaced, room-shares}
 use Rattle.rules.proofs.Rules.{rule-shaped}
 use Rattle.parts.specs.Parts.{partsOf}
-use Rattle.trials.specs.Joins.{Trialled, over14, keptList}
+use Rattle.trials.specs.Joins.{over14}
 use Rattle.trials.specs.Answer.{ClashAnswer, refusedFor, satisfiable, clashing, trialsAnswer}
 use Rattle.trials.proofs.Answer.{clash-answers, roomy-answer}
 use Rattle.trying.specs.Trying.{Triable, Confined}

@@ -1,12 +1,12 @@
 -- The builder's outcome for all records of a rule: refusal 14, or the machine of the last one. Assumes nothing.
-use Rattle.words.proofs.Vocabulary.{ℕ, _≤_, _<_, _+_, suc, zero, Bool, true, false, cond, _&&_, _≡_, _∙_, refl, sym, ap, subst, _↔_, List, [], _∷_, _++_}
+use Rattle.words.proofs.Vocabulary.{ℕ, _≤_, _<_, suc, zero, Bool, true, false, cond, _&&_, _≡_, _∙_, refl, sym, ap, subst, _↔_, List, [], _∷_, _++_}
 use Rattle.words.proofs.Vocabulary.{some, Option, none, eqb, ltb, T, ltb→lt, length, getD, length-append, decLt, not-suc-le-zero, arith}
 use Rattle.layout.specs.Shape.{Shaped, shapeOf}
 use Rattle.records.specs.Decode.{bitWeight, decodedOf}
 use Rattle.logic.specs.Meaning.{Branch, Formula, successor, root, Valid}
-use Rattle.logic.specs.Rule.{noRecord, Record, formulaOf, formulaAt, extend, lastOf, good, successorAt, Accepted}
+use Rattle.logic.specs.Rule.{noRecord, Record, formulaOf, formulaAt, extend, good, successorAt, Accepted}
 use Rattle.logic.specs.Reach.{elem}
-use Rattle.logic.specs.ReachedRecords.{itself, named, namesOf, namesIn, ReachedRecord, isReached}
+use Rattle.logic.specs.ReachedRecords.{named, namesOf, namesIn, ReachedRecord, isReached}
 use Rattle.logic.specs.Two.{one, two}
 use Rattle.logic.specs.Claims.{Roomy, statesAt, FirstOver}
 use Rattle.logic.proofs.Branches.{branch-same}
@@ -15,7 +15,7 @@ use Rattle.logic.proofs.Reach.{elem-first, elem-second}
 use Rattle.logic.proofs.ReachedRecords.{reached-cong}
 use Rattle.logic.proofs.Rules.{record-valid, record-formula, good-here, rule-earlier, rule-reached, reached-within, getD-snoc}
 use Rattle.table.specs.Succ.{startCode, kindCode}
-use Rattle.records.specs.Rule.{Mach, noMach, machOf, machineOf, noDecoded}
+use Rattle.records.specs.Rule.{Mach, noMach, machineOf, noDecoded}
 use Rattle.records.specs.declared.Decoded.{Decoded}
 use Rattle.building.specs.Named.{namedOf as decodedNames, namedIn as decodedNamesIn, usedIn}
 use Rattle.building.specs.Build.{Progress, built, over, more, after, passed, upto}

@@ -1,6 +1,6 @@
 -- The records of an accepted rule strip can be built; what building them says of the rule; and the workspace is cleared behind them.
 -- Assumes nothing.
-use Rattle.words.proofs.Vocabulary.{ℕ, _+_, _-_, _*_, _≤_, _<_, _≡_, refl, sym, ap, _∙_, subst, Bool, T, List, _++_, arith, length, getD, drop, replicate}
+use Rattle.words.proofs.Vocabulary.{ℕ, _+_, _-_, _*_, _≤_, _<_, _≡_, refl, sym, ap, _∙_, subst, Bool, T, List, arith, length, getD, drop}
 use Rattle.logic.specs.Rule.{Record, noRecord, lastOf, formulaAt, Accepted}
 use Rattle.logic.specs.Claims.{FirstOver, Roomy}
 use Rattle.logic.specs.ReachedRecords.{itself}
@@ -23,7 +23,7 @@ use Rattle.rule_strip.specs.RuleStrip.{variablesOf, countOf, recordAt, recordsO
 use Rattle.rule_strip.proofs.RuleLaws.{rule-accepted, records-at, widths-at}
 use Rattle.rules.specs.Building.{ruleShape, MachineFor, ReachedBuilt, EndedAs, BuiltRecords, Decider}
 use Rattle.rules.specs.Decoding.{DecodesTo}
-use Rattle.rules.specs.Room.{roomOf, cleared, Workable}
+use Rattle.rules.specs.Room.{cleared, Workable}
 use Rattle.rules.proofs.Rooms.{room-shares, shaped}
 
 -- building does not end in both ways

@@ -1,7 +1,7 @@
 -- Parts joined one after the other, each in a share of its own behind the records': what is joined stays where it is, and is what the
 -- definition of the trials joins. Assumes nothing.
-use Rattle.words.proofs.Vocabulary.{ℕ, _≤_, _<_, _+_, _-_, suc, _≡_, refl, sym, ap, subst, _∙_, List, [], _∷_, length, getD, take, drop, T, arith}
-use Rattle.words.proofs.Vocabulary.{lt-ltb, le-ltb, getD-take, add-one, eq-or-lt-of-le, ⊎-elim, inl, inr}
+use Rattle.words.proofs.Vocabulary.{ℕ, _≤_, _<_, _+_, _-_, _≡_, refl, sym, ap, subst, _∙_, List, [], _∷_, length, getD, take, drop, T, arith}
+use Rattle.words.proofs.Vocabulary.{lt-ltb, le-ltb, getD-take, add-one, eq-or-lt-of-le, ⊎-elim}
 use lib.ListN.{drop-of-length-le}
 use lib.Seq.{drop-cons}
 use Rattle.layout.specs.Shape.{shareAt, shareOf}
@@ -22,7 +22,7 @@ use Rattle.records.specs.declared.Summary.{Summary}
 use Rattle.records.proofs.Shares.{drop-later}
 use Rattle.building.proofs.OneRecord.{stored-same}
 use Rattle.rules.specs.Building.{ruleShape, MachineFor, ReachedBuilt}
-use Rattle.trials.specs.Joins.{Joint as Conjunct, noJoint, jointBy, jointOver, joinOne, joinFrom}
+use Rattle.trials.specs.Joins.{Joint as Conjunct, joinOne, joinFrom}
 use Rattle.trying.specs.Trying.{Triable, SomePair, Conjoins, joinerOf, JointMade, JointOf, SomeJoint, JoinsPart, JoinsRest, Confined}
 use Rattle.trying.specs.declared.joint.Joint.{Joint}
 use Rattle.trying.specs.declared.joint.Joint.the-variants.{Empty, Made, Over}

@@ -1,12 +1,12 @@
 -- Two machines joined by the builder: the machine of the conjunction, or it has more than c states. Assumes nothing.
-use Rattle.words.proofs.Vocabulary.{ℕ, _≤_, _<_, _+_, suc, _≡_, refl, sym, ap, List, Option, none, some, length, getD, arith}
+use Rattle.words.proofs.Vocabulary.{ℕ, _≤_, _<_, _+_, _≡_, refl, ap, List, none, some, length, arith}
 use Rattle.layout.specs.Shape.{shareAt, shareOf}
 use Rattle.layout.proofs.Places.{share-next}
 use Rattle.logic.specs.Meaning.{Formula, conjunction, Valid}
 use Rattle.logic.specs.Table.{table}
 use Rattle.table.specs.declared.plan.Kind.the-variants.{And}
 use Rattle.table.proofs.Labels.{bit-of}
-use Rattle.records.specs.Rule.{Mach, machOf, machineOf, Fits, SomeParts, Adds}
+use Rattle.records.specs.Rule.{Mach, machineOf, Fits, SomeParts, Adds}
 use Rattle.records.specs.declared.Decoded.{Decoded}
 use Rattle.records.specs.declared.Summary.{Summary}
 use Rattle.refinement.proofs.Records.{Good, Makes, good-few, large-many, explored, both-pair}
@@ -14,7 +14,7 @@ use Rattle.rule_strip.specs.RuleStrip.{variablesOf, countOf}
 use Rattle.rules.specs.Building.{ruleShape, MachineFor}
 use Rattle.rules.proofs.Rooms.{room-shares}
 use Rattle.rules.proofs.Rules.{rule-sizes, rule-shaped}
-use Rattle.trying.specs.Trying.{Triable, SomePair, MachineMade, Conjoins}
+use Rattle.trying.specs.Trying.{Triable, SomePair, Conjoins}
 
 -- the "and" of the machines of numbers a and b
 abbrev pub andOf : ℕ → ℕ → Decoded

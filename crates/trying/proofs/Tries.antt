@@ -14,9 +14,9 @@ use Rattle.rule_strip.proofs.RuleLaws.{rule-accepted}
 use Rattle.rules.specs.Building.{MachineFor, ReachedBuilt}
 use Rattle.parts.specs.Parts.{partsOf}
 use Rattle.parts.specs.Listed.{Listed}
-use Rattle.trials.specs.Joins.{Joint as Conjunct, noJoint, accepts, joinOne, joinFrom, Trialled, over14, trialSays, trialsFrom}
+use Rattle.trials.specs.Joins.{Joint as Conjunct, noJoint, accepts, joinOne, joinFrom, Trialled, trialSays, trialsFrom}
 use Rattle.trials.proofs.Joins.{accepts-iff, trials-reuse}
-use Rattle.trying.specs.Trying.{Triable, joinerOf, JointMade, JointOf, SomeJoint, JoinsPart, JoinsRest, Confined}
+use Rattle.trying.specs.Trying.{Triable, joinerOf, JointOf, SomeJoint, JoinsPart, JoinsRest, Confined}
 use Rattle.trying.specs.Trials.{wentOn, TrialTells, JoinsKept, triedOf, TriedAll}
 use Rattle.trying.specs.declared.joint.Joint.{Joint}
 use Rattle.trying.specs.declared.joint.Joint.the-variants.{Empty, Made, Over}

@@ -1,12 +1,11 @@
 -- `clash::clash_refusal` meets its contract: each test that does not apply leads to the next. Assumes nothing.
-use Rattle.words.proofs.Vocabulary.{ℕ, _+_, _<_, _≤_, _≡_, refl, sym, subst, _∙_, length, arith, needs}
+use Rattle.words.proofs.Vocabulary.{ℕ, _+_, _<_, _≤_, _≡_, sym, _∙_, length, arith, needs}
 use Rattle.refusals.specs.declared.Refusal.{Refusal}
-use Rattle.refusals.specs.declared.Refusal.the-variants.{Nothing, Plain, Placed}
+use Rattle.refusals.specs.declared.Refusal.the-variants.{Nothing}
 use Rattle.refusals.specs.Refusal.{tested}
 use Rattle.refusals.proofs.Refusals.{nothing-else, tested-stops, tested-passes, nothing-unplaced}
 use Rattle.rule_strip.specs.RuleStrip.{AcceptedRule, recordsOf}
 use Rattle.rule_strip.proofs.RuleLaws.{rule-accepted, checked-accepted, checked-refused}
-use Rattle.rules.specs.Room.{workRefusal}
 use Rattle.rules.proofs.Rooms.{work-stops, work-passes}
 use Rattle.parts.specs.Parts.{partsOf}
 use Rattle.clash.specs.Clashes.{partsRefusal, clashRefusal}

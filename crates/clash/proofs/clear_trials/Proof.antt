@@ -1,7 +1,5 @@
 -- `clash::clear_trials` meets its contract. Assumes nothing.
-use Rattle.words.proofs.Vocabulary.{_+_, _≡_, _≤_, _∙_, ap, arith, needs}
-use Rattle.rule_strip.specs.RuleStrip.{variablesOf}
-use Rattle.rules.specs.Room.{roomFor}
+use Rattle.words.proofs.Vocabulary.{_+_, _≡_, _∙_, ap, arith, needs}
 use Rattle.rules.proofs.Rooms.{room-same}
 use Rattle.rules.proofs.Rules.{rule-sizes}
 use Rattle.clash.specs.Clashes.{trialRoom}

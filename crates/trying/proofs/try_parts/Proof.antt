@@ -1,5 +1,5 @@
 -- `try_parts` meets its contract: one turn for each part. Assumes nothing.
-use Rattle.words.proofs.Vocabulary.{ℕ, _<_, _≤_, _-_, _∙_, refl, getD, needs, arith}
+use Rattle.words.proofs.Vocabulary.{_<_, _-_, _∙_, refl, getD, needs, arith}
 use Rattle.trying.proofs.Joints.{reached-below, part-is}
 use Rattle.trying.proofs.Tries.{Tries, tries-first, tries-done, tries-asks, tries-over, tries-dropped, kept-asks, tries-kept, confined-then}
 use Rattle.trying.proofs.try_parts.Statement.{statement}

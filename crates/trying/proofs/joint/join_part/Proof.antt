@@ -1,5 +1,5 @@
 -- `join_part` meets its contract. Assumes nothing.
-use Rattle.words.proofs.Vocabulary.{ℕ, subst, needs, arith}
+use Rattle.words.proofs.Vocabulary.{subst, needs, arith}
 use Rattle.building.specs.OneRecord.{keptIn}
 use Rattle.trying.specs.Trying.{Conjoins, SomeJoint, Confined}
 use Rattle.trying.specs.declared.joint.Joint.the-variants.{Made}

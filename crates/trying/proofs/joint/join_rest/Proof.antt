@@ -1,5 +1,5 @@
 -- `join_rest` meets its contract: one turn for each part. Assumes nothing.
-use Rattle.words.proofs.Vocabulary.{ℕ, _<_, _-_, _≤_, _≡_, refl, sym, needs, arith}
+use Rattle.words.proofs.Vocabulary.{_<_, _-_, _≤_, _≡_, refl, sym, arith}
 use Rattle.rule_strip.specs.RuleStrip.{countOf}
 use Rattle.rules.proofs.Rules.{rule-sizes}
 use Rattle.trying.proofs.Joints.{reached-below, part-is, Joining, joining-first, joining-asks, joining-next, joining-last}
