@@ -70,9 +70,8 @@ module _ {rule : List ℕ} {c room : ℕ} (w : Workable rule c room) where
     decoded : (r : ℕ) → r < length rs → getD xs r noDecoded ≡ decodedOf n (getD rs r noRecord)
     decoded r h = dec r (let l = long in omega arith)
 
-    -- the builder may be called on the strip's records
-    pub rule-buildable : ((0 < m) × (m ≤ 128)) × ((r : ℕ) → r < m → Buildable (getD xs r noDecoded) r (ruleShape rule c) room)
-    rule-buildable =
+    all-buildable : ((0 < m) × (m ≤ 128)) × ((r : ℕ) → r < m → Buildable (getD xs r noDecoded) r (ruleShape rule c) room)
+    all-buildable =
         let z = rule-sizes in
         let l = long in (
           (z .3, z .4),
@@ -83,6 +82,10 @@ module _ {rule : List ℕ} {c room : ℕ} (w : Workable rule c room) where
               (omega (arith, room-shares n m c rule-shaped, w .long))
               (subst (λ (x : Record). x .first < 128) (sym e) (wide .1)) (subst (λ (x : Record). x .second < 128) (sym e) (wide .2))),
         )
+
+    -- the builder may be called on the strip's records, so many as they are
+    pub rule-buildable : {k : ℕ} → k ≡ m → ((0 < k) × (k ≤ 128)) × ((r : ℕ) → r < k → Buildable (getD xs r noDecoded) r (ruleShape rule c) room)
+    rule-buildable e = rw e all-buildable
 
     outcome-is : upto xs (usedIn xs (length rs)) (ruleShape rule c) (length rs) ≡ upto xs (usedIn xs m) (ruleShape rule c) m
     outcome-is = ap (λ (j : ℕ). upto xs (usedIn xs j) (ruleShape rule c) j) long

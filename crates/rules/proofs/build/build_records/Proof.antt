@@ -10,8 +10,8 @@ build-all-requires : tie.Need-build-all-requires
 build-all-requires c κs =
     let m = c .before .before .before in
     let d = c .before .before .decode in
-    rw (c .shape-for .ensures, m .before .variables-of .ensures, m .count-of .ensures)
-    (rule-buildable (m .before .before .before .before .pre) (d .result) (rw (m .count-of .ensures) at (d .ensures)))
+    rw (c .shape-for .ensures, m .before .variables-of .ensures)
+    (rule-buildable (m .before .before .before .before .pre) (d .result) (rw (m .count-of .ensures) at (d .ensures)) (m .count-of .ensures))
 
 returns : tie.Need-returns
 returns c =
