@@ -3,10 +3,10 @@ ghost use mathlib.Core.Path.{_≡_};
 ghost use Prim.Native.Nat.{_+_, _≤_, _<_};
 ghost use mathlib.Core.List.{[], _∷_};
 ghost use mathlib.Core.Option.{some};
-ghost use lib.ListN.{length, take};
+ghost use lib.ListN.{length, set, take};
 ghost use Rattle.exploring.specs.Explore.{DistinctCodes, insert, over, row, ring};
-ghost use Rattle.exploring.specs.Filling.{Guided, listed, Noted, Visitable, Visited, Explored};
-ghost use Rattle.layout.specs.Shape.{labelsIn};
+ghost use Rattle.exploring.specs.Filling.{Guided, builderOf, listed, Noted, Visitable, Visited, Explored};
+ghost use Rattle.layout.specs.Shape.{labelsIn, placeIn};
 ghost use Rattle.table.specs.Rows.{Led, Serves};
 ghost use Rattle.table.specs.Succ.{PlanRoom, Ranged, succIn, startOf};
 use table::entries::wide;
@@ -74,6 +74,18 @@ fn locate(codes: &[u64; 64], count: usize, x: u64, hints: &mut [u8; 256]) -> usi
     at
 }
 
+// The place of a code is written to the table, for states i and j and label l.
+fn enter(ws: &mut [u8], p: Plan, l: usize, i: usize, j: usize, at: usize)
+    requires { ⌜ PlanRoom p (length (now ws)) ⌝ }
+    requires { ⌜ (l < labelsIn (p .shape)) × (i < p .shape .ceiling) × (j < p .shape .ceiling) × (at < 256) ⌝ }
+    ensures { λ _. ⌜ now (ws .exit) ≡ set (now (ws .entry)) (p .base + placeIn (p .shape) l (i ∷ j ∷ [])) at ⌝ }
+{
+    let shape = p.shape;
+    let base = p.base;
+    let k = base + layout::place(shape, l, i, j);
+    ws[k] = at as u8;
+}
+
 // The place of the code x is written to the table, for states i and j and label l. Nothing is done where there are too many codes.
 fn note(
     ws: &mut [u8],
@@ -93,14 +105,50 @@ fn note(
 {
     let shape = p.shape;
     let c = shape.ceiling;
-    let base = p.base;
     if c < count {
         return 0;
     }
     let at = locate(codes, count, x, hints);
-    let k = base + layout::place(shape, l, i, j);
-    ws[k] = at as u8;
+    enter(ws, p, l, i, j, at);
     at
+}
+
+// The pairs of state k with those up to k, both ways, under label l, where `right` and `left` have their successors: those before the first
+// that leads to a new code have their entries then. Which it is; k + 1 where there is none. So a label that finds nothing new, as most do,
+// needs the codes lent, and no copy of the builder.
+fn enter_known(
+    ws: &mut [u8],
+    p: Plan,
+    codes: &[u64; 64],
+    count: usize,
+    l: usize,
+    k: usize,
+    left: &[u64; 64],
+    right: &[u64; 64],
+    hints: &mut [u8; 256],
+) -> usize
+    requires { ⌜ PlanRoom p (length (now ws)) ⌝ }
+    requires { ⌜ Visitable p (builderOf (now codes) count) l k × (length (now codes) ≡ 64) ⌝ }
+    requires { ⌜ Serves (succIn (now ws) p) l (now codes) k (now left) (now right) ⌝ }
+    ensures { λ r. ⌜ r ≤ k + 1 ⌝ }
+    ensures { λ r. ⌜ Visited (succIn (now (ws .entry)) p) p (row l k r) (builderOf (now (codes .entry)) count) (builderOf (now (codes .entry)) count)
+        (now (ws .entry)) (now (ws .exit)) ⌝ }
+{
+    let mut i = 0;
+    while i <= k {
+        let at = locate(codes, count, right[i], hints);
+        if count <= at {
+            return i;
+        }
+        let to = locate(codes, count, left[i], hints);
+        if count <= to {
+            return i;
+        }
+        enter(ws, p, l, i, k, at);
+        enter(ws, p, l, k, i, to);
+        i += 1;
+    }
+    i
 }
 
 // The pairs of state k with those up to k, both ways, under label l, where `right` and `left` have their successors. The builder is
