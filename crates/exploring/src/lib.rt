@@ -5,9 +5,9 @@ ghost use mathlib.Core.List.{[], _∷_};
 ghost use mathlib.Core.Option.{some};
 ghost use lib.ListN.{length, set, take};
 ghost use Rattle.exploring.specs.Explore.{DistinctCodes, insert, over, row, ring};
-ghost use Rattle.exploring.specs.Filling.{Guided, builderOf, listed, Noted, Visitable, Visited, Explored};
-ghost use Rattle.layout.specs.Shape.{labelsIn, placeIn};
-ghost use Rattle.table.specs.Rows.{Led, Serves};
+ghost use Rattle.exploring.specs.Filling.{Cell, Guided, builderOf, listed, Noted, Visitable, Visited, Explored};
+ghost use Rattle.layout.specs.Shape.{labelsIn, placeIn, Each};
+ghost use Rattle.table.specs.Rows.{FullRows, Led, Serves};
 ghost use Rattle.table.specs.Succ.{PlanRoom, Ranged, succIn, startOf};
 use table::entries::wide;
 use table::plan::Kind;
@@ -151,27 +151,29 @@ fn enter_known(
     i
 }
 
-// The pairs of state k with those up to k, both ways, under label l, where `right` and `left` have their successors. The builder is
-// passed on for a new code alone.
+// The pairs of state k with those up to k, both ways, under label l, where `right` and `left` have their successors. Those before pair n
+// have their entries. The builder is passed on for a new code alone.
 fn visit_pairs(
     ws: &mut [u8],
     p: Plan,
     b: Builder,
     l: usize,
     k: usize,
+    n: usize,
     left: &[u64; 64],
     right: &[u64; 64],
     hints: &mut [u8; 256],
 ) -> Builder
     requires { ⌜ PlanRoom p (length (now ws)) ⌝ }
-    requires { ⌜ Visitable p b l k ⌝ }
+    requires { ⌜ Visitable p b l k × (n ≤ k + 1) ⌝ }
+    requires { ⌜ Each (Cell (succIn (now ws) p) p (listed (p .shape .ceiling) b) (now ws)) (row l k n) ⌝ }
     requires { ⌜ Serves (succIn (now ws) p) l (b .codes) k (now left) (now right) ⌝ }
     ensures { λ r. ⌜ Visited (succIn (now (ws .entry)) p) p (row l k (k + 1)) b r (now (ws .entry)) (now (ws .exit)) ⌝ }
 {
     let shape = p.shape;
     let c = shape.ceiling;
     let mut r = b;
-    let mut i = 0;
+    let mut i = n;
     while i <= k {
         let x = right[i];
         let at = note(ws, p, &r.codes, r.count, l, i, k, x, hints);
@@ -189,20 +191,28 @@ fn visit_pairs(
 }
 
 // The pairs of state k with those up to k, both ways, under every label: there is nothing to do for a label that the record does not
-// tell from an earlier one.
-fn visit_ring(ws: &mut [u8], p: Plan, b: Builder, k: usize, hints: &mut [u8; 256]) -> Builder
+// tell from an earlier one. The builder is passed on for a label with a new code alone. `left` and `right` may hold anything.
+fn visit_ring(
+    ws: &mut [u8],
+    p: Plan,
+    b: Builder,
+    k: usize,
+    left: &mut [u64; 64],
+    right: &mut [u64; 64],
+    hints: &mut [u8; 256],
+) -> Builder
     requires { ⌜ PlanRoom p (length (now ws)) ⌝ }
     requires { ⌜ (k < b .count) × (b .count ≤ p .shape .ceiling) ⌝ }
     requires { ⌜ Guided (take (p .base) (now ws)) p (listed (p .shape .ceiling) b) ⌝ }
+    requires { ⌜ FullRows (now left) (now right) ⌝ }
     ensures { λ r. ⌜ Visited (succIn (now (ws .entry)) p) p (ring k (labelsIn (p .shape))) b r (now (ws .entry)) (now (ws .exit)) ⌝ }
+    ensures { λ r. ⌜ FullRows (now (left .exit)) (now (right .exit)) ⌝ }
 {
     let shape = p.shape;
     let c = shape.ceiling;
     let base = p.base;
     let labels = layout::labels(shape);
     let looks = p.looks;
-    let mut left = [0u64; 64];
-    let mut right = [0u64; 64];
     let mut r = b;
     let mut l = 0;
     while l < labels {
@@ -210,8 +220,11 @@ fn visit_ring(ws: &mut [u8], p: Plan, b: Builder, k: usize, hints: &mut [u8; 256
             return r;
         }
         if l <= l & looks {
-            rows_of(&ws[..base], p, l, &r.codes, k, &mut left, &mut right);
-            r = visit_pairs(ws, p, r, l, k, &left, &right, hints);
+            rows_of(&ws[..base], p, l, &r.codes, k, left, right);
+            let n = enter_known(ws, p, &r.codes, r.count, l, k, left, right, hints);
+            if n <= k {
+                r = visit_pairs(ws, p, r, l, k, n, left, right, hints);
+            }
         }
         l += 1;
     }
@@ -227,6 +240,8 @@ fn build(ws: &mut [u8], p: Plan, start: u64) -> Builder
     let shape = p.shape;
     let c = shape.ceiling;
     let mut hints = [0u8; 256];
+    let mut left = [0u64; 64];
+    let mut right = [0u64; 64];
     let mut b = Builder {
         codes: [start; 64],
         count: 1,
@@ -236,7 +251,7 @@ fn build(ws: &mut [u8], p: Plan, start: u64) -> Builder
         if c < b.count {
             return b;
         }
-        b = visit_ring(ws, p, b, k, &mut hints);
+        b = visit_ring(ws, p, b, k, &mut left, &mut right, &mut hints);
         k += 1;
     }
     b

@@ -14,16 +14,16 @@ use Rattle.exploring.proofs.note.Reads as note-reads
 use Rattle.exploring.proofs.put.Reads as put-reads
 
 abbrev Inv-loop : tie.InvT-loop
-Inv-loop ws₀ p l k left right hints₀ c r₀ i₀ ws hints r i = (i ≤ k + 1) × Turn ws₀ ws left right p r₀ r l k (row l k i)
+Inv-loop ws₀ p l k n left right hints₀ c r₀ i₀ ws hints r i = (i ≤ k + 1) × Turn ws₀ ws left right p r₀ r l k (row l k i)
 
 abbrev μ-loop : tie.MeasureT-loop
-μ-loop ws₀ p l k left right hints₀ c r₀ i₀ ws hints r i = k + 1 - i
+μ-loop ws₀ p l k n left right hints₀ c r₀ i₀ ws hints r i = k + 1 - i
 
 loop-holds : tie.Need-loop-holds Inv-loop μ-loop
-unfolding row
 loop-holds c =
     let s = c .before .before in
-    (omega arith, begun 0 (s .pre .0) (s .pre .1 .0) (s .pre .1 .1) (id-length (s .args .b .codes) (s .good .1 .1 .0 .1 .1 .0 .1 .0 .1)) nil)
+    let full = id-length (s .args .b .codes) (s .good .1 .1 .0 .1 .1 .0 .1 .0 .1) in
+    (s .pre .1 .0 .1, begun (s .args .n) (s .pre .0) (s .pre .1 .0 .0) (s .pre .1 .1 .1) full (s .pre .1 .1 .0))
 
 -- the first of the two visits
 first : (c : lts.Joined1 (note-reads.Asked, note-reads.Learnt, put-reads.Asked, put-reads.Learnt) reads.Pre reads.Post Inv-loop μ-loop)
