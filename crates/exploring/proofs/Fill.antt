@@ -121,6 +121,19 @@ visited-next {succ} {p} {vs} {us} {b} f g = record {
   bare = λ q h. g .bare q h ∙ f .bare q (λ l is hs t. h l is hs (tuple-up (g .more) t));
 }
 
+-- visits that found nothing new, and others after them that make them again
+pub visited-after : {succ : Step} {p : Plan} {vs us : List Visit} {b r : Builder} {ws ws₁ ws₂ : List ℕ} → Visited succ p vs b b ws ws₁
+    → Visited succ p us b r ws₁ ws₂ → Visited succ p us b r ws ws₂
+visited-after f g = record {
+  more = g .more;
+  most = g .most;
+  list = g .list;
+  kept = record { low = g .kept .low ∙ f .kept .low; high = g .kept .high ∙ f .kept .high };
+  keeps = λ v k. g .keeps v (f .keeps v k);
+  cells = g .cells;
+  bare = λ q h. g .bare q h ∙ f .bare q (λ l is hs t. h l is hs (tuple-up (g .more) t));
+}
+
 -- a place that is not taken is that of a new code
 pub can-put : {p : Plan} {codes ws ws′ : List ℕ} {count x at : ℕ} {v : Visit} → Noted p codes count v x at ws ws′ → p .shape .ceiling ≤ 64 → count ≤ at
     → ((count ≤ p .shape .ceiling) × (p .shape .ceiling ≤ 64)) × (at ≡ position x (take count codes))

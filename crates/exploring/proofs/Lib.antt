@@ -6,3 +6,4 @@ pub mod Steps
 pub mod Fill
 pub mod Loops
 pub mod Guide
+pub mod Pairs

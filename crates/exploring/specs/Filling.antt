@@ -17,6 +17,10 @@ use Rattle.table.specs.declared.plan.Plan.{Plan}
 use Rattle.exploring.specs.Explore.{Visit, codesAt, visits, explore, DistinctCodes}
 use Rattle.exploring.specs.declared.Builder.{Builder}
 
+-- the builder whose codes are lent
+abbrev pub builderOf : List ℕ → ℕ → Builder
+builderOf codes count = record { codes = codes; count = count }
+
 -- the codes of a builder; none where there are more than c
 abbrev pub listed : ℕ → Builder → Option (List ℕ)
 listed c b = cond (leb (b .count) c) (some (take (b .count) (b .codes))) none

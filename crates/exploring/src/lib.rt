@@ -3,11 +3,11 @@ ghost use mathlib.Core.Path.{_≡_};
 ghost use Prim.Native.Nat.{_+_, _≤_, _<_};
 ghost use mathlib.Core.List.{[], _∷_};
 ghost use mathlib.Core.Option.{some};
-ghost use lib.ListN.{length, take};
+ghost use lib.ListN.{length, set, take};
 ghost use Rattle.exploring.specs.Explore.{DistinctCodes, insert, over, row, ring};
-ghost use Rattle.exploring.specs.Filling.{Guided, listed, Noted, Visitable, Visited, Explored};
-ghost use Rattle.layout.specs.Shape.{labelsIn};
-ghost use Rattle.table.specs.Rows.{Led, Serves};
+ghost use Rattle.exploring.specs.Filling.{Cell, Guided, builderOf, listed, Noted, Visitable, Visited, Explored};
+ghost use Rattle.layout.specs.Shape.{labelsIn, placeIn, Each};
+ghost use Rattle.table.specs.Rows.{FullRows, Led, Serves};
 ghost use Rattle.table.specs.Succ.{PlanRoom, Ranged, succIn, startOf};
 use table::entries::wide;
 use table::plan::Kind;
@@ -74,6 +74,18 @@ fn locate(codes: &[u64; 64], count: usize, x: u64, hints: &mut [u8; 256]) -> usi
     at
 }
 
+// The place of a code is written to the table, for states i and j and label l.
+fn enter(ws: &mut [u8], p: Plan, l: usize, i: usize, j: usize, at: usize)
+    requires { ⌜ PlanRoom p (length (now ws)) ⌝ }
+    requires { ⌜ (l < labelsIn (p .shape)) × (i < p .shape .ceiling) × (j < p .shape .ceiling) × (at < 256) ⌝ }
+    ensures { λ _. ⌜ now (ws .exit) ≡ set (now (ws .entry)) (p .base + placeIn (p .shape) l (i ∷ j ∷ [])) at ⌝ }
+{
+    let shape = p.shape;
+    let base = p.base;
+    let k = base + layout::place(shape, l, i, j);
+    ws[k] = at as u8;
+}
+
 // The place of the code x is written to the table, for states i and j and label l. Nothing is done where there are too many codes.
 fn note(
     ws: &mut [u8],
@@ -93,37 +105,75 @@ fn note(
 {
     let shape = p.shape;
     let c = shape.ceiling;
-    let base = p.base;
     if c < count {
         return 0;
     }
     let at = locate(codes, count, x, hints);
-    let k = base + layout::place(shape, l, i, j);
-    ws[k] = at as u8;
+    enter(ws, p, l, i, j, at);
     at
 }
 
-// The pairs of state k with those up to k, both ways, under label l, where `right` and `left` have their successors. The builder is
-// passed on for a new code alone.
+// The pairs of state k with those up to k, both ways, under label l, where `right` and `left` have their successors: those before the first
+// that leads to a new code have their entries then. Which it is; k + 1 where there is none. So a label that finds nothing new, as most do,
+// needs the codes lent, and no copy of the builder.
+fn enter_known(
+    ws: &mut [u8],
+    p: Plan,
+    codes: &[u64; 64],
+    count: usize,
+    l: usize,
+    k: usize,
+    left: &[u64; 64],
+    right: &[u64; 64],
+    hints: &mut [u8; 256],
+) -> usize
+    requires { ⌜ PlanRoom p (length (now ws)) ⌝ }
+    requires { ⌜ Visitable p (builderOf (now codes) count) l k × (length (now codes) ≡ 64) ⌝ }
+    requires { ⌜ Serves (succIn (now ws) p) l (now codes) k (now left) (now right) ⌝ }
+    ensures { λ r. ⌜ r ≤ k + 1 ⌝ }
+    ensures { λ r. ⌜ Visited (succIn (now (ws .entry)) p) p (row l k r) (builderOf (now (codes .entry)) count) (builderOf (now (codes .entry)) count)
+        (now (ws .entry)) (now (ws .exit)) ⌝ }
+{
+    let mut i = 0;
+    while i <= k {
+        let at = locate(codes, count, right[i], hints);
+        if count <= at {
+            return i;
+        }
+        let to = locate(codes, count, left[i], hints);
+        if count <= to {
+            return i;
+        }
+        enter(ws, p, l, i, k, at);
+        enter(ws, p, l, k, i, to);
+        i += 1;
+    }
+    i
+}
+
+// The pairs of state k with those up to k, both ways, under label l, where `right` and `left` have their successors. Those before pair n
+// have their entries. The builder is passed on for a new code alone.
 fn visit_pairs(
     ws: &mut [u8],
     p: Plan,
     b: Builder,
     l: usize,
     k: usize,
+    n: usize,
     left: &[u64; 64],
     right: &[u64; 64],
     hints: &mut [u8; 256],
 ) -> Builder
     requires { ⌜ PlanRoom p (length (now ws)) ⌝ }
-    requires { ⌜ Visitable p b l k ⌝ }
+    requires { ⌜ Visitable p b l k × (n ≤ k + 1) ⌝ }
+    requires { ⌜ Each (Cell (succIn (now ws) p) p (listed (p .shape .ceiling) b) (now ws)) (row l k n) ⌝ }
     requires { ⌜ Serves (succIn (now ws) p) l (b .codes) k (now left) (now right) ⌝ }
     ensures { λ r. ⌜ Visited (succIn (now (ws .entry)) p) p (row l k (k + 1)) b r (now (ws .entry)) (now (ws .exit)) ⌝ }
 {
     let shape = p.shape;
     let c = shape.ceiling;
     let mut r = b;
-    let mut i = 0;
+    let mut i = n;
     while i <= k {
         let x = right[i];
         let at = note(ws, p, &r.codes, r.count, l, i, k, x, hints);
@@ -141,20 +191,28 @@ fn visit_pairs(
 }
 
 // The pairs of state k with those up to k, both ways, under every label: there is nothing to do for a label that the record does not
-// tell from an earlier one.
-fn visit_ring(ws: &mut [u8], p: Plan, b: Builder, k: usize, hints: &mut [u8; 256]) -> Builder
+// tell from an earlier one. The builder is passed on for a label with a new code alone. `left` and `right` may hold anything.
+fn visit_ring(
+    ws: &mut [u8],
+    p: Plan,
+    b: Builder,
+    k: usize,
+    left: &mut [u64; 64],
+    right: &mut [u64; 64],
+    hints: &mut [u8; 256],
+) -> Builder
     requires { ⌜ PlanRoom p (length (now ws)) ⌝ }
     requires { ⌜ (k < b .count) × (b .count ≤ p .shape .ceiling) ⌝ }
     requires { ⌜ Guided (take (p .base) (now ws)) p (listed (p .shape .ceiling) b) ⌝ }
+    requires { ⌜ FullRows (now left) (now right) ⌝ }
     ensures { λ r. ⌜ Visited (succIn (now (ws .entry)) p) p (ring k (labelsIn (p .shape))) b r (now (ws .entry)) (now (ws .exit)) ⌝ }
+    ensures { λ r. ⌜ FullRows (now (left .exit)) (now (right .exit)) ⌝ }
 {
     let shape = p.shape;
     let c = shape.ceiling;
     let base = p.base;
     let labels = layout::labels(shape);
     let looks = p.looks;
-    let mut left = [0u64; 64];
-    let mut right = [0u64; 64];
     let mut r = b;
     let mut l = 0;
     while l < labels {
@@ -162,8 +220,11 @@ fn visit_ring(ws: &mut [u8], p: Plan, b: Builder, k: usize, hints: &mut [u8; 256
             return r;
         }
         if l <= l & looks {
-            rows_of(&ws[..base], p, l, &r.codes, k, &mut left, &mut right);
-            r = visit_pairs(ws, p, r, l, k, &left, &right, hints);
+            rows_of(&ws[..base], p, l, &r.codes, k, left, right);
+            let n = enter_known(ws, p, &r.codes, r.count, l, k, left, right, hints);
+            if n <= k {
+                r = visit_pairs(ws, p, r, l, k, n, left, right, hints);
+            }
         }
         l += 1;
     }
@@ -179,6 +240,8 @@ fn build(ws: &mut [u8], p: Plan, start: u64) -> Builder
     let shape = p.shape;
     let c = shape.ceiling;
     let mut hints = [0u8; 256];
+    let mut left = [0u64; 64];
+    let mut right = [0u64; 64];
     let mut b = Builder {
         codes: [start; 64],
         count: 1,
@@ -188,7 +251,7 @@ fn build(ws: &mut [u8], p: Plan, start: u64) -> Builder
         if c < b.count {
             return b;
         }
-        b = visit_ring(ws, p, b, k, &mut hints);
+        b = visit_ring(ws, p, b, k, &mut left, &mut right, &mut hints);
         k += 1;
     }
     b

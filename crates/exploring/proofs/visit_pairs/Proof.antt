@@ -1,18 +1,11 @@
 -- `visit_pairs` meets its contract. The invariant: the pairs of k with the states below i have their entries, both ways. Assumes nothing.
-use Rattle.words.proofs.Vocabulary.{ℕ, _≤_, _<_, _+_, _-_, _≡_, _∙_, refl, sym, subst, ⊎-elim, inl, inr, List, [], _∷_, _++_, length, take, arith}
-use Rattle.layout.specs.Shape.{labelsIn, Each, nil, cons}
-use Rattle.layout.proofs.Places.{id-length, each-append, tuple-up, pair-in}
-use Rattle.table.specs.Rows.{Serves}
-use Rattle.table.specs.Succ.{PlanRoom, succIn}
-use Rattle.table.specs.declared.plan.Plan.{Plan}
-use Rattle.exploring.specs.Explore.{Visit, DistinctCodes, codesAt, over, row}
-use Rattle.exploring.specs.Filling.{Noted, Visited, Visitable}
-use Rattle.exploring.specs.declared.Builder.{Builder}
-use Rattle.exploring.proofs.Fill.{can-put, PutIn, entered, visited-idle, visited-next}
-use Rattle.exploring.proofs.Found.{Proper, proper}
-use Rattle.exploring.proofs.Guide.{visited-apart}
-use Rattle.exploring.proofs.Loops.{row-more, code-later}
-use Rattle.exploring.proofs.Steps.{Sized}
+use Rattle.words.proofs.Vocabulary.{_≤_, _+_, _-_, _≡_, ⊎-elim, inl, inr, [], _∷_, _++_, arith}
+use Rattle.layout.specs.Shape.{nil}
+use Rattle.layout.proofs.Places.{id-length}
+use Rattle.exploring.specs.Explore.{over, row}
+use Rattle.exploring.proofs.Fill.{can-put}
+use Rattle.exploring.proofs.Loops.{row-more}
+use Rattle.exploring.proofs.Pairs.{Turn, can-note, made, begun}
 use Rattle.exploring.proofs.visit_pairs.Statement.{statement}
 use Rattle.exploring.proofs.visit_pairs.Tie as tie
 use Rattle.exploring.proofs.visit_pairs.Reads as reads
@@ -20,72 +13,17 @@ use Rattle.exploring.proofs.visit_pairs.Lts as lts
 use Rattle.exploring.proofs.note.Reads as note-reads
 use Rattle.exploring.proofs.put.Reads as put-reads
 
--- what holds once the visits vs are made
-record Turn (ws₀ ws left right : List ℕ) (p : Plan) (b r : Builder) (l k : ℕ) (vs : List Visit) : Type 0 where
-  pub start : Visitable p b l k
-  pub serves : Serves (succIn ws₀ p) l (b .codes) k left right
-  pub sized : Sized (p .shape .ceiling) b
-  pub long : length ws ≡ length ws₀
-  pub room : PlanRoom p (length ws)
-  pub full : length (r .codes) ≡ 64
-  pub all : Each (Proper (labelsIn (p .shape))) vs
-  pub visited : Visited (succIn ws₀ p) p vs b r ws₀ ws
-
--- the next visit, of states i and j up to k
-module _ {ws₀ ws left right : List ℕ} {p : Plan} {b r : Builder} {l k : ℕ} {vs : List Visit} (t : Turn ws₀ ws left right p b r l k vs) (i j : ℕ)
-    (hi : i ≤ k) (hj : j ≤ k) where
-  can-note : PlanRoom p (length ws) × (((l < labelsIn (p .shape)) × (i < r .count) × (j < r .count) × (length (r .codes) ≡ 64))
-      × (r .count ≤ p .shape .ceiling → DistinctCodes (take (r .count) (r .codes))))
-  can-note =
-      let there : k < r .count = omega (arith, t .visited .more, t .start .state) in
-      let apart : r .count ≤ p .shape .ceiling → DistinctCodes (take (r .count) (r .codes)) = λ few.
-      visited-apart (t .sized) (record { full = t .full; top = t .sized .top; few = few }) (t .all) (t .visited) (t .start .distinct) in
-      (t .room, ((t .start .label, omega arith, omega arith, t .full), apart))
-
-  made : {ws′ : List ℕ} {x at : ℕ} {s : Builder} → x ≡ succIn ws₀ p l (codesAt (b .codes) (i ∷ j ∷ []))
-      → Noted p (r .codes) (r .count) (over l i j) x at ws ws′ → length ws′ ≡ length ws → PutIn (p .shape .ceiling) x at r s
-      → Turn ws₀ ws′ left right p b s l k (vs ++ (over l i j ∷ []))
-  made ex noted same put =
-      let low : i < b .count = omega (arith, t .start .state) in
-      let high : j < b .count = omega (arith, t .start .state) in
-      let later = code-later l (t .sized) (t .visited) (cons low (cons high nil)) ex in
-      let there = tuple-up (t .visited .more) (pair-in (p .shape) (t .room .ranged .shape) low high) in
-      record {
-        start = t .start;
-        serves = t .serves;
-        sized = t .sized;
-        long = same ∙ t .long;
-        room = subst (PlanRoom p) (sym same) (t .room);
-        full = ⊎-elim (λ w. w .1) (λ w. rw (w .1) (t .full)) put;
-        all = each-append (t .all) (cons (proper (t .start .label)) nil);
-        visited = visited-next (t .visited) (entered (t .room) (t .room .blind (take (p .base) ws₀)) (t .start .label) (t .start .own) there
-            (t .visited .most) (t .full) later noted put);
-      }
-
 abbrev Inv-loop : tie.InvT-loop
-Inv-loop ws₀ p l k left right hints₀ c r₀ i₀ ws hints r i = (i ≤ k + 1) × Turn ws₀ ws left right p r₀ r l k (row l k i)
+Inv-loop ws₀ p l k n left right hints₀ c r₀ i₀ ws hints r i = (i ≤ k + 1) × Turn ws₀ ws left right p r₀ r l k (row l k i)
 
 abbrev μ-loop : tie.MeasureT-loop
-μ-loop ws₀ p l k left right hints₀ c r₀ i₀ ws hints r i = k + 1 - i
+μ-loop ws₀ p l k n left right hints₀ c r₀ i₀ ws hints r i = k + 1 - i
 
 loop-holds : tie.Need-loop-holds Inv-loop μ-loop
-unfolding row
 loop-holds c =
     let s = c .before .before in
-    let v = s .pre .1 .0 in
-    let full = id-length (s .args .b .codes) (s .good .1 .1 .0 .1 .1 .0 .1 .0 .1) in (
-      omega arith,
-      record {
-        start = v;
-        serves = s .pre .1 .1;
-        sized = record { full = full; top = s .pre .0 .ranged .shape .ceiling; few = v .few };
-        long = refl;
-        room = s .pre .0;
-        full = full;
-        all = nil;
-        visited = visited-idle [] (omega (arith, v .few)) nil;
-      },
-    )
+    let full = id-length (s .args .b .codes) (s .good .1 .1 .0 .1 .1 .0 .1 .0 .1) in
+    (s .pre .1 .0 .1, begun (s .args .n) (s .pre .0) (s .pre .1 .0 .0) (s .pre .1 .1 .1) full (s .pre .1 .1 .0))
 
 -- the first of the two visits
 first : (c : lts.Joined1 (note-reads.Asked, note-reads.Learnt, put-reads.Asked, put-reads.Learnt) reads.Pre reads.Post Inv-loop μ-loop)

@@ -11,7 +11,7 @@ use Rattle.table.specs.declared.plan.Plan.{Plan}
 use Rattle.exploring.specs.Explore.{row, ring}
 use Rattle.exploring.specs.Filling.{Guided, listed, Visitable, Visited}
 use Rattle.exploring.specs.declared.Builder.{Builder}
-use Rattle.exploring.proofs.Fill.{visited-idle}
+use Rattle.exploring.proofs.Fill.{visited-after, visited-idle}
 use Rattle.exploring.proofs.Guide.{ring-guided, guided-apart, guided-ready}
 use Rattle.exploring.proofs.Loops.{ring-next, ring-stopped, label-passed}
 use Rattle.exploring.proofs.Steps.{Sized}
@@ -56,10 +56,10 @@ module _ {ws₀ ws left right : List ℕ} {p : Plan} {b r : Builder} {k labels l
   can-visit own = record { label = hl; own = own; state = there; few = few; distinct = guided-apart low p (t .room .ranged .shape) sized guided }
 
 abbrev Inv-loop : tie.InvT-loop
-Inv-loop ws₀ p k hints₀ c base labels looks left₀ right₀ r₀ l₀ ws hints left right r l = Turn ws₀ ws left right p r₀ r k labels l
+Inv-loop ws₀ p k left₀ right₀ hints₀ c base labels looks r₀ l₀ ws left right hints r l = Turn ws₀ ws left right p r₀ r k labels l
 
 abbrev μ-loop : tie.MeasureT-loop
-μ-loop ws₀ p k hints₀ c base labels looks left₀ right₀ r₀ l₀ ws hints left right r l = labels - l
+μ-loop ws₀ p k left₀ right₀ hints₀ c base labels looks r₀ l₀ ws left right hints r l = labels - l
 
 loop-holds : tie.Need-loop-holds Inv-loop μ-loop
 unfolding ring
@@ -71,10 +71,10 @@ loop-holds c =
       within = omega arith;
       state = s .pre .1 .0 .0;
       sized = record { full = full; top = s .pre .0 .ranged .shape .ceiling; few = s .pre .1 .0 .1 };
-      guided = s .pre .1 .1;
+      guided = s .pre .1 .1 .0;
       long = refl;
       room = s .pre .0;
-      rows = record { left-long = refl; right-long = refl };
+      rows = s .pre .1 .1 .1;
       full = full;
       visited = visited-idle [] (omega (arith, s .pre .1 .0 .1)) nil;
     }
@@ -92,13 +92,24 @@ rows-of-requires c κs =
     let less = t .before .loop-test .taken in
     (i .room .ranged, ((hl i few less, omega (arith, there i few less, i .sized .top)), (ready i few less, i .rows)))
 
+enter-known-requires : tie.Need-enter-known-requires Inv-loop μ-loop
+unfolding seen
+enter-known-requires c κs =
+    let t = c .before .before .before .before .before .before .before .before .before .before .before .before in
+    let i = t .before .before .before .loop .inv in
+    let v = can-visit i (t .before .if1 .left) (t .before .before .loop-test .taken) (t .if2 .taken) in
+    (i .room, ((v, i .full), c .before .before .before .before .before .before .rows-of .ensures .1))
+
 visit-pairs-requires : tie.Need-visit-pairs-requires Inv-loop μ-loop
 unfolding seen
 visit-pairs-requires c κs =
-    let t = c .before .before .before .before .before .before .before .before .before .before in
+    let t = c .before .before .before .before .before .before .before .before .before .before .before .before .before .before .before .before .before .before .before .before in
     let i = t .before .before .before .loop .inv in
     let v = can-visit i (t .before .if1 .left) (t .before .before .loop-test .taken) (t .if2 .taken) in
-    (i .room, (v, c .before .before .before .before .rows-of .ensures .1))
+    let e = c .before .before .before .before .before .before .before .enter-known in
+    let f = e .ensures .1 in
+    let room = subst (PlanRoom _) (sym (e .kept .0)) (i .room) in
+    (room, ((v, e .ensures .0), (rw (f .kept .low) (f .cells), rw (f .kept .low) (c .before .before .before .before .before .before .before .before .before .before .before .before .before .before .rows-of .ensures .1))))
 
 loop-again : tie.Need-loop-again Inv-loop μ-loop
 unfolding seen
@@ -111,12 +122,20 @@ loop-again c =
     × Visited (succIn (a .ws .now) (a .p)) (a .p) (row (h .l) (a .k) (a .k + 1)) (h .r) (new .r) (h .ws) (new .ws) =
     ⊎-elim
     (λ w.
-    let v = w .11 in
-    let rowed = rw (i .visited .kept .low) at (v .ensures) in
-    rw (w .14, w .16, w .17, w .18) (v .kept .0, w .6 .ensures .0, id-length (v .result .codes) (v .ok .1 .1 .0 .1 .0 .1), rowed))
+    let known = rw (i .visited .kept .low) at (w .13 .ensures .1) in
+    let v = w .21 in
+    let rowed = rw (known .kept .low, i .visited .kept .low) at (v .ensures) in
+    rw (w .24, w .25, w .26, w .28)
+    (v .kept .0 ∙ w .13 .kept .0, w .6 .ensures .0, id-length (v .result .codes) (v .ok .1 .1 .0 .1 .0 .1), visited-after known rowed))
+    (⊎-elim
+    (λ w.
+    let e = w .13 in
+    let known = rw (i .visited .kept .low) at (e .ensures .1) in
+    let all : e .result ≡ a .k + 1 = omega (arith, e .ensures .0, w .16 .left) in
+    rw (w .17, w .18, w .19, w .21) (e .kept .0, w .6 .ensures .0, i .full, rw all at known))
     (λ w.
     let passed = label-passed (a .k) (h .l) (i .room .blind (take (a .p .base) (a .ws .now))) (i .visited .most) (w .0 .left) (i .visited .cells) in
-    rw (w .1, w .3, w .4, w .5) (refl, i .rows, i .full, passed))
+    rw (w .1, w .2, w .3, w .5) (refl, i .rows, i .full, passed)))
     (c .if2 .came) in
     record {
       count = i .count;
@@ -132,17 +151,17 @@ loop-again c =
     }
 
 returns : tie.Need-returns Inv-loop μ-loop
-returns c = let i = c .before .before .loop .inv in ring-stopped _ _ _ (omega (arith, i .within, i .count)) (c .if1 .taken) (i .visited)
+returns c = let i = c .before .before .loop .inv in (ring-stopped _ _ _ (omega (arith, i .within, i .count)) (c .if1 .taken) (i .visited), i .rows)
 
 returns-2 : tie.Need-returns-2 Inv-loop μ-loop
 returns-2 c =
     let h = c .before .loop in
     let e : h .l ≡ labelsIn (c .before .before .before .before .before .args .p .shape) = omega (arith, h .inv .within, h .inv .count) in
-    rw e at (h .inv .visited)
+    (rw e at (h .inv .visited), h .inv .rows)
 
 pub visit-ring-spec : {M : Type 1} → statement M
 visit-ring-spec =
     tie.close
     (tie.spec Inv-loop μ-loop (λ c κs. c .before .before .pre .0 .ranged .shape) loop-holds (λ c. c .before .before .loop .inv .long) returns
-    (λ c. omega arith) slice-aggregate-rows-of rows-of-requires visit-pairs-requires (λ c. omega arith) (λ c. omega arith) loop-again
+    (λ c. omega arith) slice-aggregate-rows-of rows-of-requires enter-known-requires visit-pairs-requires (λ c. omega arith) (λ c. omega arith) loop-again
     (λ c. c .before .loop .inv .long) returns-2)
