@@ -105,25 +105,3 @@ fresh-distinct b (x ∷ L) = go (elem x b) (fresh-distinct b L) (fresh-distinct 
     go : (v : Bool) → Distinct (fresh b L) → Distinct (fresh (x ∷ b) L) → Distinct (cond v (fresh b L) (x ∷ fresh (x ∷ b) L))
     go true d e = d
     go false d e = (λ t. not-false (((fresh-iff x (x ∷ b) L) .0 t) .1) (elem-first x b), e)
-
--- of two lists after each other: the first's, then the second's without those of the first
-pub fresh-append : (b K L : List ℕ) → fresh b (K ++ L) ≡ fresh b K ++ fresh (K ++ b) L
-unfolding fresh
-fresh-append b [] L = refl
-fresh-append b (x ∷ K) L = go (elem x b) refl (fresh-append b K L) (fresh-append (x ∷ b) K L)
-  where
-    known : T (elem x b) → (y : ℕ) → elem y (K ++ b) ≡ elem y (x ∷ (K ++ b))
-    known t y = T-ext (elem y (K ++ b)) (elem y (x ∷ (K ++ b))) (elem-later y x (K ++ b))
-        (λ m. ⊎-elim (λ e. subst (λ (z : ℕ). T (elem z (K ++ b))) (sym e) ((elem-append x K b) .1 (inr t))) (λ u. u) ((elem-cons y x (K ++ b)) .0 m))
-
-    turned : (y : ℕ) → elem y (K ++ (x ∷ b)) ≡ elem y (x ∷ (K ++ b))
-    turned y =
-        let i = elem-append y K (x ∷ b) in let j = elem-append y K b in let h = elem-cons y x b in let g = elem-cons y x (K ++ b) in
-        T-ext (elem y (K ++ (x ∷ b))) (elem y (x ∷ (K ++ b)))
-        (λ m. g .1 (⊎-elim (λ u. inr (j .1 (inl u))) (λ u. ⊎-elim inl (λ v. inr (j .1 (inr v))) (h .0 u)) (i .0 m)))
-        (λ m. i .1 (⊎-elim (λ e. inr (h .1 (inl e))) (λ u. ⊎-elim inl (λ v. inr (h .1 (inr v))) (j .0 u)) (g .0 m)))
-
-    go : (v : Bool) → elem x b ≡ v → fresh b (K ++ L) ≡ fresh b K ++ fresh (K ++ b) L → fresh (x ∷ b) (K ++ L) ≡ fresh (x ∷ b) K ++ fresh (K ++ (x ∷ b)) L
-        → cond v (fresh b (K ++ L)) (x ∷ fresh (x ∷ b) (K ++ L)) ≡ cond v (fresh b K) (x ∷ fresh (x ∷ b) K) ++ fresh (x ∷ (K ++ b)) L
-    go true e p q = p ∙ ap (λ (M : List ℕ). fresh b K ++ M) (fresh-cong (K ++ b) (x ∷ (K ++ b)) L (λ y m. known (true→T e) y))
-    go false e p q = ap (λ (M : List ℕ). x ∷ M) (q ∙ ap (λ (M : List ℕ). fresh (x ∷ b) K ++ M) (fresh-cong (K ++ (x ∷ b)) (x ∷ (K ++ b)) L (λ y m. turned y)))

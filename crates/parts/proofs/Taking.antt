@@ -71,10 +71,6 @@ pub record Going (rs : List Record) (s : Taking) : Type 0 where
   -- the stack has at most as many entries as the rule has records
   pub depth : length (s .stack) + unmarked (length rs) (0 ∷ s .marked) ≤ length rs
 
--- so a stack of as many entries as there are records is enough
-pub stack-fits : (rs : List Record) (s : Taking) → Going rs s → length (s .stack) ≤ length rs
-stack-fits rs s I = let d = I .depth in omega arith
-
 -- the loop's measure
 abbrev pub left : List Record → Taking → ℕ
 left rs s = 2 * unmarked (length rs) (s .marked) + length (s .stack)
