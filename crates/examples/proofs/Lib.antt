@@ -3,3 +3,4 @@ pub mod Deep
 pub mod Leftovers
 pub mod Printed
 pub mod Places
+pub mod Clashes
