@@ -58,6 +58,13 @@ module _ {ws₀ ws left right : List ℕ} {p : Plan} {b r : Builder} {l k : ℕ}
             (t .visited .most) (t .full) later noted put);
       }
 
+  -- a place among the codes can be written
+  pub can-enter : {at : ℕ} → at < b .count
+      → PlanRoom p (length ws) × ((l < labelsIn (p .shape)) × (i < p .shape .ceiling) × (j < p .shape .ceiling) × (at < 256))
+  can-enter h =
+      let v = t .start in
+      (t .room, (v .label, omega (arith, v .state, v .few), omega (arith, v .state, v .few), omega (arith, v .few, t .sized .top)))
+
   -- the code that follows is known: its place is written, and the builder stays
   pub known : {ws′ : List ℕ} {x at : ℕ} → x ≡ succIn ws₀ p l (codesAt (b .codes) (i ∷ j ∷ [])) → r .count ≤ p .shape .ceiling
       → at ≡ position x (take (r .count) (r .codes)) → at < r .count → ws′ ≡ set ws (p .base + placeIn (p .shape) l (i ∷ j ∷ [])) at

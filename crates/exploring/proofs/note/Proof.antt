@@ -21,7 +21,8 @@ enter-requires c κs =
 
 returns-2 : tie.Need-returns-2
 returns-2 c =
-    record { found = λ h. c .before .before .before .before .locate .ensures; written = λ h. c .before .before .enter .ensures; passed = λ h. absurd (omega arith) }
+    let s = c .before .before in
+    record { found = λ h. s .before .before .locate .ensures; written = λ h. s .enter .ensures; passed = λ h. absurd (omega arith) }
 
 pub note-spec : {M : Type 1} → statement M
 note-spec = tie.close (tie.spec returns locate-requires enter-requires (λ c. search needs) returns-2)

@@ -1,6 +1,5 @@
 -- `visit_pairs` meets its contract. The invariant: the pairs of k with the states below i have their entries, both ways. Assumes nothing.
 use Rattle.words.proofs.Vocabulary.{_≤_, _+_, _-_, _≡_, ⊎-elim, inl, inr, [], _∷_, _++_, arith}
-use Rattle.layout.specs.Shape.{nil}
 use Rattle.layout.proofs.Places.{id-length}
 use Rattle.exploring.specs.Explore.{over, row}
 use Rattle.exploring.proofs.Fill.{can-put}

@@ -103,13 +103,15 @@ enter-known-requires c κs =
 visit-pairs-requires : tie.Need-visit-pairs-requires Inv-loop μ-loop
 unfolding seen
 visit-pairs-requires c κs =
-    let t = c .before .before .before .before .before .before .before .before .before .before .before .before .before .before .before .before .before .before .before .before in
+    let s = c .before .before .before .before .before .before .before in
+    let rowed = s .before .before .before .before .before .before .before in
+    let t = rowed .before .before .before .before .before .before in
     let i = t .before .before .before .loop .inv in
     let v = can-visit i (t .before .if1 .left) (t .before .before .loop-test .taken) (t .if2 .taken) in
-    let e = c .before .before .before .before .before .before .before .enter-known in
+    let e = s .enter-known in
     let f = e .ensures .1 in
     let room = subst (PlanRoom _) (sym (e .kept .0)) (i .room) in
-    (room, ((v, e .ensures .0), (rw (f .kept .low) (f .cells), rw (f .kept .low) (c .before .before .before .before .before .before .before .before .before .before .before .before .before .before .rows-of .ensures .1))))
+    (room, ((v, e .ensures .0), (rw (f .kept .low) (f .cells), rw (f .kept .low) (rowed .rows-of .ensures .1))))
 
 loop-again : tie.Need-loop-again Inv-loop μ-loop
 unfolding seen
