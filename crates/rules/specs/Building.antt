@@ -38,7 +38,7 @@ pub record MachineFor (rule : List ℕ) (c : ℕ) (ws : List ℕ) (r : ℕ) (k :
   pub decides : MachineOf (variablesOf rule) f (machOf (readable .machine))
   pub full : Full (variablesOf rule) (length (readable .machine .codes)) (machOf (readable .machine))
 
--- the machines of the records that are reached, of which the entries of t are kept, stand in their shares
+-- the machines of the records that are reached stand in their shares, and es is what is kept of them
 abbrev pub ReachedBuilt : List ℕ → ℕ → (ℕ → Summary) → List ℕ → Type 0
 ReachedBuilt rule c es ws = (r : ℕ) → ReachedRecord (recordsOf rule) r → MachineFor rule c ws r (es r) (formulaAt (recordsOf rule) r)
 
