@@ -1,6 +1,6 @@
 /* ws2s.h - decide rules of WS2S, the weak second-order logic of two
  * successors, judge trees against them, tell which requirements of a rule clash,
- * and import rules typed as text.
+ * import rules typed as text, and join two rules into one.
  *
  * Rules and trees are strips: bit-packed bytes, most significant bit first,
  * padded with zero bits to a whole byte.
@@ -64,7 +64,7 @@
  *
  * Stack and time are measured, on a machine of 2026, not proved.
  *
- * What the seven functions return, and what they leave in the buffers, is proved
+ * What the eight functions return, and what they leave in the buffers, is proved
  * for all inputs. What is static inline here is plain C, and tested.
  */
 #ifndef WS2S_H
@@ -77,14 +77,14 @@
 extern "C" {
 #endif
 
-#define WS2S_VERSION "2.4.0"
+#define WS2S_VERSION "2.5.0"
 
 /* Limits. Buffers of these sizes serve every rule and every tree. */
 #define WS2S_MAX_VARIABLES 8
 #define WS2S_MAX_RECORDS 128
 #define WS2S_MAX_STATES 64             /* the highest c; also a stack for every shown tree */
 #define WS2S_MAX_POSITIONS 255         /* the highest P; nodes of a tree */
-#define WS2S_MAX_RULE_BYTES 290        /* also the out buffer that ws2s_import asks for */
+#define WS2S_MAX_RULE_BYTES 290        /* also the out buffer that ws2s_import and ws2s_join ask for */
 #define WS2S_MAX_TREE_BYTES 320        /* also the longest out buffer asked for */
 #define WS2S_MAX_WORKSPACE 134217728   /* of ws2s_judge and ws2s_decide: 128 MiB */
 #define WS2S_MAX_CLASH_WORKSPACE 149946368 /* of ws2s_clash: 143 MiB */
@@ -115,7 +115,8 @@ enum {
  * length is 8 for each byte handed in, and 2^64 - 1 where that would be more.
  *
  * A text's refusals, 23 to 26, have no such place; ws2s_text_fault tells the token
- * of 23 to 25. */
+ * of 23 to 25. Where two strips are handed in, "strip" of the result tells which of
+ * them a place is in. */
 enum {
     WS2S_REFUSED_RULE_SHORT = 1,       /* rule strip of fewer than two bytes [the bit length] */
     WS2S_REFUSED_RULE_VERSION = 2,     /* rule strip of a version other than 1 [0] */
@@ -153,7 +154,8 @@ enum {
     WS2S_REFUSED_TEXT_RECORDS = 26,    /* text that makes more than 128 records */
     WS2S_REFUSED_RULE_OUT = 27,        /* out buffer shorter than 290 bytes, for a rule strip */
     WS2S_REFUSED_PARTS = 28,           /* rule with more than 16 parts, to be asked which clash */
-    WS2S_REFUSED_SATISFIABLE = 29      /* rule that can be satisfied, asked which of its parts clash */
+    WS2S_REFUSED_SATISFIABLE = 29,     /* rule that can be satisfied, asked which of its parts clash */
+    WS2S_REFUSED_JOINED_RECORDS = 30   /* two rules to be joined, with more than 127 records together */
 };
 
 /* In every result the fields that do not apply are 0. "place" applies where a
@@ -193,9 +195,9 @@ typedef struct {
     uint64_t kind, refusal, record, place, count, parts[16];
 } ws2s_clash_list;
 
-/* What is written of a text: refusal 0 if it is accepted, then n, m and the length
- * of the rule strip in bytes; else the refusal, 23 to 27. place and strip are 0:
- * what is handed in is no strip. */
+/* What is written, by ws2s_import or ws2s_join: refusal 0 if all is accepted, then n,
+ * m and the length of the rule strip in bytes; else the refusal. Of ws2s_join, with
+ * 1 to 10, "strip" tells which of the two is at fault, 1 or 2, and place where. */
 typedef struct {
     uint64_t refusal, variables, records, length, place, strip;
 } ws2s_written;
@@ -288,6 +290,22 @@ ws2s_written ws2s_import(const uint8_t *text, size_t text_len, uint8_t *out, siz
  * there is no token: start and length are 0. */
 ws2s_fault ws2s_text_fault(const uint8_t *text, size_t text_len);
 
+/* Joins two rules whose variables mean the same by the same numbers: writes one rule
+ * strip, over the larger n, with the first rule's records as they are, the second's
+ * with the record numbers in them moved up by the first's m (variables are not: that
+ * of "exists" neither), and one "and" of the two last records, the first rule's as its
+ * first field. Sets satisfy it exactly if as many of them, from variable 0 on, as the
+ * first rule has variables satisfy the first rule, and as many as the second has
+ * satisfy the second.
+ *
+ * out needs WS2S_MAX_RULE_BYTES, however short the result is. Refusals in order: 1 to
+ * 10 of the first rule; 1 to 10 of the second; 30, if the first's m, the second's and
+ * 1 add to more than 128; 27. After a refusal out is unchanged; else the strip is the
+ * first "length" bytes of out, later ones are unchanged, and ws2s_check_rule accepts
+ * it with the same n and m. The two rules may be the same bytes, or overlap. */
+ws2s_written ws2s_join(const uint8_t *first, size_t first_len, const uint8_t *second, size_t second_len,
+                       uint8_t *out, size_t out_len);
+
 /* The bytes of workspace that ws2s_judge and ws2s_decide ask for, of a rule that
  * ws2s_check_rule accepted; 0 for any other, and for a c that they refuse. */
 static inline size_t ws2s_workspace_size(ws2s_rule rule, uint64_t c)
@@ -350,6 +368,7 @@ static inline const char *ws2s_refusal_text(uint64_t refusal)
     case WS2S_REFUSED_RULE_OUT: return "the out buffer is too short for a rule";
     case WS2S_REFUSED_PARTS: return "more than 16 requirements are joined by \"and\"";
     case WS2S_REFUSED_SATISFIABLE: return "the rule can be satisfied, so no requirements clash";
+    case WS2S_REFUSED_JOINED_RECORDS: return "the two rules have more than 127 records together";
     default: return "no such refusal";
     }
 }
@@ -387,6 +406,7 @@ static inline const char *ws2s_refusal_help(uint64_t refusal)
     case WS2S_REFUSED_RULE_OUT: return "lend 290 bytes";
     case WS2S_REFUSED_PARTS: return "ask about a rule with some of them";
     case WS2S_REFUSED_SATISFIABLE: return "decide it, to be shown how";
+    case WS2S_REFUSED_JOINED_RECORDS: return "shorten one of them: the \"and\" that joins them is the 128th record";
     default: return "";
     }
 }
