@@ -21,6 +21,7 @@ pub mod Settle
 pub mod Depth
 pub mod Rules
 pub mod Assignments
+pub mod FirstSets
 pub mod Answers
 pub mod Leftovers
 pub mod Alike

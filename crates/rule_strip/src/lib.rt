@@ -39,7 +39,7 @@ pub enum RuleCheck {
 }
 
 // What a field of a record holds: a variable, an earlier record's number, or nothing.
-enum Use {
+pub enum Use {
     Variable,
     Earlier,
     Unused,
@@ -70,14 +70,14 @@ const SECOND_USE: [Use; 9] = [
     Use::Earlier,
 ];
 
-fn first_use(op: usize) -> Use
+pub fn first_use(op: usize) -> Use
     requires { ⌜ op < 9 ⌝ }
     ensures { λ r. ⌜ r ≡ firstUse op ⌝ }
 {
     FIRST_USE[op]
 }
 
-fn second_use(op: usize) -> Use
+pub fn second_use(op: usize) -> Use
     requires { ⌜ op < 9 ⌝ }
     ensures { λ r. ⌜ r ≡ secondUse op ⌝ }
 {

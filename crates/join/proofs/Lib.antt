@@ -1,0 +1,3 @@
+pub mod JoinedRule
+pub mod Words
+pub mod Joining

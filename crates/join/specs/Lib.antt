@@ -1,0 +1,3 @@
+pub mod JoinedRule
+pub mod Joining
+pub mod Numbers
