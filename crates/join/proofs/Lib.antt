@@ -1,3 +1,4 @@
 pub mod JoinedRule
 pub mod Words
 pub mod Joining
+pub mod InNumbers

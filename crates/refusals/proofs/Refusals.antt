@@ -27,6 +27,11 @@ tested-stops k later h = rw (ne-eqb k 0 h)
 pub tested-passes : {k : ℕ} (later : Refusal) → k ≡ 0 → later ≡ tested k later
 tested-passes later h = rw h
 
+-- no test refuses with the number 0
+pub tested-some : (j : ℕ) (later : Refusal) → (later ≡ Plain 0 → ⊥) → tested j later ≡ Plain 0 → ⊥
+tested-some zero later h e = h e
+tested-some (suc j) later h e = let f : Plain (suc j) ≡ Plain 0 = rw eqb·suc-zero at e in let z : suc j ≡ 0 = cc in omega arith
+
 -- a refusal with a place is a strip's
 module _ {k p : ℕ} where
   pub nothing-unplaced : Nothing ≡ Placed k p → ⊥

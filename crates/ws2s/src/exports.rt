@@ -16,6 +16,8 @@ ghost use Rattle.text.specs.Grammar.{textOf};
 ghost use Rattle.text.specs.Import.{import, outAfterImport};
 ghost use Rattle.import.specs.Answers.{importedOf, faultOf};
 ghost use Rattle.import.specs.Numbers.{writtenNumbers, faultNumbers, ImportedInNumbers};
+ghost use Rattle.join.specs.Joining.{joinOf, outAfterJoin};
+ghost use Rattle.join.specs.Numbers.{joinNumbers, JoinedInNumbers};
 use clash::numbers::ClashNumbers;
 use clash::numbers::clash_numbers;
 use decide::numbers::VerdictNumbers;
@@ -23,6 +25,7 @@ use decide::numbers::verdict_numbers;
 use import::numbers::FaultNumbers;
 use import::numbers::fault_numbers;
 use import::numbers::written_numbers;
+use join::numbers::join_numbers;
 use judge::numbers::JudgementNumbers;
 use judge::numbers::judgement_numbers;
 use rule_strip::numbers::RuleNumbers;
@@ -108,4 +111,14 @@ pub extern "C" fn ws2s_text_fault(text: &[u8]) -> FaultNumbers
     ensures { λ r. ⌜ r ≡ faultNumbers (faultOf (textOf (now (text .entry)))) ⌝ }
 {
     fault_numbers(import::text_fault(text))
+}
+
+// Two rules with agreed variable numbers, written as one rule strip at the front of out.
+#[no_mangle]
+pub extern "C" fn ws2s_join(first: &[u8], second: &[u8], out: &mut [u8]) -> WrittenNumbers
+    ensures { λ r. ⌜ r ≡ joinNumbers (joinOf (now (first .entry)) (now (second .entry)) (length (now (out .entry)))) ⌝ }
+    ensures { λ _. ⌜ now (out .exit) ≡ outAfterJoin (now (first .entry)) (now (second .entry)) (now (out .entry)) ⌝ }
+    ensures { λ r. ⌜ JoinedInNumbers (now (first .entry)) (now (second .entry)) r (now (out .exit)) ⌝ }
+{
+    join_numbers(join::join(first, second, out))
 }

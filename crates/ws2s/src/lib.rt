@@ -1,2 +1,2 @@
-// The library for C: both strip checks, judge, decide and import, with their answers as numbers.
+// The library for C: both strip checks, judge, decide, clash, import and join, with their answers as numbers.
 pub mod exports; // the C interface
