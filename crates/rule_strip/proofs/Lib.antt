@@ -2,4 +2,5 @@ pub mod RuleChecks
 pub mod RuleLaws
 pub mod RulePlaces
 pub mod RuleWriting
+pub mod RuleBytes
 pub mod InNumbers
