@@ -12,7 +12,7 @@ use lib.Pow.{shr-shr, mod-pow-add, mod-mod-pow, high, low}
 use lib.Pow.{field as Pow-field}
 use lib.ListN.{length, getD, set, take, drop, length-append, length-drop, take-append-drop, length-set, List·getD-append}
 use lib.Seq.{getD-append-add, set-append-left, ext-getD, getD-set-same, getD-set-other, take-suc, sets, length-take-le, drop-append-le, take-append-le}
-use lib.Seq.{drop-append-add}
+use lib.Seq.{drop-append-add, getD-take, getD-drop}
 use lib.Bits.{bitOr}
 use Rattle.bits.proofs.Digits.{bit, same}
 use Rattle.bits.proofs.Digits.{with-bit, bit-lt}
@@ -156,16 +156,25 @@ inner : (b j : ℕ) (xs ys : List ℕ) → j + b ≤ length xs → take b (drop 
 inner b j xs ys h =
     ap (take b) (drop-append-le j xs ys (omega arith)) ∙ take-append-le b (drop j xs) ys (omega (arith, length-drop j xs))
 
--- two bytes as sixteen digits
-pair : (x y : ℕ) → y < 256 → digits 8 x ++ digits 8 y ≡ digits 16 (x * 256 + y)
-pair x y h =
-    sym (digits-split 8 8 (x * 256 + y)
-    ∙ ap₂ (λ (k l : List ℕ). k ++ l) (ap (digits 8) (high x 8 h)) (sym (digits-low 8 0 (x * 256 + y)) ∙ ap (digits 8) (low x 8 h)))
+-- two runs of digits as one
+pub join : (a b x y : ℕ) → y < 2 ^ b → digits a x ++ digits b y ≡ digits (a + b) (x * 2 ^ b + y)
+join a b x y h =
+    sym (digits-split a b (x * 2 ^ b + y)
+    ∙ ap₂ (λ (k l : List ℕ). k ++ l) (ap (digits a) (high x b h)) (sym (digits-low b 0 (x * 2 ^ b + y)) ∙ ap (digits b) (rw zero-add (low x b h))))
 
-field-in : (w j b : ℕ) → j + b ≤ 16 → take b (drop j (digits 16 w)) ≡ digits b (w / 2 ^ (16 - j - b))
-field-in w j b h =
-    let e : 16 ≡ j + (b + (16 - j - b)) = omega arith in
-    ap (λ (n : ℕ). take b (drop j (digits n w))) e ∙ ap (take b) (digits-drop j (b + (16 - j - b)) w) ∙ digits-take b (16 - j - b) w
+-- b of the n digits of w
+field-in : (n w j b : ℕ) → j + b ≤ n → take b (drop j (digits n w)) ≡ digits b (w / 2 ^ (n - j - b))
+field-in n w j b h =
+    let e : n ≡ j + (b + (n - j - b)) = omega arith in
+    ap (λ (k : ℕ). take b (drop j (digits k w))) e ∙ ap (take b) (digits-drop j (b + (n - j - b)) w) ∙ digits-take b (n - j - b) w
+
+-- a byte out of two numbers of w bits, one after the other
+pub across : (w r x y j : ℕ) → y < 2 ^ w → r + 8 ≤ w + w → j < 8
+    → getD (digits 8 ((x * 2 ^ w + y) / 2 ^ (w + w - r - 8) % 256)) j 0 ≡ getD (digits w x ++ digits w y) (r + j) 0
+across w r x y j h l k =
+    let P = x * 2 ^ w + y in
+    ap (λ (d : List ℕ). getD d j 0) (digits-low 8 0 (P / 2 ^ (w + w - r - 8)) ∙ sym (field-in (w + w) P r 8 l)
+    ∙ ap (λ (d : List ℕ). take 8 (drop r d)) (sym (join w w x y h))) ∙ getD-take 8 (drop r (digits w x ++ digits w y)) j 0 k ∙ getD-drop r (digits w x ++ digits w y) j 0
 
 from-zero : (p v : ℕ) → 0 * p + v ≡ v
 from-zero p v = omega arith
@@ -178,13 +187,13 @@ window (x ∷ []) zero j b h l m r g =
     let e : 8 * 0 + j ≡ j = omega arith in
     let n = length-digits 8 x in
     rw e (ap (number 0) (inner b j (digits 8 x) [] (omega arith) ∙ sym (inner b j (digits 8 x) (digits 8 0) (omega arith))
-    ∙ ap (λ (k : List ℕ). take b (drop j k)) (pair x 0 (lit< tt)) ∙ field-in (x * 256 + 0) j b (omega arith)) ∙ number-digits 0 b _ ∙ from-zero (2 ^ b) _)
+    ∙ ap (λ (k : List ℕ). take b (drop j k)) (join 8 8 x 0 (lit< tt)) ∙ field-in 16 (x * 256 + 0) j b (omega arith)) ∙ number-digits 0 b _ ∙ from-zero (2 ^ b) _)
 window (x ∷ y ∷ s) zero j b h l m r g =
     let e : 8 * 0 + j ≡ j = omega arith in
     let n = length-digits 16 (x * 256 + y) in
     rw e (ap (number 0) (ap (λ (k : List ℕ). take b (drop j k))
-    (sym (append-assoc (digits 8 x) (digits 8 y) (bits s)) ∙ ap (λ (k : List ℕ). k ++ bits s) (pair x y (g 1)))
-    ∙ inner b j (digits 16 (x * 256 + y)) (bits s) (omega arith) ∙ field-in (x * 256 + y) j b (omega arith)) ∙ number-digits 0 b _
+    (sym (append-assoc (digits 8 x) (digits 8 y) (bits s)) ∙ ap (λ (k : List ℕ). k ++ bits s) (join 8 8 x y (g 1)))
+    ∙ inner b j (digits 16 (x * 256 + y)) (bits s) (omega arith) ∙ field-in 16 (x * 256 + y) j b (omega arith)) ∙ number-digits 0 b _
     ∙ from-zero (2 ^ b) _)
 window (x ∷ s) (suc i) j b h l m r g =
     let e : 8 * suc i + j ≡ length (digits 8 x) + (8 * i + j) = omega (arith, length-digits 8 x) in

@@ -1,12 +1,12 @@
 -- Bits written one after the other onto zeros, and the bytes that they are then. Assumes nothing.
-use Prim.Native.Nat.{ℕ, zero, suc, _+_, _-_, _*_, _≤_, _<_}
+use Prim.Native.Nat.{ℕ, zero, suc, _+_, _-_, _*_, _/_, _%_, _≤_, _<_}
 use mathlib.Core.Path.{_≡_, refl, sym, ap, _∙_}
 use mathlib.Core.List.{List, [], _∷_, _++_, append-nil}
 use native.Mathlib.Omega.{arith}
-use lib.ListN.{length, getD, set, drop, replicate, length-replicate, replicate-append-replicate}
-use lib.Seq.{sets, sets-eq, drop-length}
+use lib.ListN.{length, getD, set, drop, replicate, length-append, length-replicate, replicate-append-replicate}
+use lib.Seq.{sets, sets-eq, drop-length, ext-getD}
 use Rattle.bits.specs.Bits.{digits, bits, pack, Clear}
-use Rattle.bits.proofs.Fields.{length-digits, sets-after}
+use Rattle.bits.proofs.Fields.{length-digits, length-bits, byte-at, bits-at, sets-after}
 use Rattle.bits.proofs.Packing.{strip-of-bits}
 
 -- ---- runs of stores
@@ -29,10 +29,30 @@ pub three : (l₀ l₁ l₂ l₃ : List ℕ) (at m a : ℕ) (xs ys zs : List ℕ
 three l₀ l₁ l₂ l₃ at m a xs ys zs p q r e f = two l₀ l₁ l₃ at m xs (ys ++ zs) p (two l₁ l₂ l₃ m a ys zs q r f) e
 
 -- ---- zeros
-zeros-at : (m i : ℕ) → getD {A = ℕ} (replicate m 0) i 0 ≡ 0
+pub zeros-at : (m i : ℕ) → getD {A = ℕ} (replicate m 0) i 0 ≡ 0
 zeros-at zero i = refl
 zeros-at (suc m) zero = refl
 zeros-at (suc m) (suc i) = zeros-at m i
+
+zeros-after : (bs : List ℕ) (z k : ℕ) → getD (bs ++ replicate z 0) k 0 ≡ getD bs k 0
+zeros-after [] z k = zeros-at z k
+zeros-after (b ∷ bs) z zero = refl
+zeros-after (b ∷ bs) z (suc k) = zeros-after bs z k
+
+-- bytes that hold a list's bits, each at its place, and nothing more
+pub placed : (s bs : List ℕ) (z : ℕ) → 8 * length s ≡ length bs + z
+    → ((i j : ℕ) → i < length s → j < 8 → getD (digits 8 (getD s i 0)) j 0 ≡ getD bs (8 * i + j) 0) → bits s ≡ bs ++ replicate z 0
+placed s bs z e h =
+    let a = length-bits s in
+    let b = length-append bs (replicate z 0) in
+    ext-getD 0 (bits s) (bs ++ replicate z 0) (omega (arith, length-replicate {A = ℕ} z 0)) (λ p k. at p (omega arith))
+  where
+    at : (p : ℕ) → p < 8 * length s → getD (bits s) p 0 ≡ getD (bs ++ replicate z 0) p 0
+    at p k =
+        let q : 8 * (p / 8) + p % 8 ≡ p = omega arith in
+        let x = getD s (p / 8) 0 in
+        ap (λ (i : ℕ). getD (bits s) i 0) (sym q) ∙ bits-at s (p / 8) (p % 8) (omega arith) (omega arith) ∙ sym (byte-at x (p % 8) (omega arith))
+        ∙ h (p / 8) (p % 8) (omega arith) (omega arith) ∙ ap (λ (i : ℕ). getD bs i 0) q ∙ sym (zeros-after bs z p)
 
 drop-zeros : (k m : ℕ) → _≡_ {A = List ℕ} (drop k (replicate m 0)) (replicate (m - k) 0)
 drop-zeros zero m = let e : m - 0 ≡ m = omega arith in rw e refl

@@ -2,5 +2,6 @@ pub mod RuleChecks
 pub mod RuleLaws
 pub mod RulePlaces
 pub mod RuleWriting
+pub mod RuleBytes
 pub mod Words
 pub mod InNumbers

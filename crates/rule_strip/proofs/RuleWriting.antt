@@ -3,19 +3,17 @@ use Prim.Native.Nat.{ℕ, zero, suc, _+_, _*_, _/_, _%_, _≤_, _<_}
 use mathlib.Core.Path.{_≡_, refl, sym, _∙_, ap, ap₂}
 use mathlib.Core.Bool.{false}
 use mathlib.Core.List.{List, [], _∷_, _++_, append-assoc, append-nil}
-use native.Mathlib.Numerals.{add-one}
 use native.Mathlib.Omega.{arith}
 use borrow.Author.Tests.{eq-eqb, le-ltb, le-leb}
 use lib.Dec.{T, lit<}
-use lib.ListN.{length, getD, set, drop, replicate, length-append, length-replicate}
-use lib.Seq.{drop-at, sets, sets-eq}
+use lib.ListN.{length, drop, replicate, length-append, length-replicate}
+use lib.Seq.{drop-at}
 use Rattle.logic.specs.Rule.{Record, good, goodFrom}
-use Rattle.bits.specs.Bits.{digits, bits, anySet, pack, Clear}
+use Rattle.bits.specs.Bits.{digits, bits, anySet, pack}
 use Rattle.bits.specs.declared.Fault.the-variants.{Sound}
 use Rattle.bits.proofs.Fields.{length-digits, length-bits, digits-low, digits-split}
 use Rattle.bits.proofs.Packing.{AreBits, bits-append, digits-bits, field-is, behind, pack-bits}
 use Rattle.bits.proofs.Places.{zeros-unset}
-use Rattle.bits.proofs.Writing.{clear-after, two, three, packed}
 use Rattle.rule_strip.specs.RuleStrip.{versionOf, variablesOf, countOf, recordAt, recordsFrom, recordsOf, ruleBytes, firstUse, secondUse}
 use Rattle.rule_strip.specs.RuleStrip.{recordsFault, headFault, ruleFault}
 use Rattle.rule_strip.specs.RuleAnswers.{limitOf, checkedRule}
@@ -211,7 +209,7 @@ unfolding recordWord recordOfWord
 word-back r h = record-path r _ _ _ (omega arith) (omega arith) (omega arith)
 
 -- the record's bits are the number's
-word-bits : (w : ℕ) → recordBits (recordOfWord w ∷ []) ≡ digits 18 w
+pub word-bits : (w : ℕ) → recordBits (recordOfWord w ∷ []) ≡ digits 18 w
 unfolding recordBits recordOfWord
 word-bits w =
     sym (digits-split 4 14 w
@@ -223,55 +221,7 @@ unfolding recordsOfWords
 words-length zero ws = refl
 words-length (suc m) ws = length-append (recordsOfWords m ws) _ ∙ omega (arith, words-length m ws)
 
--- ---- the records are put one after the other
-
-bits-more : (rs : List Record) (r : Record) → recordBits (rs ++ (r ∷ [])) ≡ recordBits rs ++ recordBits (r ∷ [])
+pub bits-more : (rs : List Record) (r : Record) → recordBits (rs ++ (r ∷ [])) ≡ recordBits rs ++ recordBits (r ∷ [])
 unfolding recordBits
 bits-more [] r = refl
 bits-more (s ∷ rs) r = rw (bits-more rs r) (sym (simp append-assoc))
-
-module _ (l : List ℕ) (ws : List ℕ) (i : ℕ) where
-  -- the first i stand from bit place 16 on
-  abbrev pub Put : List ℕ → Type 0
-  Put k = k ≡ sets l 16 (recordBits (recordsOfWords i ws))
-
-  put-length : length (recordBits (recordsOfWords i ws)) ≡ 18 * i
-  put-length = recordBits-length (recordsOfWords i ws) ∙ ap (λ (m : ℕ). 18 * m) (words-length i ws)
-
-  pub put-clear : (k : List ℕ) → Put k → Clear l 16 → (j : ℕ) → getD k (16 + 18 * i + j) 0 ≡ 0
-  put-clear k p z j =
-      clear-after l k 16 (16 + 18 * i) (recordBits (recordsOfWords i ws)) p z (omega (arith, put-length)) (16 + 18 * i + j) (omega arith)
-
-pub put-first : (l ws : List ℕ) → Put l ws 0 l
-unfolding recordBits recordsOfWords
-put-first l ws = refl
-
-pub put-more : (l ws : List ℕ) (i : ℕ) (k k′ : List ℕ) → Put l ws i k → k′ ≡ sets k (16 + 18 * i) (digits 18 (getD ws i 0)) → Put l ws (i + 1) k′
-unfolding recordsOfWords
-put-more l ws i k k′ p q =
-    rw (add-one i, bits-more, word-bits) (two l k k′ 16 (16 + 18 * i) (recordBits (recordsOfWords i ws)) _ p q (omega (arith, put-length l ws i)))
-
--- ---- the strip, written onto zeros: the version, n, the number of records, the records
-
-module _ (d out : List ℕ) (len : ℕ) (e : out ≡ replicate len 0 ++ drop len d) (l : length d ≡ len) (n m : ℕ) (a b c : List ℕ)
-    (p : bits a ≡ sets (bits out) 0 (digits 4 1)) (q : bits b ≡ sets (bits a) 4 (digits 4 n)) (r : bits c ≡ sets (bits b) 8 (digits 8 m)) where
-  pub strip-written : len ≡ ruleBytes m → (ws f : List ℕ) → Put (bits c) ws m (bits f) → ((i : ℕ) → getD f i 0 < 256) → f ≡ ruleStrip n (recordsOfWords m ws)
-  unfolding ruleStrip
-  strip-written size ws f t g =
-      let rs = recordsOfWords m ws in
-      let k = stripBits-length n rs in
-      let k₄ = length-digits 4 1 in
-      let k₈ = length-digits 4 n in
-      let k₁₆ = length-digits 8 m in
-      let w : bits f ≡ sets (bits b) 8 (digits 8 m ++ recordBits rs) = two (bits b) (bits c) (bits f) 8 16 (digits 8 m) (recordBits rs) r t (omega arith) in
-      let v : bits f ≡ sets (bits out) 0 (stripBits n rs) =
-      rw (words-length m ws) (three (bits out) (bits a) (bits b) (bits f) 0 4 8 (digits 4 1) (digits 4 n) (digits 8 m ++ recordBits rs) p q w (omega arith)
-      (omega arith)) in
-      let z = words-length m ws in
-      packed d out len e l (stripBits n rs) f v g (omega arith) (omega arith) (omega arith)
-
--- it stands at the front of some bytes
-pub front-written : (d f s : List ℕ) (k : ℕ) → f ≡ s → length f ≡ k → k ≤ length d → f ++ drop k d ≡ sets d 0 s
-front-written d f s k e l h =
-    let m : 0 + length s ≡ k = (let z = ap length e in omega arith) in
-    sym (sets-eq s d 0 (omega arith) ∙ rw (m, e) refl)

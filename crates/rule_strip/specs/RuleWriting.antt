@@ -1,10 +1,11 @@
 -- Rule strips as they are written: document 01, "Strips". Assumes nothing.
-use Prim.Native.Nat.{ℕ, zero, suc, _+_, _*_, _/_, _%_, _≤_}
-use mathlib.Core.Path.{_≡_}
+use Prim.Native.Nat.{ℕ, zero, suc, _+_, _-_, _*_, _/_, _%_, _^_, _≤_}
+use mathlib.Core.Bool.{cond}
 use mathlib.Core.List.{List, [], _∷_, _++_}
+use lib.Dec.{ltb}
 use lib.ListN.{length, getD}
 use Rattle.logic.specs.Rule.{Record}
-use Rattle.bits.specs.Bits.{digits, bits, pack, Clear}
+use Rattle.bits.specs.Bits.{digits, pack}
 use Rattle.rule_strip.specs.RuleStrip.{ruleBytes}
 
 -- "op 4, first field 7, second field 7"
@@ -29,17 +30,13 @@ unfoldable pub recordsOfWords : ℕ → List ℕ → List Record
 recordsOfWords zero ws = []
 recordsOfWords (suc m) ws = recordsOfWords m ws ++ (recordOfWord (getD ws m 0) ∷ [])
 
--- m records have room in d after a strip's head, where zeros stand
-pub record RecordRoom (d : List ℕ) (m : ℕ) : Type 0 where
-  pub few-records : m ≤ 128
-  pub short : length d ≤ 4096
-  pub room : 16 + 18 * m ≤ 8 * length d
-  pub clear : Clear (bits d) 16
+-- the 18 lowest bits of number i, if it is among the first m numbers, else zeros
+unfoldable pub wordAt : ℕ → List ℕ → ℕ → ℕ
+wordAt m ws i = cond (ltb i m) (getD ws i 0 % 262144) 0
 
--- out is as long as a strip of m records
-pub record RuleSized (out : List ℕ) (m : ℕ) : Type 0 where
-  pub few-records : m ≤ 128
-  pub size : length out ≡ ruleBytes m
+-- bits 8k to 8k + 7 of the records in the first m numbers, out of the 36 bits of two neighbours
+unfoldable pub recordByte : ℕ → List ℕ → ℕ → ℕ
+recordByte m ws k = (wordAt m ws (8 * k / 18) * 262144 + wordAt m ws (8 * k / 18 + 1)) / 2 ^ (28 - 8 * k % 18) % 256
 
 -- a strip of m records has room at the front of out
 pub record StripRoom (out : List ℕ) (m : ℕ) : Type 0 where
