@@ -4,3 +4,4 @@ pub mod Leftovers
 pub mod Printed
 pub mod Places
 pub mod Clashes
+pub mod Joined

@@ -163,7 +163,9 @@ fn put_joined(first: &[u8], second: &[u8], words: &mut [u64; 128]) -> usize
     let p = rule_strip::count_of(second);
     put_moved(first, 0, words);
     put_moved(second, m, words);
-    words[m + p] = rule_strip::write::record_word(7, m - 1, m + p - 1);
+    let last = m - 1;
+    let moved_last = m + p - 1;
+    words[m + p] = rule_strip::write::record_word(7, last, moved_last);
     m + p + 1
 }
 
