@@ -44,7 +44,7 @@ static bool buffers_right(const struct request *r, const union result *result)
     uint64_t refusal = refusal_of(r->operation, result);
     enum argument altered = lent_altered(lent, r);
     if (altered)
-        return fails(altered == RULE ? "rule altered" : altered == TREE ? "tree altered" : "text altered");
+        return fails(altered == RULE || altered == SECOND ? "rule altered" : altered == TREE ? "tree altered" : "text altered");
     if (has(r->operation, OUT)) /* the strip at its front is told, or checked as import_right has it */
         if (!lent_kept_after(&lent[OUT], refusal ? 0 : number_at(result, operations[r->operation].answer->length)))
             return fails("out not as it must be left");
