@@ -1,78 +1,70 @@
-/* Two rule strips into one. Strips are read and written as rows of bits here, a bit at
- * a time, and share no code with what packs an imported text. */
+/* Two rule strips into one. Strips are read and written a record at a time here, in
+ * place, and share no code with what packs an imported text. */
 #include "oracle.h"
 
-#include <stdbool.h>
 #include <string.h>
 
-enum { HEADING = 16, OP_BITS = 4, FIELD_BITS = 7, RECORD_BITS = OP_BITS + 2 * FIELD_BITS };
-enum { LAST_JOINED = 127, ASKED = 290 };
+enum { NOT = 5, OR = 6, AND = 7, EXISTS = 8 };
+enum { MOST_RECORDS = 128, ASKED = 290 };
 enum { RULE_OUT = 27, JOINED_RECORDS = 30 };
 
-struct bits {
-    uint8_t byte[ASKED];
-    unsigned at;
+struct record {
+    unsigned op, first, second;
 };
 
-static unsigned next_bits(const uint8_t *strip, unsigned *at, unsigned count)
+/* Record i has its 18 bits at bit 16 + 18 i. That is bit 0, 2, 4 or 6 of a byte, so it
+ * lies in three bytes, with at most 6 bits of others before it and after it. */
+static unsigned byte_of(unsigned i) { return 2 + 9 * i / 4; }
+static unsigned bits_after(unsigned i) { return 6 - 2 * (i % 4); }
+
+static struct record get(const uint8_t *strip, unsigned i)
 {
-    unsigned value = 0;
-    for (unsigned end = *at + count; *at < end; ++*at)
-        value = 2 * value + (strip[*at / 8] >> (7 - *at % 8)) % 2;
-    return value;
+    const uint8_t *at = strip + byte_of(i);
+    uint32_t bits = ((uint32_t)at[0] << 16 | (uint32_t)at[1] << 8 | at[2]) >> bits_after(i);
+    return (struct record){ bits >> 14 & 15, bits >> 7 & 127, bits & 127 };
 }
 
-static void add_bits(struct bits *b, unsigned count, unsigned value)
+/* The bits are 0 before. */
+static void set(uint8_t *strip, unsigned i, struct record r)
 {
-    while (count-- > 0) {
-        if (value >> count & 1)
-            b->byte[b->at / 8] |= (uint8_t)(128u >> b->at % 8);
-        b->at++;
-    }
+    uint8_t *at = strip + byte_of(i);
+    uint32_t bits = (uint32_t)(r.op << 14 | r.first << 7 | r.second) << bits_after(i);
+    at[0] |= (uint8_t)(bits >> 16);
+    at[1] |= (uint8_t)(bits >> 8);
+    at[2] |= (uint8_t)bits;
 }
 
-static void add_record(struct bits *b, unsigned op, unsigned first, unsigned second)
+static struct record moved_up(struct record r, unsigned by)
 {
-    add_bits(b, OP_BITS, op);
-    add_bits(b, FIELD_BITS, first);
-    add_bits(b, FIELD_BITS, second);
-}
-
-/* The records of an accepted strip, with the record numbers in them moved up. */
-static void add_records(struct bits *b, const uint8_t *strip, unsigned records, unsigned up)
-{
-    unsigned at = HEADING;
-    for (unsigned i = 0; i < records; i++) {
-        unsigned op = next_bits(strip, &at, OP_BITS);
-        unsigned first = next_bits(strip, &at, FIELD_BITS), second = next_bits(strip, &at, FIELD_BITS);
-        bool record_first = op == 5 || op == 6 || op == 7;  /* not, or, and */
-        bool record_second = op == 6 || op == 7 || op == 8; /* or, and, exists */
-        add_record(b, op, record_first ? first + up : first, record_second ? second + up : second);
-    }
+    if (r.op == NOT || r.op == OR || r.op == AND)
+        r.first += by;
+    if (r.op == OR || r.op == AND || r.op == EXISTS)
+        r.second += by;
+    return r;
 }
 
 ws2s_written oracle_join(const uint8_t *first, size_t first_len, const uint8_t *second, size_t second_len,
                          uint8_t *out, size_t out_len)
 {
-    ws2s_rule one = oracle_check_rule(first, first_len), two = oracle_check_rule(second, second_len);
+    ws2s_rule one = oracle_check_rule(first, first_len);
     if (one.refusal)
         return (ws2s_written){ .refusal = one.refusal, .place = one.place, .strip = 1 };
+    ws2s_rule two = oracle_check_rule(second, second_len);
     if (two.refusal)
         return (ws2s_written){ .refusal = two.refusal, .place = two.place, .strip = 2 };
-    unsigned m1 = (unsigned)one.records, m2 = (unsigned)two.records;
-    unsigned n = (unsigned)(one.variables > two.variables ? one.variables : two.variables);
-    if (m1 + m2 > LAST_JOINED)
+    unsigned m1 = (unsigned)one.records, m2 = (unsigned)two.records, m = m1 + m2 + 1;
+    uint64_t n = one.variables > two.variables ? one.variables : two.variables;
+    if (m > MOST_RECORDS)
         return (ws2s_written){ .refusal = JOINED_RECORDS };
     if (out_len < ASKED)
         return (ws2s_written){ .refusal = RULE_OUT };
-    struct bits b = { .at = 0 };
-    add_bits(&b, 4, 1);
-    add_bits(&b, 4, n);
-    add_bits(&b, 8, m1 + m2 + 1);
-    add_records(&b, first, m1, 0);
-    add_records(&b, second, m2, m1);
-    add_record(&b, 7, m1 - 1, m1 + m2 - 1);
-    size_t length = (b.at + 7) / 8;
-    memcpy(out, b.byte, length);
-    return (ws2s_written){ .variables = n, .records = m1 + m2 + 1, .length = length };
+    uint8_t strip[ASKED] = { (uint8_t)(1 << 4 | n), (uint8_t)m };
+    for (unsigned i = 0; i < m1; i++)
+        set(strip, i, get(first, i));
+    for (unsigned i = 0; i < m2; i++)
+        set(strip, m1 + i, moved_up(get(second, i), m1));
+    set(strip, m1 + m2, (struct record){ AND, m1 - 1, m1 + m2 - 1 });
+    size_t length = (16 + 18 * (size_t)m + 7) / 8;
+    memcpy(out, strip, length);
+    return (ws2s_written){ .variables = n, .records = m, .length = length };
 }
