@@ -21,7 +21,7 @@ COMMAND := target/bin/ws2s
 VERDICT := target/bin/verdict
 HOST := target/host
 HEADER := include/ws2s.h
-ORACLE := tests/oracle/oracle.c tests/oracle/import.c
+ORACLE := tests/oracle/oracle.c tests/oracle/import.c tests/oracle/join.c
 TEST_HEADERS := $(wildcard tests/host/*.h tests/oracle/*.h) $(HEADER)
 CLI := cli/ws2s.c cli/words.c cli/drawing.c cli/text.c
 CLI_HEADERS := cli/words.h cli/drawing.h cli/text.h
@@ -160,9 +160,9 @@ bound: $(HOST)/bound
 example: $(HOST)/example
 	@$(HOST)/example "$$RULE" $(NAMES)
 
-COMPARED := $(foreach f,decide clash clash_lists,tests/vectors/base/$(f).txt)
-TIMED := $(foreach f,tests/vectors/heavy bench/sing bench/leftovers bench/clash bench/worst,-l $(f).txt)
-COUNTED := $(foreach l,1 2 3 4 5,tests/vectors/heavy.txt:$(l)) $(foreach l,1 2,bench/sing.txt:$(l)) $(foreach l,1 2 3 4 5 6 7 8 9,bench/clash.txt:$(l))
+COMPARED := $(foreach f,decide clash clash_lists join join_rules,tests/vectors/base/$(f).txt)
+TIMED := $(foreach f,tests/vectors/heavy bench/sing bench/leftovers bench/clash bench/join bench/worst,-l $(f).txt)
+COUNTED := $(foreach l,1 2 3 4 5,tests/vectors/heavy.txt:$(l)) $(foreach l,1 2,bench/sing.txt:$(l)) $(foreach l,1 2 3 4 5 6 7 8 9,bench/clash.txt:$(l)) $(foreach l,1 2,bench/join.txt:$(l))
 bench: $(HOST)/bench $(VERDICT) $(COMMAND)
 	$(HOST)/bench -v tests/vectors/base/decide.txt $(TIMED) $(SAMPLES) $(MADE_TEXTS) $(TEXTS)
 	bench/instructions.sh $(HOST)/bench $(COUNTED) $(SAMPLES) $(MADE_TEXTS) $(TEXTS)

@@ -6,8 +6,8 @@
  * Each RULE, a file with one rule strip, is decided with the ceilings C (64) and
  * P (255) and makes a row of the table. A TEXT, a file whose name ends in .mona or
  * one of the texts made here (made:longest, made:chain, made:nests, made:open), is
- * imported. -v makes one row of all decide, judge and clash lines of a vector file
- * together, -l a row of each such line. Options, rules and texts count from left to
+ * imported. -v makes one row of all decide, judge, clash and join lines of a vector
+ * file together, -l a row of each such line. Options, rules and texts count from left to
  * right. A row is run until SECONDS (0.3) have passed for each side, three times at
  * least; the shortest time counts. Both sides must answer alike, and to the texts
  * made here as they are made to be answered.
@@ -59,11 +59,11 @@ static double now(void)
 
 /* ---- Requests ---- */
 
-/* Whether a line is a decide, judge or clash request, which it then becomes. */
+/* Whether a line is a decide, judge, clash or join request, which it then becomes. */
 static bool read_line(char *line, struct request *r)
 {
     line[strcspn(line, "\r\n")] = 0;
-    if (strncmp(line, "decide ", 7) != 0 && strncmp(line, "judge ", 6) != 0 && strncmp(line, "clash ", 6) != 0)
+    if (strncmp(line, "decide ", 7) != 0 && strncmp(line, "judge ", 6) != 0 && strncmp(line, "clash ", 6) != 0 && strncmp(line, "join ", 5) != 0)
         return false;
     char *own = strdup(line); /* which the request needs as long as the program runs */
     return own && read_request(own, r);
@@ -309,7 +309,7 @@ static int run_once(const char *who, const char *name)
         count = read_name(name);
     }
     if (count != 1)
-        stop(name, "not one decide, judge or clash line");
+        stop(name, "not one decide, judge, clash or join line");
     for (int i = 0; i < 2; i++)
         if (strcmp(who, sides[i]) == 0) {
             ask(i, &requests[0], &answer);

@@ -18,6 +18,7 @@ shift
 count() { # side, prefix of its functions, name
     valgrind --tool=callgrind --callgrind-out-file=/dev/null \
         --toggle-collect="$2_decide" --toggle-collect="$2_judge" --toggle-collect="$2_clash" --toggle-collect="$2_import" \
+        --toggle-collect="$2_join" \
         "$bench" -o "$1" "$3" 2>&1 | awk '/Collected *:/ { print $NF }'
 }
 

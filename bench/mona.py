@@ -10,7 +10,9 @@
                                their sets if the answer is shown or yes, and not
                                if it is no. Rules that are asked which parts clash:
                                each trial that the list tells of, and the list; a
-                               rule refused 29 must be satisfiable
+                               rule refused 29 must be satisfiable. Two rules that are
+                               joined: no sets satisfy the result and not both, or
+                               both and not it, and its n and m are right
     mona.py --time PROGRAM RULE...  the verdict program's time and MONA's on rule
                                files, each as a process of its own, the least of
                                nine runs. Rules that are not accepted are left out
@@ -82,15 +84,20 @@ def read_tree(strip):
     return sets
 
 
-def to_mona(strip, tree=None, parts=None):
-    """MONA text that is satisfiable exactly if the rule is, with a tree's sets alone
-    if there is one; or, if parts are given, if all these records are."""
+def call_record(prefix, record, names, bound=None):
+    """A record's predicate, handed these names, with B for one that is bound."""
+    handed = ["B" if i == bound else name for i, name in enumerate(names)]
+    return f"{prefix}{record}({', '.join(handed)})"
+
+
+def predicates(strip, prefix):
+    """The predicates of a rule's records, the names that they are handed, and the
+    number of the last one."""
     n, records = read_strip(strip)
     names = [f"X{i}" for i in range(n)]
 
     def call(record, bound=None):
-        handed = ["B" if i == bound else name for i, name in enumerate(names)]
-        return f"r{record}({', '.join(handed)})"
+        return call_record(prefix, record, names, bound)
 
     def body(op, first, second):
         x, y = f"X{first}", f"X{second}"
@@ -107,12 +114,32 @@ def to_mona(strip, tree=None, parts=None):
         }[op]()
 
     head = ", ".join(f"var2 {name}" for name in names)
-    lines = ["ws2s;"]
-    lines += [f"pred r{i}({head}) = {body(*record)};" for i, record in enumerate(records)]
-    asked = [len(records) - 1] if parts is None else parts
-    lines += [f"var2 {', '.join(names)};", " & ".join(map(call, asked)) + ";"]
+    return [f"pred {prefix}{i}({head}) = {body(*record)};" for i, record in enumerate(records)], names, len(records) - 1
+
+
+def to_mona(strip, tree=None, parts=None):
+    """MONA text that is satisfiable exactly if the rule is, with a tree's sets alone
+    if there is one; or, if parts are given, if all these records are."""
+    lines, names, last = predicates(strip, "r")
+    asked = " & ".join(call_record("r", part, names) for part in ([last] if parts is None else parts))
+    lines = ["ws2s;"] + lines + [f"var2 {', '.join(names)};", asked + ";"]
     for name, members in zip(names, read_tree(tree) if tree else []):
         lines.append(f"{name} = {{{', '.join(members)}}};" if members else f"empty({name});")
+    return "\n".join(lines) + "\n"
+
+
+def joined_apart(one, two, joined):
+    """MONA text that is satisfiable exactly if a strip is not what two rules make
+    together: it is none, has other numbers of variables and records, or some sets
+    satisfy it and not both rules, each by its own variables, or these and not it."""
+    if refusal_of(joined) or joined[0] & 15 != max(one[0] & 15, two[0] & 15) or joined[1] != one[1] + two[1] + 1:
+        return "ws2s;\n# other numbers\ntrue;\n"
+    lines, lasts = ["ws2s;"], []
+    for strip, prefix in ((one, "a"), (two, "b"), (joined, "r")):
+        added, names, last = predicates(strip, prefix)
+        lines += added
+        lasts.append(call_record(prefix, last, names))
+    lines += [f"var2 {', '.join(names)};", f"~({lasts[2]} <=> ({lasts[0]} & {lasts[1]}));"]
     return "\n".join(lines) + "\n"
 
 
@@ -173,6 +200,8 @@ def questions(line):
         yield from trials(bytes.fromhex(words[1]), [int(part) for part in said[2:]])
     elif words[0] == "clash" and said[:2] == ["refused", "29"]:
         yield to_mona(bytes.fromhex(words[1])), True
+    elif words[0] == "join" and said[0] == "ok":
+        yield joined_apart(*map(bytes.fromhex, (words[1], words[2], said[2]))), False
 
 
 def compare(files, limit):

@@ -12,12 +12,17 @@
  * library must decide that there is none, and without any one of them that there is.
  * One call in three is of a text
  * (typed.h); strips that were imported must check, and are decided and judged at
- * times. The same seed makes the same requests. Differences are printed as vector
+ * times. One call in twelve joins two rules, which may be the same bytes or overlap; the
+ * result must check, and mean what both mean: where the library decides all three,
+ * there is none if either has none, and a tree, shown or at random, is judged to satisfy
+ * it exactly if, cut to the variables of each, it is judged to satisfy each; a record of
+ * more than c states is one of theirs, or the last. The same seed makes the same requests. Differences are printed as vector
  * lines; the status is then 1. How often each answer came is printed too, and at how
  * many places a strip or text was refused; of many calls none of them may be missing,
  * nor may texts be accepted seldom, or none that reaches a limit, nor may records of
  * more than c states be missing that the last one does not reach, nor lists of three
- * parts and more, of fewer parts than there are, and of a rule with sixteen. */
+ * parts and more, of fewer parts than there are, and of a rule with sixteen, nor, of two
+ * rules joined, any fault in either, or anything else that is counted of them. */
 #define _DEFAULT_SOURCE
 #include "both.h"
 #include "lent.h"
@@ -30,9 +35,12 @@ enum { SMALL_SPACE = 1 << 16, MIDDLE_SPACE = 1 << 21, LARGE_SPACE = 1 << 24 };
 
 /* What is made for the request at hand. */
 static struct {
-    struct strip rule, tree;
+    struct strip rule, second, tree;
     struct typed text;
-    bool same; /* the rule's bytes are lent as the tree too */
+    bool same;    /* the rule's bytes are lent as the tree too */
+    bool overlap; /* both rules are parts of these bytes, and lent so */
+    struct strip both;
+    size_t rule_from, second_from;
     bool null; /* buffers of no bytes come as NULL */
     enum lent_place place;
 } made;
@@ -106,47 +114,59 @@ static size_t some_length(size_t asked, size_t most)
     return length < most ? length : most;
 }
 
-/* Operations come in groups, by what they are handed. One of a group at random. */
-static enum operation some_operation(bool text, bool builds)
+/* Operations come in groups, by what they are handed: a text, two rules, a workspace, or
+ * one strip alone. */
+static enum argument group_of(enum operation o)
 {
-    enum operation group[KINDS];
+    return has(o, TEXT) ? TEXT : has(o, SECOND) ? SECOND : has(o, WORKSPACE) ? WORKSPACE : NO_ARGUMENT;
+}
+
+/* One of a group at random. */
+static enum operation some_operation(enum argument group)
+{
+    enum operation those[KINDS];
     unsigned count = 0;
     for (enum operation o = 1; o < KINDS; o++)
-        if (has(o, TEXT) == text && has(o, WORKSPACE) == builds)
-            group[count++] = o;
-    return group[below(count)];
+        if (group_of(o) == group)
+            those[count++] = o;
+    return those[below(count)];
 }
 
 /* A text; at times it is the one before. */
 static void make_text_request(struct request *r)
 {
-    r->operation = some_operation(true, false);
-    made.same = false;
+    r->operation = some_operation(TEXT);
     if (has(r->operation, OUT))
         r->number[OUT] = some_length(WS2S_MAX_RULE_BYTES, MOST_MADE_OUT);
     if (!once_in(8) || made.text.length == 0)
         make_typed(&made.text);
 }
 
+/* A rule, or one that is damaged, or bytes; a new one, if it is not there again. */
+static void make_some_rule(struct strip *s, bool again, bool clashing)
+{
+    if (again)
+        *s = kept.rule;
+    else if (imported.length && once_in(20))
+        *s = imported;
+    else if (once_in(12))
+        make_bytes(s);
+    else if (clashing && !once_in(4))
+        make_clashing_rule(s);
+    else if (once_in(4))
+        make_broad_rule(s);
+    else
+        make_any_rule(s);
+    if (once_in(3) && is_rule(s))
+        add_leftovers(s);
+    if (once_in(12))
+        damage(s, 4);
+}
+
 static void make_rule_and_tree(struct request *r)
 {
     bool again = kept.there && once_in(4);
-    if (again)
-        made.rule = kept.rule;
-    else if (imported.length && once_in(20))
-        made.rule = imported;
-    else if (once_in(12))
-        make_bytes(&made.rule);
-    else if (r->operation == OP_clash && !once_in(4))
-        make_clashing_rule(&made.rule);
-    else if (once_in(4))
-        make_broad_rule(&made.rule);
-    else
-        make_any_rule(&made.rule);
-    if (once_in(3) && is_rule(&made.rule))
-        add_leftovers(&made.rule);
-    if (once_in(12))
-        damage(&made.rule, 4);
+    make_some_rule(&made.rule, again, r->operation == OP_clash);
     bool accepted = is_rule(&made.rule);
     r->number[C] = again && !once_in(4) ? (once_in(3) ? kept.states - below(2) : kept.c)
                  : some_states(r->operation, &made.rule, accepted, once_in(2000) ? LARGE_SPACE : once_in(20) ? MIDDLE_SPACE : SMALL_SPACE);
@@ -169,21 +189,98 @@ static void make_rule_and_tree(struct request *r)
         made.tree = made.rule;
 }
 
+/* A part of some bytes. */
+static void take_part(struct strip *s, const struct strip *of, size_t from, size_t length)
+{
+    s->length = length;
+    memcpy(s->byte, of->byte + from, length);
+}
+
+/* A rule, if there is luck, with another in the midst of its bytes: its length, and where
+ * that begins. About one try in 500 makes one. */
+static size_t make_nested(struct strip *s, size_t *from)
+{
+    static struct strip outer, inner;
+    for (unsigned tries = 0; tries < 2000; tries++) {
+        if (tries % 40 == 0)
+            make_valid_rule(&outer, 8, 14 + below(8));
+        make_valid_rule(&inner, 1 + below(8), 1 + below(6));
+        *s = outer;
+        *from = 2 + below(outer.length - inner.length - 1);
+        memcpy(s->byte + *from, inner.byte, inner.length);
+        if (is_rule(s))
+            break;
+    }
+    return inner.length;
+}
+
+/* Two rules that share bytes: the same ones, one inside the other, or any parts. */
+static void make_overlapping(void)
+{
+    size_t length, from = 0;
+    make_some_rule(&made.both, false, false);
+    length = made.both.length;
+    if (once_in(12)) {
+        length = make_nested(&made.both, &from);
+    } else if (once_in(4)) {
+        from = below(made.both.length + 1);
+        length = below(made.both.length - from + 1);
+    }
+    bool inner_first = once_in(2);
+    made.rule_from = inner_first ? from : 0;
+    made.second_from = inner_first ? 0 : from;
+    take_part(&made.rule, &made.both, made.rule_from, inner_first ? length : made.both.length);
+    take_part(&made.second, &made.both, made.second_from, inner_first ? made.both.length : length);
+}
+
+/* Two rules with nearly as many records together as there may be. */
+static void make_long_pair(void)
+{
+    unsigned together = 125 + below(6), least = together > 128 ? together - 128 : 1;
+    unsigned m = once_in(4) ? least : once_in(3) ? together - least : least + below(together - 2 * least + 1);
+    make_valid_rule(&made.rule, some_variables(), m);
+    make_valid_rule(&made.second, some_variables(), together - m);
+}
+
+static void make_pair_request(struct request *r)
+{
+    r->operation = some_operation(SECOND);
+    r->number[OUT] = some_length(WS2S_MAX_RULE_BYTES, MOST_MADE_OUT);
+    made.overlap = once_in(8);
+    if (made.overlap) {
+        make_overlapping();
+        return;
+    }
+    if (once_in(12)) {
+        make_long_pair();
+    } else {
+        make_some_rule(&made.rule, kept.there && once_in(4), once_in(4));
+        make_some_rule(&made.second, kept.there && once_in(8), once_in(4));
+    }
+    if (once_in(16))
+        damage(once_in(2) ? &made.rule : &made.second, 4);
+}
+
 /* All arguments are made that some operation has, whichever is asked. */
 static void make_request(struct request *r)
 {
     *r = (struct request){ 0 };
     made.place = below(LENT_PLACES);
     made.null = once_in(2);
+    made.same = made.overlap = false;
     if (once_in(3)) {
         make_text_request(r);
+    } else if (once_in(8)) {
+        make_pair_request(r);
     } else {
-        r->operation = some_operation(false, !once_in(8));
+        r->operation = some_operation(once_in(8) ? NO_ARGUMENT : WORKSPACE);
         made.same = once_in(200);
         make_rule_and_tree(r);
     }
     r->byte[RULE] = made.rule.byte;
     r->number[RULE] = made.rule.length;
+    r->byte[SECOND] = made.second.byte;
+    r->number[SECOND] = made.second.length;
     r->byte[TREE] = made.tree.byte;
     r->number[TREE] = made.tree.length;
     r->byte[TEXT] = made.text.byte;
@@ -201,6 +298,11 @@ static void run(bool library, const struct request *r, struct lent *lent, union 
     lend_request(lent, r, made.place, made.null, at);
     if (made.same && at[RULE])
         at[TREE] = at[RULE];
+    if (made.overlap) {
+        lend_bytes(&lent[RULE], made.both.byte, made.both.length, made.place);
+        at[RULE] = lent[RULE].at + made.rule_from;
+        at[SECOND] = lent[RULE].at + made.second_from;
+    }
     call(library, r, at, result);
 }
 
@@ -209,12 +311,14 @@ static const char *differs(const struct request *r, const union result *one, con
     const struct answer *a = operations[r->operation].answer;
     for (unsigned i = 1; i <= a->numbers; i++)
         if (number_at(one, i) != number_at(two, i))
-            return i == a->place ? "another place" : "another result";
+            return i == a->place ? "another place" : i == a->whose ? "another strip" : "another result";
     for (enum argument b = WORKSPACE; b <= OUT; b++) {
         size_t length = (size_t)(ours[b].guarded_end - ours[b].guarded);
         if (has(r->operation, b) && memcmp(ours[b].guarded, theirs[b].guarded, length) != 0)
             return b == WORKSPACE ? "another workspace" : "another out";
     }
+    if (made.overlap)
+        return lent_holds(&ours[RULE], made.both.byte, made.both.length) ? NULL : "a strip altered";
     enum argument altered = lent_altered(ours, r);
     return altered == TEXT ? "the text altered" : altered ? "a strip altered" : NULL;
 }
@@ -280,6 +384,164 @@ static const char *imported_wrong(const ws2s_written *w)
     memcpy(imported.byte, ours[OUT].at, w->length);
     ws2s_rule c = ws2s_check_rule(imported.byte, imported.length);
     return c.refusal == 0 && c.variables == w->variables && c.records == w->records ? NULL : "imported strip does not check";
+}
+
+/* ---- Two rules joined ---- */
+
+/* What came of them: the result's n against that of each rule, the most records there
+ * may be, rules that share bytes; faults by strip; and of those whose meaning was tried,
+ * verdicts, judged trees, and trees from which cutting took nodes. */
+static struct {
+    unsigned long below, equal, above, longest, same, nested;
+    unsigned long fault[2][WS2S_REFUSED_UNUSED + 1];
+    unsigned long shown, none, none_of_both, over[3], yes, no_by_first, no_by_second, cut;
+} joins;
+
+static struct strip joined;
+static uint8_t space[1 << 16], shown[WS2S_MAX_TREE_BYTES];
+
+static ws2s_verdict decide_in_space(const struct strip *rule, uint64_t c)
+{
+    return ws2s_decide(rule->byte, rule->length, c, WS2S_MAX_POSITIONS, space, sizeof space, shown, sizeof shown);
+}
+
+/* Whether a tree with the result's variables, or others, cut to these of a rule, is judged
+ * to satisfy it; false too if it is refused, which is then told. */
+static bool satisfies(const struct strip *rule, uint64_t c, const struct strip *tree, bool *refused)
+{
+    static struct strip own;
+    recut_tree(&own, variables(rule), tree, 0);
+    ws2s_judgement j = ws2s_judge(rule->byte, rule->length, c, space, sizeof space, own.byte, own.length);
+    joins.cut += ws2s_check_tree(own.byte, own.length).positions < ws2s_check_tree(tree->byte, tree->length).positions;
+    *refused = *refused || j.kind == WS2S_REFUSED;
+    return j.kind == WS2S_YES;
+}
+
+/* The tree satisfies the result exactly if its first sets satisfy each rule. */
+static const char *tree_wrong(const struct strip *tree, uint64_t c, bool expected)
+{
+    bool refused = false, all = satisfies(&joined, c, tree, &refused);
+    bool one = satisfies(&made.rule, c, tree, &refused), two = satisfies(&made.second, c, tree, &refused);
+    joins.yes += all;
+    joins.no_by_first += !one && two;
+    joins.no_by_second += one && !two;
+    if (refused)
+        return "a tree cut to a rule's variables is refused";
+    if (expected && !all)
+        return "the tree shown for two rules joined does not satisfy them";
+    return all == (one && two) ? NULL : "a tree satisfies two rules joined, and not each, or each, and not these";
+}
+
+/* Trees that may satisfy the result: some at random, and one shown for a rule, with more
+ * variables at random. */
+static const char *trees_wrong(uint64_t c)
+{
+    static struct strip tree, part;
+    const char *wrong = NULL;
+    for (unsigned i = 0; i < 3 && !wrong; i++) {
+        struct tree_plan plan = { .n = variables(&joined), .nodes = below(i == 2 ? 20 : 5), .shape = ANY_SHAPE };
+        make_tree(&tree, &plan);
+        wrong = tree_wrong(&tree, c, false);
+    }
+    for (unsigned i = 0; i < 2 && !wrong; i++) {
+        ws2s_verdict v = decide_in_space(i ? &made.second : &made.rule, c);
+        if (v.kind != WS2S_SHOWN)
+            continue;
+        part.length = v.length;
+        memcpy(part.byte, shown, v.length);
+        recut_tree(&tree, variables(&joined), &part, once_in(2) ? 3 : 0);
+        wrong = tree_wrong(&tree, c, false);
+    }
+    return wrong;
+}
+
+/* What is decided of the result follows from both rules as far as it can: the records of
+ * more than c states are theirs, or the last; there is none if one has none, and what is
+ * shown satisfies both, so that these are shown no more positions. */
+static const char *meaning_wrong(uint64_t c)
+{
+    unsigned before = records(&made.rule), last = records(&joined) - 1;
+    static struct strip tree;
+    ws2s_verdict one = decide_in_space(&made.rule, c), two = decide_in_space(&made.second, c), both = decide_in_space(&joined, c);
+    if ((one.refusal && one.refusal != 14) || (two.refusal && two.refusal != 14) || (both.refusal && both.refusal != 14))
+        return "rules joined, or one of them, refused for more than their states";
+    if (one.refusal || two.refusal || both.refusal) {
+        uint64_t record = one.refusal ? one.record : two.refusal ? before + two.record : last;
+        joins.over[one.refusal ? 0 : two.refusal ? 1 : 2]++;
+        return both.refusal && both.record == record ? NULL : "another record of more than c states than in the rules joined";
+    }
+    joins.none += both.kind == WS2S_NONE;
+    joins.none_of_both += both.kind == WS2S_NONE && one.kind != WS2S_NONE && two.kind != WS2S_NONE;
+    if (both.kind != WS2S_NONE && (one.kind == WS2S_NONE || two.kind == WS2S_NONE))
+        return "rules joined are satisfied, though one of them is not";
+    if (both.kind == WS2S_SHOWN) {
+        joins.shown++;
+        tree.length = both.length;
+        memcpy(tree.byte, shown, both.length);
+        if (one.kind != WS2S_SHOWN || two.kind != WS2S_SHOWN || one.positions > both.positions || two.positions > both.positions)
+            return "rules joined are shown fewer positions than one of them";
+        const char *wrong = tree_wrong(&tree, c, true);
+        if (wrong)
+            return wrong;
+    }
+    return trees_wrong(c);
+}
+
+/* A strip that joins two rules checks, with the numbers told; at times its meaning is tried. */
+static const char *joined_wrong(const ws2s_written *w)
+{
+    unsigned n1 = variables(&made.rule), n2 = variables(&made.second);
+    joined.length = w->length;
+    memcpy(joined.byte, ours[OUT].at, w->length);
+    ws2s_rule c = ws2s_check_rule(joined.byte, joined.length);
+    if (c.refusal || c.variables != w->variables || c.records != w->records)
+        return "rules joined do not check";
+    if (w->variables != (n1 > n2 ? n1 : n2) || w->records != records(&made.rule) + records(&made.second) + 1u)
+        return "rules joined have another n, or another number of records";
+    uint64_t states = once_in(2) ? 64 : 1 + below(32);
+    while (states > 1 && space_asked(OP_decide, joined.byte, states) > sizeof space)
+        states -= (states + 3) / 4;
+    return once_in(3) && space_asked(OP_decide, joined.byte, states) <= sizeof space ? meaning_wrong(states) : NULL;
+}
+
+static void count_join(const ws2s_written *w)
+{
+    if (w->refusal && w->refusal <= WS2S_REFUSED_UNUSED && (w->strip == 1 || w->strip == 2))
+        joins.fault[w->strip - 1][w->refusal]++;
+    if (w->refusal)
+        return;
+    unsigned n1 = variables(&made.rule), n2 = variables(&made.second);
+    joins.below += n1 < n2;
+    joins.equal += n1 == n2;
+    joins.above += n1 > n2;
+    joins.longest += w->records == WS2S_MAX_RECORDS;
+    joins.same += made.overlap && made.rule_from == made.second_from;
+    joins.nested += made.overlap && made.rule_from != made.second_from;
+}
+
+static void say_joins(void)
+{
+    printf("joined: n below %lu, equal %lu, above %lu; of %d records %lu; the same bytes %lu, one in the other %lu\n", joins.below, joins.equal,
+           joins.above, WS2S_MAX_RECORDS, joins.longest, joins.same, joins.nested);
+    printf("joined, by meaning: shown %lu, none %lu, though each has some %lu; more than c states in the first %lu, the second %lu, the last record %lu; "
+           "trees yes %lu, no by the first alone %lu, by the second alone %lu, nodes cut off %lu\n",
+           joins.shown, joins.none, joins.none_of_both, joins.over[0], joins.over[1], joins.over[2], joins.yes, joins.no_by_first, joins.no_by_second,
+           joins.cut);
+}
+
+static bool all_joins_met(void)
+{
+    bool all = joins.below && joins.equal && joins.above && joins.longest && joins.same && joins.nested && joins.shown && joins.none
+            && joins.none_of_both && joins.over[0] && joins.over[1] && joins.over[2] && joins.yes && joins.no_by_first && joins.no_by_second && joins.cut;
+    if (!all)
+        printf("something that is counted of rules joined never came\n");
+    for (int strip = 0; strip < 2; strip++)
+        for (int refusal = 1; refusal <= WS2S_REFUSED_UNUSED; refusal++)
+            if (!joins.fault[strip][refusal]) {
+                printf("join was never refused with %d for strip %d\n", refusal, strip + 1);
+                all = false;
+            }
+    return all;
 }
 
 /* ---- Telling ---- */
@@ -466,12 +728,13 @@ static void say_answers(void)
                    operations[o].name, over[o].answered, over[o].passed_over, over[o].first_named);
     printf("lists: %lu of three parts and more, %lu of fewer than there are, %lu of %d parts\n", lists.long_ones, lists.some_dropped,
            lists.of_most, WS2S_MAX_PARTS);
+    say_joins();
 }
 
 /* Whether the strips above still reach every refusal. */
 static bool all_met(void)
 {
-    bool all = true;
+    bool all = all_joins_met();
     for (int kind = 1; kind < KINDS; kind++)
         for (int refusal = 1; refusal < REFUSALS; refusal++)
             if (operations[kind].refusals >> refusal & 1 && answers[kind][3 + refusal] == 0) {
@@ -531,6 +794,10 @@ int main(int argc, char **argv)
             what = imported_wrong(&one.written);
         if (!what && r.operation == OP_import)
             count_text(&two.written);
+        if (!what && r.operation == OP_join && two.written.refusal == 0)
+            what = joined_wrong(&one.written);
+        if (r.operation == OP_join)
+            count_join(&two.written);
         if (what) {
             failed++;
             say(&r, what, &one, &two);

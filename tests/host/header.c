@@ -5,7 +5,8 @@
  *   less it is, for every number of variables and records and every ceiling (of a
  *   clash with few records, which is then built, for some ceilings);
  * - the names of kinds and refusals: a request that has just this answer, at the
- *   place that the header states, and a text's at the token;
+ *   place that the header states, of two rules in the strip that has it, and a text's at
+ *   the token;
  * - the texts: one for every refusal, no two alike;
  * - the limits: accepted, and one more refused;
  * - the walk: over all small trees, and over large ones of many shapes, it tells
@@ -175,7 +176,7 @@ static void try_check(const struct strip *rule, const struct strip *tree, uint64
  * memory: the heading is all that a rule of the wrong length is asked for. */
 static void try_lengths(void)
 {
-    static const uint8_t heading[] = { 0x12, 0x01 };
+    static const uint8_t heading[] = { 0x12, 0x01 }, good[] = { 0x12, 0x01, 0x20, 0x00, 0x40 };
     static const size_t lengths[] = { 3, 291, SIZE_MAX / 8, SIZE_MAX / 8 + 1, SIZE_MAX / 2, SIZE_MAX };
     for (size_t i = 0; i < sizeof lengths / sizeof lengths[0]; i++) {
         size_t length = lengths[i];
@@ -188,6 +189,11 @@ static void try_lengths(void)
         count(r.refusal == WS2S_REFUSED_RULE_LENGTH && v.refusal == r.refusal && j.refusal == r.refusal && l.refusal == r.refusal,
               "refusal of a length", length, r.refusal);
         count(r.place == bits && v.place == bits && j.place == bits && l.place == bits, "place of a length", length, r.place);
+        ws2s_written one = ws2s_join(lent.at, length, NULL, 0, NULL, 0), both = ws2s_join(lent.at, length, lent.at, length, NULL, 0);
+        ws2s_written two = ws2s_join(good, sizeof good, lent.at, length, NULL, 0);
+        count(one.refusal == r.refusal && both.refusal == r.refusal && two.refusal == r.refusal, "refusal of a length of two rules joined", length, two.refusal);
+        count(one.place == bits && both.place == bits && two.place == bits, "place of a length of two rules joined", length, two.place);
+        count(one.strip == 1 && both.strip == 1 && two.strip == 2, "strip with a length", one.strip, two.strip);
     }
 }
 
@@ -263,6 +269,58 @@ static void try_clash_names(uint8_t *workspace)
     }
 }
 
+/* Two rules joined: this refusal, of this strip, at this place; all else is 0, and out is
+ * as it was. */
+static void try_join(const struct strip *one, const struct strip *two, size_t out_size, uint64_t refusal, uint64_t strip, uint64_t place)
+{
+    lend(&lent, out_size, LENT_AT_END);
+    ws2s_written w = ws2s_join(one->byte, one->length, two->byte, two->length, out_size ? lent.at : NULL, out_size);
+    count(w.refusal == refusal, "name of a refusal of two rules joined", refusal, w.refusal);
+    count(w.strip == strip && w.place == place, "strip and place of two rules joined", w.strip, w.place);
+    count(w.variables == 0 && w.records == 0 && w.length == 0 && lent_kept_after(&lent, 0), "what is left by a refusal of two rules joined", refusal, 0);
+}
+
+/* What is refused of a rule is refused of either of two; then the names that are a join's
+ * own, and its limit. */
+static void try_join_names(void)
+{
+    static struct strip rule, other, bad;
+    for (size_t i = 0; i < sizeof refusals / sizeof refusals[0]; i++) {
+        uint64_t refusal = refusals[i].refusal, place = refusals[i].place;
+        if (refusal > WS2S_REFUSED_UNUSED)
+            continue;
+        read_strip(&rule, "1201200040", 0);
+        read_strip(&bad, refusals[i].rule, refusals[i].more);
+        for (size_t out = 0; out <= WS2S_MAX_RULE_BYTES; out += WS2S_MAX_RULE_BYTES) {
+            try_join(&bad, &rule, out, refusal, 1, place);
+            try_join(&rule, &bad, out, refusal, 2, place);
+            try_join(&bad, &bad, out, refusal, 1, place);
+            for (size_t k = 0; k < i; k++) { /* the first's, whichever number is lower */
+                read_strip(&other, refusals[k].rule, refusals[k].more);
+                try_join(&bad, &other, out, refusal, 1, place);
+                try_join(&other, &bad, out, refusals[k].refusal, 1, refusals[k].place);
+            }
+        }
+    }
+    for (unsigned m = 1; m < WS2S_MAX_RECORDS; m++) {
+        make_plain_rule(&rule, 1 + m % 8, m, m % 9, NULL);
+        make_plain_rule(&other, 1 + m / 16, WS2S_MAX_RECORDS - m, m % 5, NULL);
+        try_join(&rule, &other, m % 2 ? WS2S_MAX_RULE_BYTES : 0, WS2S_REFUSED_JOINED_RECORDS, 0, 0);
+        if (m == WS2S_MAX_RECORDS - 1)
+            break;
+        make_plain_rule(&other, 1 + m / 16, WS2S_MAX_RECORDS - 1 - m, m % 5, NULL);
+        try_join(&rule, &other, m % 2 ? WS2S_MAX_RULE_BYTES - 1 : 0, WS2S_REFUSED_RULE_OUT, 0, 0);
+        lend(&lent, WS2S_MAX_RULE_BYTES, LENT_AT_END);
+        ws2s_written w = ws2s_join(rule.byte, rule.length, other.byte, other.length, lent.at, WS2S_MAX_RULE_BYTES);
+        ws2s_rule c = ws2s_check_rule(lent.at, w.length);
+        count(w.refusal == 0 && w.place == 0 && w.strip == 0 && w.records == WS2S_MAX_RECORDS && w.length == WS2S_MAX_RULE_BYTES,
+              "most records of two rules joined", m, w.records);
+        count(c.refusal == 0 && c.variables == w.variables && c.records == w.records, "check of two rules joined", m, c.refusal);
+    }
+    ws2s_written none = ws2s_join(NULL, 0, NULL, 0, NULL, 0);
+    count(none.refusal == WS2S_REFUSED_RULE_SHORT && none.strip == 1 && none.place == 0, "no rules", none.refusal, none.strip);
+}
+
 /* ---- Texts ---- */
 
 static struct typed typed;
@@ -327,13 +385,13 @@ static void try_typed_limits(void)
 static void try_texts(void)
 {
     const char *none = ws2s_refusal_text(0);
-    for (uint64_t k = 1; k <= WS2S_REFUSED_SATISFIABLE; k++) {
+    for (uint64_t k = 1; k <= WS2S_REFUSED_JOINED_RECORDS; k++) {
         bool alone = strcmp(ws2s_refusal_text(k), none) != 0 && *ws2s_refusal_help(k);
         for (uint64_t other = 1; other < k; other++)
             alone = alone && strcmp(ws2s_refusal_text(k), ws2s_refusal_text(other)) != 0;
         count(alone, "text of a refusal", k, 0);
     }
-    count(ws2s_refusal_text(WS2S_REFUSED_SATISFIABLE + 1) == none && ws2s_refusal_text(UINT64_MAX) == none
+    count(ws2s_refusal_text(WS2S_REFUSED_JOINED_RECORDS + 1) == none && ws2s_refusal_text(UINT64_MAX) == none
               && !*ws2s_refusal_help(0) && !*ws2s_refusal_help(UINT64_MAX), "text of what is no refusal", 0, 0);
 }
 
@@ -412,6 +470,7 @@ int main(void)
     try_clash_sizes(workspace);
     try_names(workspace);
     try_clash_names(workspace);
+    try_join_names();
     try_lengths();
     try_typed_limits();
     try_texts();

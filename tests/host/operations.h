@@ -25,6 +25,8 @@
     ROW(clash, clash_list, FROM(1, 12) | FROM(14, 14) | FROM(28, 29), (RULE, C, WORKSPACE), \
         BYTES(RULE), NUMBER(C), BYTES(WORKSPACE)) \
     ROW(import, written, FROM(23, 27), (TEXT, OUT), BYTES(TEXT), BYTES(OUT)) \
-    ROW(text_fault, fault, FROM(23, 26), (TEXT), BYTES(TEXT))
+    ROW(text_fault, fault, FROM(23, 26), (TEXT), BYTES(TEXT)) \
+    ROW(join, written, FROM(1, 10) | FROM(27, 27) | FROM(30, 30), (RULE, SECOND, OUT), \
+        BYTES(RULE), BYTES(SECOND), BYTES(OUT))
 
 #endif

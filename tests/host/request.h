@@ -20,11 +20,11 @@ enum { VERDICT_INPUT = 300, VERDICT_C = 16, VERDICT_P = 60, VERDICT_WORKSPACE = 
 
 /* ---- Operations ---- */
 
-/* What an operation can be handed: bytes to read, which a line has in hex; bytes to
- * write, of which a line has the length; numbers. After an answer, and after a refusal
+/* What an operation can be handed: bytes to read, which a line has in hex (SECOND is a
+ * rule beside RULE); bytes to write, of which a line has the length; numbers. After an answer, and after a refusal
  * that comes of what was built, as much of the workspace is zero as 12 asks for, and
  * out begins with the strip written. */
-enum argument { NO_ARGUMENT, RULE, TREE, TEXT, WORKSPACE, OUT, C, P, ARGUMENTS };
+enum argument { NO_ARGUMENT, RULE, SECOND, TREE, TEXT, WORKSPACE, OUT, C, P, ARGUMENTS };
 
 static inline bool is_read(enum argument a) { return a >= RULE && a <= TEXT; }
 static inline bool is_written(enum argument a) { return a == WORKSPACE || a == OUT; }
@@ -82,19 +82,21 @@ static inline void call_library(const struct request *r, uint8_t *const *at, uni
 
 /* What a line says for one kind of answer: a word, and these numbers in their order in
  * the result. A strip may stand in out, and be told last; or a list in the result, of
- * as many numbers as the one before it says. All other numbers are 0. */
+ * as many numbers as the one before it says. Some numbers apply that no line says. All
+ * others are 0. */
 struct form {
     const char *word;
     unsigned told;
     enum { ALONE, STRIP, STRIP_TOLD, LIST_TOLD } with;
+    unsigned unsaid;
 };
 
 /* The numbers of a result: how many, and where those stand that many results have
- * (length is that of the strip in out, and list where a list starts). Then the forms by
- * kind, the first if there is no kind, and the form of a refusal if it is not the usual
- * one. */
+ * (whose is the strip that a place is in, which no line says; length is that of the
+ * strip in out, and list where a list starts). Then the forms by kind, the first if
+ * there is no kind, and the form of a refusal if it is not the usual one. */
 struct answer {
-    unsigned numbers, kind, refusal, record, place, length, list;
+    unsigned numbers, kind, refusal, record, place, whose, length, list;
     struct form form[3], refused;
 };
 
@@ -123,6 +125,9 @@ static const struct answer answer_import = {
 static const struct answer answer_text_fault = {
     NUMBERS(ws2s_fault), .place = AT(ws2s_fault, start), .form = { { "ok", 0, ALONE } },
     .refused = { "", TOLD(ws2s_fault, refusal) | TOLD(ws2s_fault, start) | TOLD(ws2s_fault, length), ALONE } };
+static const struct answer answer_join = {
+    NUMBERS(ws2s_written), .place = AT(ws2s_written, place), .whose = AT(ws2s_written, strip), .length = AT(ws2s_written, length),
+    .form = { { "ok", TOLD(ws2s_written, length), STRIP_TOLD, TOLD(ws2s_written, variables) | TOLD(ws2s_written, records) } } };
 
 static const struct operation_row {
     const char *name;
@@ -177,11 +182,11 @@ static inline struct form form_of(const struct answer *a, const union result *re
 {
     uint64_t kind = number_at(result, a->kind), refusal = number_at(result, a->refusal);
     if (a->kind ? kind != WS2S_REFUSED : refusal == 0)
-        return kind < 3 && a->form[kind].word ? a->form[kind] : (struct form){ "kind", 1u << a->kind, ALONE };
+        return kind < 3 && a->form[kind].word ? a->form[kind] : (struct form){ "kind", 1u << a->kind, ALONE, 0 };
     if (a->refused.word)
         return a->refused;
     unsigned more = refusal == 14 ? a->record : has_place(refusal) ? a->place : 0;
-    return (struct form){ "refused", 1u << a->refusal | 1u << more, ALONE };
+    return (struct form){ "refused", 1u << a->refusal | 1u << more, ALONE, has_place(refusal) ? 1u << a->whose : 0 };
 }
 
 static inline int tell_bytes(char *line, const uint8_t *byte, size_t length)
@@ -210,7 +215,7 @@ static inline bool tell(enum operation o, const union result *result, const uint
     int used = sprintf(line, "%s", form.word);
     bool idle = true;
     form.told |= ((1u << list_length(a, result)) - 1) << a->list;
-    unsigned apply = 1u << a->kind | form.told | (strip ? 1u << a->length : 0);
+    unsigned apply = 1u << a->kind | form.told | form.unsaid | (strip ? 1u << a->length : 0);
     for (unsigned at = 1; at <= a->numbers; at++) {
         if (form.told >> at & 1)
             used += sprintf(line + used, used ? " %" PRIu64 : "%" PRIu64, number_at(result, at));

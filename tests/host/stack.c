@@ -7,7 +7,8 @@
  * those of the verdict program aside, and what goes deepest: the longest rule
  * strips, trees of 255 nodes in several shapes, whole and refused late, these
  * trees judged by the files' rules, conjunctions of as many records and parts as
- * there may be, and texts that nest as deep as they may and
+ * there may be, rules joined to as many records as there may be and refused late, and
+ * texts that nest as deep as they may and
  * deeper, with and without a long way to go on each level. For calls that are no vectors the
  * oracle must give the same answer, which is mostly stated here too. It prints
  * what fails, the most bytes of stack that each function used, counted from the
@@ -149,7 +150,7 @@ static const struct {
                { BY_TURNS, "a chain by turns" }, { BROAD, "a broad tree" } };
 enum { SHAPES = sizeof shapes / sizeof shapes[0] };
 
-static struct strip rule, tree;
+static struct strip rule, second, tree;
 static struct typed text;
 static struct request made;
 static char what[200];
@@ -160,6 +161,8 @@ static void try_made(enum operation operation, const char *stated)
     made.operation = operation;
     made.byte[RULE] = rule.byte;
     made.number[RULE] = rule.length;
+    made.byte[SECOND] = second.byte;
+    made.number[SECOND] = second.length;
     made.byte[TREE] = tree.byte;
     made.number[TREE] = tree.length;
     made.byte[TEXT] = text.byte;
@@ -372,6 +375,44 @@ static void try_clash(unsigned n)
     }
 }
 
+/* Joins the rules made, of so many records; of out the strip alone may be altered. */
+static void join_made(unsigned one, unsigned two, size_t out, const char *stated)
+{
+    made.number[OUT] = out;
+    snprintf(what, sizeof what, "%u records, op %u, and %u, op %u, out of %zu bytes", one, bits_at(&rule, record_at(one - 1), 4), two,
+             bits_at(&second, record_at(two - 1), 4), out);
+    try_made(OP_join, stated);
+    if (!lent_kept_after(&lent[OUT], stated ? 0 : (record_at(one + two + 1) + 7) / 8))
+        fails(&made, what, "out not as it must be left", "");
+}
+
+/* The longest rules that can be joined, of every op, with the fewer variables on either
+ * side; and what is refused only after both are read. */
+static void try_joins(void)
+{
+    static const struct {
+        unsigned one, two;
+    } longest[] = { { 63, 64 }, { 64, 63 }, { 1, 126 }, { 126, 1 } };
+    static const struct record bad = { 7, 0, 64 };
+    for (size_t i = 0; i < sizeof longest / sizeof longest[0]; i++)
+        for (unsigned op = 0; op <= 8; op++)
+            for (unsigned other = 0; other <= 8; other++) {
+                make_plain_rule(&rule, op < other ? 1 : 8, longest[i].one, op, NULL);
+                make_plain_rule(&second, op > other ? 1 : 8, longest[i].two, other, NULL);
+                join_made(longest[i].one, longest[i].two, other % 2 ? WS2S_MAX_RULE_BYTES : MOST_OUT, NULL);
+                join_made(longest[i].one, longest[i].two, WS2S_MAX_RULE_BYTES - 1, "refused 27");
+            }
+    make_plain_rule(&rule, 8, 63, 7, NULL);
+    make_plain_rule(&second, 8, 65, 7, NULL);
+    join_made(63, 65, WS2S_MAX_RULE_BYTES, "refused 30");
+    make_plain_rule(&second, 8, 65, 7, &bad); /* the last record names itself */
+    join_made(63, 65, WS2S_MAX_RULE_BYTES, "refused 9 1179");
+    make_plain_rule(&rule, 8, 128, 8, NULL);
+    make_plain_rule(&second, 8, 128, 8, NULL);
+    join_made(128, 128, WS2S_MAX_RULE_BYTES, "refused 30");
+    join_made(128, 128, 0, "refused 30");
+}
+
 /* Judges the deepest trees by a rule that has an answer. */
 static void judge_by(const struct request *decide, const char *name)
 {
@@ -532,6 +573,7 @@ int main(int argc, char **argv)
         try_decide(n);
         try_clash(n);
     }
+    try_joins();
     for (unsigned nodes = 1; nodes <= 17; nodes++)
         try_shown(nodes);
     try_nests();

@@ -135,6 +135,17 @@ static inline unsigned some_records(void)
     return once_in(60) ? 1 + below(128) : once_in(3) ? 1 + below(32) : 1 + below(10);
 }
 
+/* A rule strip of so many valid records. */
+static inline void make_valid_rule(struct strip *s, unsigned n, unsigned m)
+{
+    size_t at;
+    put_heading(s, &at, n, m);
+    for (unsigned i = 0; i < m; i++) {
+        struct record r = make_record(n, i);
+        put_record(s, &at, r.op, r.first, r.second);
+    }
+}
+
 /* A rule strip of valid records; at times one record has fields of any kind. */
 static inline void make_any_rule(struct strip *s)
 {
@@ -342,6 +353,40 @@ static inline void make_any_tree(struct strip *s, unsigned n)
     make_tree(s, &t);
     if (t.nodes > 255 && once_in(2))
         s->length = node[255].at / 8 + !once_in(3);
+}
+
+/* Puts one tree of a strip, from this bit on, into another of fewer or more variables:
+ * labels lose those beyond, and a node that becomes bare is left out; or they get more,
+ * each in one node of so many, in none with 0. */
+static inline void put_recut(struct strip *s, size_t *at, unsigned n, const struct strip *from, size_t *from_at, unsigned one_in)
+{
+    size_t begin = *at;
+    unsigned old = variables(from), there = bits_at(from, (*from_at)++, 1), label = 0;
+    put(s, at, 1, there);
+    if (!there)
+        return;
+    for (unsigned i = 0; i < old; i++, ++*from_at)
+        if (i < n)
+            label = 2 * label + bits_at(from, *from_at, 1);
+    for (unsigned i = old; i < n; i++)
+        label = 2 * label + (one_in && once_in(one_in));
+    put(s, at, n, label);
+    put_recut(s, at, n, from, from_at, one_in);
+    put_recut(s, at, n, from, from_at, one_in);
+    if (label == 0 && *at == begin + 1 + n + 2) { /* bare: all bits after the first are 0 */
+        s->byte[begin / 8] &= (uint8_t)~(0x80u >> begin % 8);
+        *at = begin + 1;
+    }
+}
+
+/* An accepted tree strip with so many variables: its first ones, or more. */
+static inline void recut_tree(struct strip *s, unsigned n, const struct strip *from, unsigned one_in)
+{
+    size_t at = 0, from_at = 8;
+    put(s, &at, 4, 1);
+    put(s, &at, 4, n);
+    put_recut(s, &at, n, from, &from_at, one_in);
+    s->length = (at + 7) / 8;
 }
 
 /* ---- Any bytes ---- */

@@ -5,7 +5,8 @@
  * Every lent buffer stands between guard bytes, in places where a step outside
  * it ends the program, and holds nonzero bytes before the call. Besides the
  * answer this checks what each call leaves in the buffers, that a rule strip that
- * was imported is one, and that the parts of a rule that are said to clash do, and
+ * was imported or joined is one, that a fault is told of the strip that has it where
+ * two are joined, and that the parts of a rule that are said to clash do, and
  * any of them left out, do not. A line of a text that is decided or judged is skipped
  * where a record has more than 64 states, which is no part of the answer it states.
  * A file without lines fails, and so does one that is mostly skipped. It prints what
@@ -44,8 +45,8 @@ static bool buffers_right(const struct request *r, const union result *result)
     uint64_t refusal = refusal_of(r->operation, result);
     enum argument altered = lent_altered(lent, r);
     if (altered)
-        return fails(altered == RULE ? "rule altered" : altered == TREE ? "tree altered" : "text altered");
-    if (has(r->operation, OUT)) /* the strip at its front is told, or checked as import_right has it */
+        return fails(altered == RULE || altered == SECOND ? "rule altered" : altered == TREE ? "tree altered" : "text altered");
+    if (has(r->operation, OUT)) /* the strip at its front is told, or checked as written_right has it */
         if (!lent_kept_after(&lent[OUT], refusal ? 0 : number_at(result, operations[r->operation].answer->length)))
             return fails("out not as it must be left");
     if (!has(r->operation, WORKSPACE))
@@ -56,21 +57,26 @@ static bool buffers_right(const struct request *r, const union result *result)
         || fails("workspace not as it must be left");
 }
 
+/* A rule strip that was written is one, of the numbers told. */
+static bool written_right(uint8_t *const *at, const ws2s_written *w)
+{
+    ws2s_rule c = ws2s_check_rule(lend_bytes(&lent[RULE], at[OUT], w->length, LENT_AT_END), w->length);
+    if (!lent_holds(&lent[RULE], at[OUT], w->length))
+        return fails("rule altered");
+    if (w->length != (16 + 18 * w->records + 7) / 8)
+        return fails("another length of the strip");
+    return (c.refusal == 0 && c.variables == w->variables && c.records == w->records)
+        || fails("the strip does not check with these numbers");
+}
+
 /* The text's fault is the import's, if its out buffer was long enough, and lies at a
- * token in the text; a strip is one, of the numbers told. */
+ * token in the text. */
 static bool import_right(const struct request *r, uint8_t *const *at, const ws2s_written *w)
 {
     uint64_t length = r->number[TEXT];
     ws2s_fault f = ws2s_text_fault(at[TEXT], length);
-    if (w->refusal == 0) {
-        ws2s_rule c = ws2s_check_rule(lend_bytes(&lent[RULE], at[OUT], w->length, LENT_AT_END), w->length);
-        if (!lent_holds(&lent[RULE], at[OUT], w->length))
-            return fails("rule altered");
-        if (w->length != (16 + 18 * w->records + 7) / 8)
-            return fails("another length of the strip");
-        if (c.refusal != 0 || c.variables != w->variables || c.records != w->records)
-            return fails("the strip does not check with these numbers");
-    }
+    if (w->refusal == 0 && !written_right(at, w))
+        return false;
     if (w->refusal != 27 && f.refusal != w->refusal)
         return fails("another refusal as the text's fault");
     if (f.refusal < 23 || f.refusal > 25)
@@ -78,6 +84,23 @@ static bool import_right(const struct request *r, uint8_t *const *at, const ws2s
     if (f.length == 0)
         return f.start == length || fails("a token of no bytes before the end");
     return (f.start < length && f.length <= length - f.start) || fails("a token outside the text");
+}
+
+/* What is refused of either rule its own check refuses, the first's before the second's;
+ * a strip that joins both has the larger n, and their records with one more. */
+static bool join_right(const struct request *r, uint8_t *const *at, const ws2s_written *w)
+{
+    ws2s_rule one = ws2s_check_rule(at[RULE], r->number[RULE]), two = ws2s_check_rule(at[SECOND], r->number[SECOND]);
+    const ws2s_rule *bad = one.refusal ? &one : &two;
+    if (bad->refusal)
+        return (w->refusal == bad->refusal && w->place == bad->place && w->strip == (bad == &one ? 1 : 2))
+            || fails("not the fault of the first strip that has one, at its place");
+    if (w->refusal)
+        return w->refusal == (one.records + two.records > 127 ? WS2S_REFUSED_JOINED_RECORDS : WS2S_REFUSED_RULE_OUT)
+            || fails("another refusal, though both strips are accepted");
+    if (w->variables != (one.variables > two.variables ? one.variables : two.variables) || w->records != one.records + two.records + 1)
+        return fails("not the larger n, or not the records of both and one more");
+    return written_right(at, w);
 }
 
 /* Decides the conjunction of the parts listed, one left out if it is among them. It has
@@ -109,11 +132,19 @@ static bool list_right(const struct request *r, const ws2s_clash_list *list)
     return true;
 }
 
+/* A strip that is joined with itself is, in one of the places, handed over as the same bytes. */
+static bool with_itself(const struct request *r)
+{
+    return has(r->operation, SECOND) && r->number[RULE] == r->number[SECOND] && memcmp(r->byte[RULE], r->byte[SECOND], r->number[RULE]) == 0;
+}
+
 /* One call, with its buffers in one place. */
 static bool run_call(const struct request *r, enum lent_place place, union result *result)
 {
     uint8_t *at[ARGUMENTS] = { NULL };
     lend_request(lent, r, place, place == LENT_AT_BEGINNING, at);
+    if (place == LENT_APART && with_itself(r))
+        at[SECOND] = at[RULE];
     call_library(r, at, result);
     bool idle = tell(r->operation, result, lent[OUT].at, r->number[OUT], answer);
     if (r->strip && idle)
@@ -126,6 +157,7 @@ static bool run_call(const struct request *r, enum lent_place place, union resul
     if (!idle)
         return fails("a field that does not apply is not 0");
     return buffers_right(r, result) && (r->operation != OP_import || import_right(r, at, &result->written))
+        && (r->operation != OP_join || join_right(r, at, &result->written))
         && (r->operation != OP_clash || refusal_of(r->operation, result) || list_right(r, &result->clash_list));
 }
 
