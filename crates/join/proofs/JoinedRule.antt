@@ -18,7 +18,7 @@ use Rattle.logic.proofs.Connectives.{and-iff}
 use Rattle.logic.proofs.Rules.{and-both, extend-length}
 use Rattle.logic.proofs.FirstSets.{satisfies-first}
 use Rattle.rule_strip.specs.RuleStrip.{firstUse, secondUse}
-use Rattle.join.specs.JoinedRule.{moved, movedAll, lastAnd, joinedRecords, firstSets, Joins}
+use Rattle.join.specs.JoinedRule.{moved, movedAll, lastAnd, joinedRecords, firstSets, JoinedRule}
 
 -- ---- formulas
 
@@ -236,7 +236,7 @@ module _ (k n p : ℕ) (rs ss : List Record) (ok : Accepted k n rs) (ko : Accept
   first-same q A i h p = rw (lt-ltb i q h) refl
 
   -- THE CLAIM OF A7, of records
-  pub joined-rule : Joins k n p rs ss (joinedRecords rs ss)
+  pub joined-rule : JoinedRule k n p rs ss (joinedRecords rs ss)
   joined-rule = record {
     accepted = joined-accepted;
     records = joined-length rs ss;

@@ -23,7 +23,7 @@ use Rattle.refusals.specs.Refusal.{checked}
 use Rattle.refusals.specs.declared.Refusal.{Refusal}
 use Rattle.refusals.specs.declared.Refusal.the-variants.{Nothing, Placed}
 use Rattle.refusals.proofs.Refusals.{checked-free, tested-free, unless-refused, tested-unplaced, nothing-unplaced}
-use Rattle.join.specs.JoinedRule.{joinedRecords, Joins}
+use Rattle.join.specs.JoinedRule.{joinedRecords, JoinedRule}
 use Rattle.join.specs.Joining.{recordsRefusal, ruleOutRefusal, sizeRefusal, joinRefusal, faultyStrip, joinedVariables, joinedStrip, writtenOf, joinOf}
 use Rattle.join.specs.Joining.{outAfterJoin, JoinedStrips, FaultTold, of-first, of-second, JoinClaim, Joinable, PutMoved}
 use Rattle.join.specs.declared.Joined.{Joined}
@@ -74,7 +74,7 @@ module _ {a b : List ℕ} (j : Joinable a b) where
   abbrev js : List Record
   js = joinedRecords (recordsOf a) (recordsOf b)
 
-  joins : Joins 2 (variablesOf a) (variablesOf b) (recordsOf a) (recordsOf b) js
+  joins : JoinedRule 2 (variablesOf a) (variablesOf b) (recordsOf a) (recordsOf b) js
   joins =
       joined-rule 2 (variablesOf a) (variablesOf b) (recordsOf a) (recordsOf b) (rule-accepted a (j .first-sound) .records-accepted)
       (rule-accepted b (j .second-sound) .records-accepted)

@@ -40,7 +40,7 @@ abbrev pub firstSets : {k : ℕ} → ℕ → Assignment k → Assignment k
 firstSets n A i = cond (ltb i n) (A i) []
 
 -- A7'S CLAIM of records: js joins rs, over n variables, and ss, over p
-pub record Joins (k n p : ℕ) (rs ss js : List Record) : Type 0 where
+pub record JoinedRule (k n p : ℕ) (rs ss js : List Record) : Type 0 where
   -- "The result passes the strip check"; "n is the larger"
   pub accepted : Accepted k (max n p) js
   pub records : length js ≡ length rs + length ss + 1
