@@ -53,7 +53,7 @@
  * Stack. 64 KiB are enough for any call, the deepest trees and texts included; a
  * thread needs what its own frames take beside that. Nothing is put on the heap.
  *
- * Time. Every call ends. The checks take microseconds; the time to read a text
+ * Time. Every call ends. The checks and a join take microseconds; the time to read a text
  * grows with its length, times at most the names in use. Judge and decide take
  * longer the more workspace is asked for: the longest calls known, with 8
  * variables, 128 records and c = 64, take about a second, up to 10 ns for each
