@@ -584,10 +584,10 @@ static const char *output_file(const struct arguments *a)
 /* Whether the strip would be written over a file that it is made of. */
 static bool replaces_input(const struct arguments *a)
 {
-    bool same = false;
     for (unsigned i = 0; output_file(a) && i < a->operands; i++)
-        same = same || same_file(a->operand[i], output_file(a));
-    return same;
+        if (same_file(a->operand[i], output_file(a)))
+            return true;
+    return false;
 }
 
 static enum status write_rule(const struct arguments *a, const struct strip *rule)

@@ -768,6 +768,10 @@ expect 0 'shown: 1 place, 3 states
 
 # ---- help
 "$command" --help >"$room/help" && [ "$(wc -l <"$room/help")" -gt 20 ] || { echo 'no help'; failed=$((failed + 1)); }
+for name in decide clash judge check print tree import join; do
+    grep -q "^\(usage:\|      \) ws2s $name " "$room/help" && grep -q "^$name  *[a-z]" "$room/help" && right=yes || right=no
+    verdict $right "help says nothing of $name"
+done
 for words in -h help 'decide --help' 'judge -h x' 'tree --help' 'import --help' 'join x -h' 'join --help'; do
     # shellcheck disable=SC2086
     expect 0 "$(cat "$room/help")" '' $words

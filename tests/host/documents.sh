@@ -9,6 +9,8 @@
 # - The README's C programs are the examples; its table of refusals and those of
 #   ws2s(3) have the header's names, texts and places; the manual's structures are
 #   the header's; the manual's examples print what it says.
+# - The manual's synopsis of the command is the one that --help has, and the README and
+#   the manual have every subcommand.
 # - Every sample has a row in samples/README.md, with its records as the command
 #   prints them and the verdict program's verdict.
 # - The picture is the one that the command draws.
@@ -111,6 +113,15 @@ for name in check_rule check_tree judge decide clash import text_fault; do pages
 # shellcheck disable=SC2086 # a word for each page
 differs 'manual pages, structures' "$(structures $pages)" "$(cat "$room/structures")"
 differs 'ws2s_join(3), structure' "$(structures man/ws2s_join.3)" "$(structures man/ws2s_import.3)"
+
+# ---- The subcommands
+
+"$command" --help | sed -n 's/^\(usage:\|      \) \(ws2s .*\)/\2/p' >"$room/usage"
+differs 'ws2s(1), synopsis' "$(sed -n '/^\.SH SYNOPSIS/,/^\.fi/{s/\\f[BIP]//g; s/\\-/-/g; /^ws2s /p;}' man/ws2s.1)" "$(cat "$room/usage")"
+for name in $(sed -n 's/^ws2s \([a-z]*\) .*/\1/p' "$room/usage"); do
+    grep -q "^| \`$name .*\` |" README.md || { echo "the README has no ws2s $name"; failed=1; }
+    grep -q "^\.B $name$" man/ws2s.1 || { echo "ws2s(1) does not describe $name"; failed=1; }
+done
 
 # ---- The samples: `file` in the first column, records in the last but one, `verdict` in the last
 
