@@ -955,7 +955,7 @@ joins belt_seat "$room/long_belt.mona" "$room/long_seat.mona"
 
 # a refusal is that of the file alone, with its name; the first file's comes first, of whatever kind it is
 alone() { # FILE: what is said of it by decide
-    "$command" decide "$1" 2>&1 >/dev/null
+    { "$command" decide "$1" >/dev/null; } 2>&1
 }
 text fault.mona 'ws2s;\nvar2 Belt, Seat;\nBelt sub Seats;\n'
 text other_fault.mona 'ws2s; var2 X; X sub X'
@@ -1054,17 +1054,24 @@ ws2s: variable 1 is \`Belt\` in standard input and \`Seat\` in $room/belts.mona$
 input=
 # nothing is said of a strip, of numbers that one text alone declares, of what is bound or hidden, or of one file by two names
 ln -s turned.mona "$room/turned_link"
-for words in "turned.mona turned.mona" "turned.mona turned_link" "turned.mona belt.rul" "belt.rul turned.mona" "seat.mona belt.mona"; do
-    set -- $words
+silent() { # FIRST SECOND
     expect 0 '' '' join "$room/$1" "$room/$2" -o "$room/made"
-done
+}
+silent turned.mona turned.mona
+silent turned.mona turned_link
+silent turned.mona belt.rul
+silent belt.rul turned.mona
+silent seat.mona belt.mona
 text bound.mona 'ws2s; var2 Belt; (ex1 s: s in Belt) & (all2 Seats: Seats sub Belt);'
 text hidden.mona 'ws2s; var2 Belt, Seat; (ex1 Belt: Belt in Seat) & (all2 Seat: Seat sub Belt);'
 text free.mona 'ws2s; ex1 x: x = root;'
-for words in "bound.mona belt.mona" "seat.mona bound.mona" "hidden.mona belt.mona" "seat.mona hidden.mona" "bound.mona hidden.mona" "free.mona belt.mona" "seat.mona free.mona"; do
-    set -- $words
-    expect 0 '' '' join "$room/$1" "$room/$2" -o "$room/made"
-done
+silent bound.mona belt.mona
+silent seat.mona bound.mona
+silent hidden.mona belt.mona
+silent seat.mona hidden.mona
+silent bound.mona hidden.mona
+silent free.mona belt.mona
+silent seat.mona free.mona
 # long names are told by their beginnings
 text forty.mona "ws2s; var2 $(row 40 a), $(row 41 b); $(row 40 a) sub $(row 41 b);"
 expect 0 '' "ws2s: variable 0 is \`$(row 40 a)\` in $room/forty.mona and \`Belt\` in $room/belt.mona$agree
