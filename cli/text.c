@@ -61,7 +61,7 @@ static bool spells(const char *word, const uint8_t *from, size_t length)
 void add_names(struct names *names, struct text *text, const struct strip *rule)
 {
     static const char *const declaring[] = { "var1", "var2" }, *const binding[] = { "ex1", "ex2", "all1", "all2" };
-    enum { NOTHING, DECLARED, BOUND } next = NOTHING;
+    enum { NOTHING, PLACES, SETS, BOUND } next = NOTHING;
     unsigned declarations = 0, quantifiers = 0, given = names->count, bounds = bound_variables(rule, names->bound);
     for (size_t at = 0, end; at < text->length; at = end + 1) {
         for (end = at; end < text->length && of_a_word(text->byte[end]); end++)
@@ -70,8 +70,9 @@ void add_names(struct names *names, struct text *text, const struct strip *rule)
             break;
         char *word = (char *)text->byte + at;
         bool closed = text->byte[end] == ';';
-        if (end > at && next == DECLARED && declarations < WS2S_MAX_VARIABLES) {
+        if (end > at && (next == PLACES || next == SETS) && declarations < WS2S_MAX_VARIABLES) {
             text->byte[end] = 0;
+            names->place[declarations] = next == PLACES;
             if (declarations++ >= given)
                 names->name[names->count++] = word;
         } else if (end > at && next == BOUND && quantifiers < bounds) {
@@ -81,7 +82,7 @@ void add_names(struct names *names, struct text *text, const struct strip *rule)
         }
         for (unsigned i = 0; i < 2; i++)
             if (spells(declaring[i], text->byte + at, end - at))
-                next = DECLARED;
+                next = i == 0 ? PLACES : SETS;
         for (unsigned i = 0; i < 4; i++)
             if (spells(binding[i], text->byte + at, end - at))
                 next = BOUND;
@@ -91,9 +92,47 @@ void add_names(struct names *names, struct text *text, const struct strip *rule)
     names->bounds = quantifiers;
 }
 
+/* ---- Two texts ---- */
+
+enum { QUOTED = 40 }; /* characters of a word */
+
+/* A word of a text, of which there may be more. */
+static void put_quoted(FILE *to, const uint8_t *word, size_t length, bool more)
+{
+    fputc('`', to);
+    fwrite(word, 1, length <= QUOTED ? length : QUOTED, to);
+    fputs(more || length > QUOTED ? "...`" : "`", to);
+}
+
+static void put_declared(FILE *to, const char *file, const struct names *names, unsigned variable, bool kind)
+{
+    const char *name = names->name[variable];
+    if (kind)
+        fputs(names->place[variable] ? "the place " : "the set ", to);
+    put_quoted(to, (const uint8_t *)name, strlen(name), false);
+    fprintf(to, " in %s", file);
+}
+
+void put_differences(FILE *to, const char *first_file, const struct names *first, const char *second_file,
+                     const struct names *second)
+{
+    for (unsigned i = 0; i < first->count && i < second->count; i++) {
+        bool names = strcmp(first->name[i], second->name[i]) != 0, kinds = first->place[i] != second->place[i];
+        if (!names && !kinds)
+            continue;
+        fprintf(to, "ws2s: variable %u is ", i);
+        put_declared(to, first_file, first, i, kinds);
+        fputs(" and ", to);
+        put_declared(to, second_file, second, i, kinds);
+        fputs("; they are joined by number: declare ", to);
+        fputs(names ? "the same names in the same order in both" : "it with var1 in both, or with var2 in both", to);
+        fputs(names && kinds ? ", a place with var1 and a set with var2\n" : "\n", to);
+    }
+}
+
 /* ---- Refusals ---- */
 
-enum { WINDOW = 72, LEAD = 36, QUOTED = 40 }; /* characters: of a line, before the token if it is cut there, of a word */
+enum { WINDOW = 72, LEAD = 36 }; /* characters: of a line, before the token if it is cut there */
 
 /* Where a token is, for a person: the line's bytes, without its end. */
 struct spot {
@@ -148,13 +187,8 @@ static void put_found(FILE *to, const struct text *text, const ws2s_fault *fault
         return;
     }
     if (visible(take_character(&after, end))) {
-        bool more = fault->length > QUOTED || (!text->whole && fault->start + fault->length == text->length);
-        fputc('`', to);
-        if (fault->length <= 1)
-            fwrite(at, 1, (size_t)(after - at), to);
-        else
-            fwrite(at, 1, fault->length <= QUOTED ? (size_t)fault->length : QUOTED, to);
-        fputs(more ? "...`" : "`", to);
+        bool more = !text->whole && fault->start + fault->length == text->length;
+        put_quoted(to, at, fault->length <= 1 ? (size_t)(after - at) : (size_t)fault->length, more);
         if (*at < 0x80)
             return;
         fputs(", ", to);

@@ -1,12 +1,10 @@
-/* A rule typed as text: what its variables are called, and why and where it is
- * refused, in words. What is in a text is for the library to say; nothing here
+/* A rule typed as text: what its variables are called, how two texts differ in that,
+ * and why and where a text is refused, in words. What is in a text is for the library to say; nothing here
  * knows its grammar. */
 #ifndef TEXT_H
 #define TEXT_H
 
 #include "words.h"
-
-#include <stdbool.h>
 
 /* Any bytes. Of a file that was not read to its end there may be more. */
 struct text {
@@ -30,6 +28,12 @@ bool blank(uint8_t byte);
  * variables that have a name already, and what its quantifiers bind. The rule is
  * the strip that is written for it. The names lie in the text, which is altered. */
 void add_names(struct names *names, struct text *text, const struct strip *rule);
+
+/* Where two texts that are joined declare a variable with another name, or one as a
+ * place and the other as a set, a sentence for each: its number, what each has, and what
+ * to do. The names are the texts' alone. */
+void put_differences(FILE *to, const char *first_file, const struct names *first, const char *second_file,
+                     const struct names *second);
 
 /* Why a text is refused, as a sentence: the number, the line and column of the
  * token, why, what stands there, what helps; then the line with the token marked. */

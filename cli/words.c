@@ -1,7 +1,6 @@
 #include "words.h"
 
 #include <inttypes.h>
-#include <stdbool.h>
 #include <string.h>
 
 enum { HEADING = 16, RECORD = 18, FIRST_FIELD = 4, SECOND_FIELD = 11 }; /* bits; a record's fields from its start */

@@ -4,6 +4,7 @@
 
 #include "ws2s.h"
 
+#include <stdbool.h>
 #include <stdio.h>
 
 /* What a word ends in that stands after a number. */
@@ -20,9 +21,11 @@ struct bound {
 };
 
 /* What the variables are called: the first ones in every record, others by what
- * binds them there if it has a name, and the rest X0, X1, ... by their numbers. */
+ * binds them there if it has a name, and the rest X0, X1, ... by their numbers. Of
+ * those that a text declares, which are places. */
 struct names {
     const char *name[WS2S_MAX_VARIABLES];
+    bool place[WS2S_MAX_VARIABLES];
     unsigned count, bounds;
     struct bound bound[WS2S_MAX_RECORDS];
 };

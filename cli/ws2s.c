@@ -1,4 +1,4 @@
-/* The command ws2s: decides, judges, checks and shows rule and tree strips, and
+/* The command ws2s: decides, judges, checks, joins and shows rule and tree strips, and
  * rules typed as text, and tells what clashes in them, by libws2s. See man/ws2s.1. */
 #define _DEFAULT_SOURCE
 #include "drawing.h"
@@ -24,6 +24,7 @@ static const char help[] =
     "       ws2s print RULE [NAME...]\n"
     "       ws2s tree [--outline|--hex|--dot|--svg] TREE [NAME...]\n"
     "       ws2s import TEXT [-o RULE]\n"
+    "       ws2s join FIRST SECOND [-o RULE]\n"
     "       ws2s --help | --version\n"
     "\n"
     "decide  show the earliest tree that satisfies a rule, or say that there is none\n"
@@ -34,10 +35,12 @@ static const char help[] =
     "print   write each record of a rule in words, and mark the first bad one\n"
     "tree    show a tree\n"
     "import  write the strip of a rule typed as text, or say where the text is at fault\n"
+    "join    write one strip of two rules, satisfied by what satisfies both: variables\n"
+    "        with the same number are the same\n"
     "\n"
-    "TREE and FILE are strips, RULE is a strip or a text; - is standard input. NAMEs\n"
-    "are what the variables are called, in order, instead of the names in the text\n"
-    "or X0, X1, ...\n"
+    "TREE and FILE are strips, RULE, FIRST and SECOND are strips or texts; - is\n"
+    "standard input. NAMEs are what the variables are called, in order, instead of\n"
+    "the names in the text or X0, X1, ...\n"
     "\n"
     "  -c N       the most states that a record may need, 1 to 64 (64)\n"
     "  -p N       the most places that the tree may have, 0 to 255 (255)\n"
@@ -230,6 +233,15 @@ static enum status read_tree(const char *file, struct strip *tree)
 
 /* ---- Rules, as strips and as text ---- */
 
+/* A file with a rule: what was read of it, and the rule's strip, which is that or what
+ * was written for it. */
+struct source {
+    const char *file;
+    struct text text;
+    struct strip rule;
+    uint8_t beginning[WS2S_MAX_RULE_BYTES + 1], imported[WS2S_MAX_RULE_BYTES];
+};
+
 /* Whether an accepted text may begin so: with blanks and the word ws2s, or with a
  * part of that if there is no more of it. */
 static bool begins_a_text(const struct text *text)
@@ -281,16 +293,17 @@ static enum status read_on(FILE *from, const char *file, struct text *text)
 }
 
 /* Reads the beginning of a file, and all of it if it begins a text: of anything else
- * the beginning has what it is refused for. As a text it lasts until the next. */
-static enum status read_file(const char *file, struct text *text)
+ * the beginning has what it is refused for. */
+static enum status read_file(struct source *source, const char *file)
 {
-    static uint8_t bytes[WS2S_MAX_RULE_BYTES + 1];
+    struct text *text = &source->text;
     FILE *from = open_file(file);
     enum status status = GOOD;
     if (!from)
         return trouble(file);
-    *text = (struct text){ bytes, fread(bytes, 1, sizeof bytes, from), false };
-    text->whole = text->length < sizeof bytes;
+    source->file = file;
+    *text = (struct text){ source->beginning, fread(source->beginning, 1, sizeof source->beginning, from), false };
+    text->whole = text->length < sizeof source->beginning;
     if (ferror(from))
         status = trouble(title(file));
     else if (!text->whole && begins_a_text(text))
@@ -300,34 +313,33 @@ static enum status read_file(const char *file, struct text *text)
 }
 
 /* The strip of a text. */
-static enum status import_text(const char *file, const struct text *text, struct strip *rule)
+static enum status import_text(struct source *source)
 {
-    static uint8_t bytes[WS2S_MAX_RULE_BYTES];
-    ws2s_written written = ws2s_import(text->byte, text->length, bytes, sizeof bytes);
-    *rule = (struct strip){ bytes, (size_t)written.length };
+    const struct text *text = &source->text;
+    ws2s_written written = ws2s_import(text->byte, text->length, source->imported, sizeof source->imported);
+    source->rule = (struct strip){ source->imported, (size_t)written.length };
     if (written.refusal == 0)
         return GOOD;
     ws2s_fault fault = ws2s_text_fault(text->byte, text->length);
-    fprintf(stderr, "ws2s: %s: ", title(file));
+    fprintf(stderr, "ws2s: %s: ", title(source->file));
     put_text_refusal(stderr, text, &fault);
     return REFUSED;
 }
 
 /* A rule's strip, from a file of either kind. Of a text the names are added to those
  * given. */
-static enum status read_rule(const char *file, struct strip *rule, struct names *names)
+static enum status read_rule(struct source *source, const char *file, struct names *names)
 {
-    struct text text;
     enum status status;
-    if ((status = read_file(file, &text)))
+    if ((status = read_file(source, file)))
         return status;
-    if (!looks_like_text(&text)) {
-        *rule = (struct strip){ text.byte, text.length };
+    if (!looks_like_text(&source->text)) {
+        source->rule = (struct strip){ source->text.byte, source->text.length };
         return GOOD;
     }
-    if ((status = import_text(file, &text, rule)))
+    if ((status = import_text(source)))
         return status;
-    add_names(names, &text, rule);
+    add_names(names, &source->text, &source->rule);
     return GOOD;
 }
 
@@ -336,9 +348,11 @@ static enum status read_rule(const char *file, struct strip *rule, struct names 
 /* A rule and what its variables are called, from the words RULE [NAME...]. */
 static enum status read_named_rule(const struct arguments *a, struct strip *rule, struct names *names, ws2s_rule *checked)
 {
+    static struct source source;
     enum status status;
-    if ((status = read_names(a, 1, names)) || (status = read_rule(a->operand[0], rule, names)))
+    if ((status = read_names(a, 1, names)) || (status = read_rule(&source, a->operand[0], names)))
         return status;
+    *rule = source.rule;
     *checked = ws2s_check_rule(rule->byte, rule->length);
     return checked->refusal == 0 ? too_many_names(names, checked->variables) : GOOD;
 }
@@ -459,15 +473,22 @@ static enum status clash(const struct arguments *a)
     return GOOD;
 }
 
+static bool both_standard_input(const struct arguments *a)
+{
+    return strcmp(a->operand[0], "-") == 0 && strcmp(a->operand[1], "-") == 0;
+}
+
 static enum status judge(const struct arguments *a)
 {
     static struct names names;
-    struct strip rule, report;
+    static struct source source;
+    struct strip report;
     enum status status;
-    if (strcmp(a->operand[0], "-") == 0 && strcmp(a->operand[1], "-") == 0)
+    if (both_standard_input(a))
         return usage("rule and tree cannot both be standard input");
-    if ((status = read_rule(a->operand[0], &rule, &names)) || (status = read_tree(a->operand[1], &report)))
+    if ((status = read_rule(&source, a->operand[0], &names)) || (status = read_tree(a->operand[1], &report)))
         return status;
+    struct strip rule = source.rule;
     size_t size = ws2s_workspace_size(ws2s_check_rule(rule.byte, rule.length), a->c);
     uint8_t *workspace = malloc(size > 0 ? size : 1);
     if (!workspace)
@@ -554,23 +575,81 @@ static bool same_file(const char *input, const char *output)
         && S_ISREG(one.st_mode) && one.st_dev == other.st_dev && one.st_ino == other.st_ino;
 }
 
-static enum status import(const struct arguments *a)
+/* The file that a strip is written to, or NULL for standard output. */
+static const char *output_file(const struct arguments *a)
 {
-    const char *output = a->output && strcmp(a->output, "-") != 0 ? a->output : NULL;
-    struct text text;
-    struct strip rule;
-    enum status status;
-    if (output && same_file(a->operand[0], output))
-        return usage("the strip would replace the text");
-    if ((status = read_file(a->operand[0], &text)) || (status = import_text(a->operand[0], &text, &rule)))
-        return status;
+    return a->output && strcmp(a->output, "-") != 0 ? a->output : NULL;
+}
+
+/* Whether the strip would be written over a file that it is made of. */
+static bool replaces_input(const struct arguments *a)
+{
+    for (unsigned i = 0; output_file(a) && i < a->operands; i++)
+        if (same_file(a->operand[i], output_file(a)))
+            return true;
+    return false;
+}
+
+static enum status write_rule(const struct arguments *a, const struct strip *rule)
+{
+    const char *output = output_file(a);
     FILE *to = output ? fopen(output, "wb") : stdout;
     if (!to)
         return trouble(output);
-    bool written = fwrite(rule.byte, 1, rule.length, to) == rule.length;
+    bool written = fwrite(rule->byte, 1, rule->length, to) == rule->length;
     if (output && (fclose(to) != 0 || !written))
         return trouble(output);
     return GOOD;
+}
+
+static enum status import(const struct arguments *a)
+{
+    static struct source source;
+    enum status status;
+    if (replaces_input(a))
+        return usage("the strip would replace the text");
+    if ((status = read_file(&source, a->operand[0])) || (status = import_text(&source)))
+        return status;
+    return write_rule(a, &source.rule);
+}
+
+/* A rule that is at fault in nothing, so that one file's faults are told before the next is read. */
+static enum status read_accepted_rule(struct source *source, const char *file, struct names *names)
+{
+    enum status status;
+    if ((status = read_rule(source, file, names)))
+        return status;
+    ws2s_rule checked = ws2s_check_rule(source->rule.byte, source->rule.length);
+    return checked.refusal == 0 ? GOOD
+                                : refuse(file, (struct refusal){ checked.refusal, 0, checked.place }, &source->rule, names);
+}
+
+/* What two accepted rules are refused for together: their records. */
+static enum status refuse_both(const struct source *first, const struct source *second, uint64_t refusal)
+{
+    return say(REFUSED, "%s and %s: refused %u: %s (the first has %u, the second %u); %s", title(first->file),
+               title(second->file), (unsigned)refusal, ws2s_refusal_text(refusal), first->rule.byte[1], second->rule.byte[1],
+               ws2s_refusal_help(refusal));
+}
+
+static enum status join(const struct arguments *a)
+{
+    static struct source first, second;
+    static struct names of_first, of_second;
+    uint8_t out[WS2S_MAX_RULE_BYTES];
+    enum status status;
+    if (both_standard_input(a))
+        return usage("the two rules cannot both be standard input");
+    if (replaces_input(a))
+        return usage("the strip would replace one of the two rules");
+    if ((status = read_accepted_rule(&first, a->operand[0], &of_first))
+        || (status = read_accepted_rule(&second, a->operand[1], &of_second)))
+        return status;
+    ws2s_written joined = ws2s_join(first.rule.byte, first.rule.length, second.rule.byte, second.rule.length, out, sizeof out);
+    if (joined.refusal != 0)
+        return refuse_both(&first, &second, joined.refusal);
+    put_differences(stderr, title(first.file), &of_first, title(second.file), &of_second);
+    return write_rule(a, &(struct strip){ out, (size_t)joined.length });
 }
 
 /* ---- The command ---- */
@@ -587,6 +666,7 @@ static const struct subcommand {
     { "print", "", 1, 1 + WS2S_MAX_VARIABLES, print },
     { "tree", "f", 1, 1 + WS2S_MAX_VARIABLES, tree },
     { "import", "o", 1, 1, import },
+    { "join", "o", 2, 2, join },
 };
 
 static enum status run(int argc, char **argv)

@@ -11,8 +11,10 @@
  * text that is refused the sentence must have the
  * line and column of the library's token, and the mark must stand under it; nothing
  * may be written. Of one that is accepted the strip must be the library's, and the
- * names in it those that were put there. The same seed makes the same strips and
- * texts. It prints what fails and a count, and ends with status 1 if anything did. */
+ * names in it those that were put there. What two files are joined to must be what the
+ * library joins, with a line for each number that two texts call differently; if one is
+ * refused, what is said must be what is said of that file alone, the first's before the
+ * second's. The same seed makes the same strips and texts. It prints what fails and a count, and ends with status 1 if anything did. */
 #define _DEFAULT_SOURCE
 #include "request.h"
 #include "typed.h"
@@ -76,7 +78,7 @@ static void damage_often(struct strip *s)
 static char room[64], rule_name[80], tree_name[80], text_name[80], made_name[80], out_name[80], err_name[80];
 static char said[1 << 16], complained[1 << 13];
 static size_t said_length;
-static unsigned long passed, failed, accepted, refused, kept;
+static unsigned long passed, failed, accepted, refused, kept, joined, differing, beyond;
 
 static void save_bytes(const char *name, const void *bytes, size_t length)
 {
@@ -453,8 +455,124 @@ static void try_text(const struct typed *t, bool whole)
     }
 }
 
+/* ---- Two rules ---- */
+
+/* A file to be joined: whether it is a text, the strip that the library has for it if
+ * that is good, and else what the command says of the file alone. */
+struct side {
+    char name[80];
+    struct typed file;
+    bool text, good;
+    struct strip rule;
+    char alone[sizeof complained];
+};
+
+static void make_side(struct side *s)
+{
+    if (!once_in(3)) {
+        make_typed(&s->file);
+    } else {
+        if (once_in(2))
+            make_plain_rule(&s->rule, some_variables(), 40 + below(80), 0, NULL);
+        else
+            make_any_rule(&s->rule);
+        if (once_in(4))
+            damage_often(&s->rule);
+        s->file.length = s->rule.length;
+        memcpy(s->file.byte, s->rule.byte, s->rule.length);
+    }
+    save_bytes(s->name, s->file.byte, s->file.length);
+    s->text = taken_for_text(s->file.byte, s->file.length);
+    if (s->text) {
+        ws2s_written w = ws2s_import(s->file.byte, s->file.length, s->rule.byte, WS2S_MAX_RULE_BYTES);
+        s->rule.length = w.length;
+        s->good = w.refusal == 0;
+    } else {
+        s->good = ws2s_check_rule(s->file.byte, s->file.length).refusal == 0;
+    }
+    if (s->good)
+        return;
+    run(s->text ? WORDS((char *)"import", s->name) : WORDS((char *)"check", (char *)"rule", s->name));
+    memcpy(s->alone, complained, sizeof complained);
+}
+
+/* The name that an accepted text declares for a variable, and whether that is a place. */
+static bool declares(const struct side *s, unsigned variable, struct token *name, bool *place)
+{
+    const struct typed *t = &s->file;
+    uint8_t order = 0;
+    for (size_t at = 0, end; s->text && at < t->length; at = end + 1) {
+        for (end = at; end < t->length && is_word_byte(t->byte[end]); end++)
+            ;
+        *name = (struct token){ (const char *)t->byte + at, end - at };
+        *place = order == '1';
+        if (same_token(*name, word_of("var1")) || same_token(*name, word_of("var2")))
+            order = t->byte[at + 3];
+        else if (order && end > at && variable-- == 0)
+            return true;
+        if (end < t->length && t->byte[end] == ';')
+            order = 0;
+    }
+    return false;
+}
+
+/* What is to be said of two texts: the beginning of each line, up to what to do. */
+static bool tells_differences(const struct side *one, const struct side *other)
+{
+    const char *at = complained;
+    struct token name[2];
+    bool place[2];
+    for (unsigned i = 0; declares(one, i, &name[0], &place[0]) && declares(other, i, &name[1], &place[1]); i++) {
+        char line[400];
+        bool kinds = place[0] != place[1];
+        if (!kinds && same_token(name[0], name[1]))
+            continue;
+        int length = snprintf(line, sizeof line, "ws2s: variable %u is ", i);
+        for (unsigned k = 0; k < 2; k++)
+            length += snprintf(line + length, sizeof line - (size_t)length, "%s%s`%.*s%s` in %s%s", k ? " and " : "",
+                               !kinds ? "" : place[k] ? "the place " : "the set ", name[k].length > 40 ? 40 : (int)name[k].length,
+                               name[k].at, name[k].length > 40 ? "..." : "", (k ? other : one)->name,
+                               k ? "; they are joined by number: declare " : "");
+        if (strncmp(at, line, (size_t)length) != 0 || !(at = strchr(at, '\n')))
+            return false;
+        at++;
+        differing++;
+    }
+    return *at == 0;
+}
+
+static void try_join(struct side *one, struct side *other)
+{
+    static const char before[] = "what was there before";
+    static char made[400];
+    uint8_t out[WS2S_MAX_RULE_BYTES];
+    char start[240];
+    make_side(one);
+    make_side(other);
+    save_bytes(made_name, before, strlen(before));
+    char **words = WORDS((char *)"join", one->name, (char *)"-o", made_name, other->name);
+    int status = run(words);
+    size_t length = load(made_name, made, sizeof made);
+    bool right = said_length == 0, kept_file = strcmp(made, before) == 0;
+    if (!one->good || !other->good) {
+        right = right && status == 3 && kept_file && strcmp(complained, one->good ? other->alone : one->alone) == 0;
+    } else {
+        ws2s_written w = ws2s_join(one->rule.byte, one->rule.length, other->rule.byte, other->rule.length, out, sizeof out);
+        snprintf(start, sizeof start, "ws2s: %s and %s: refused %d: ", one->name, other->name, (int)w.refusal);
+        if (w.refusal == 0)
+            right = right && status == 0 && length == w.length && memcmp(made, out, length) == 0 && tells_differences(one, other);
+        else
+            right = right && status == 3 && kept_file && strncmp(complained, start, strlen(start)) == 0;
+        (w.refusal == 0 ? joined++ : beyond++);
+    }
+    count_text(right, words, status, &one->file);
+    if (!right)
+        count_text(false, words, status, &other->file);
+}
+
 int main(int argc, char **argv)
 {
+    static struct side one, other;
     static struct strip rule, tree;
     static struct typed text;
     chance_state = argc > 1 ? strtoull(argv[1], NULL, 10) : 1;
@@ -467,6 +585,8 @@ int main(int argc, char **argv)
     snprintf(tree_name, sizeof tree_name, "%s/tree", room);
     snprintf(text_name, sizeof text_name, "%s/text", room);
     snprintf(made_name, sizeof made_name, "%s/made", room);
+    snprintf(one.name, sizeof one.name, "%s/one", room);
+    snprintf(other.name, sizeof other.name, "%s/other", room);
     snprintf(out_name, sizeof out_name, "%s/out", room);
     snprintf(err_name, sizeof err_name, "%s/err", room);
     for (unsigned long i = 0; i < strips && failed < 10; i++) {
@@ -489,15 +609,19 @@ int main(int argc, char **argv)
         for (unsigned times = whole ? 0 : 1 + below(2); times > 0; times--)
             spoil_text(&text);
         try_text(&text, whole);
+        try_join(&one, &other);
     }
     remove(rule_name);
     remove(tree_name);
     remove(text_name);
     remove(made_name);
+    remove(one.name);
+    remove(other.name);
     remove(out_name);
     remove(err_name);
     rmdir(room);
-    printf("the command on strips and texts at random: %lu passed, %lu failed (%lu texts accepted, %lu refused, %lu lists)\n", passed,
-           failed, accepted, refused, kept);
-    return failed || accepted < strips / 4 || refused < strips / 4 || kept < strips / 100;
+    printf("the command on strips and texts at random: %lu passed, %lu failed (%lu texts accepted, %lu refused, %lu lists, %lu joined, "
+           "%lu with too many records, %lu names that differ)\n", passed, failed, accepted, refused, kept, joined, beyond, differing);
+    return failed || accepted < strips / 4 || refused < strips / 4 || kept < strips / 100 || joined < strips / 8 || beyond < strips / 100
+        || differing < strips / 50;
 }

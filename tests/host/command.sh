@@ -391,24 +391,25 @@ expect 0 'n=5
 42: Sing(b)
 43: 42 and 41' '' print "$room/all.mona"
 
-# nothing is written of a text that is refused
-refused_import() { # NUMBER FILE: nothing on standard output, and no file made or changed
+# nothing is written of what is refused
+writes_nothing() { # STATUS BEGINNING WORDS...: of what is said; nothing on standard output, and no file made or changed
+    wanted=$1 beginning=$2
+    shift 2
     printf 'as it was' >"$room/old"
     touch -t 200001010000 "$room/old"
     rm -f "$room/new"
-    for to in old new; do
-        "$command" import "$room/$2" -o "$room/$to" >"$room/out" 2>"$room/err"
+    for to in "$room/old" "$room/new" -; do
+        "$command" "$@" -o "$to" >"$room/out" 2>"$room/err" <"${input:-/dev/null}"
         status=$?
         right=no
-        [ $status -eq 3 ] && [ ! -s "$room/out" ] && grep -q "^ws2s: $room/$2: refused $1[ :]" "$room/err" && [ ! -e "$room/new" ] &&
-            [ "$(cat "$room/old")" = 'as it was' ] && [ -z "$(find "$room/old" -newermt 2000-01-02)" ] && right=yes
-        verdict $right "import of $2, refused $1, to a file"
+        case $(cat "$room/err") in "$beginning"*) right=yes ;; esac
+        [ $status -eq "$wanted" ] && [ ! -s "$room/out" ] && [ ! -e "$room/new" ] && [ "$(cat "$room/old")" = 'as it was' ] &&
+            [ -z "$(find "$room/old" -newermt 2000-01-02)" ] || right=no
+        verdict $right "ws2s $* -o $to: expected status $wanted, nothing written, and: $beginning"
     done
-    "$command" import "$room/$2" >"$room/out" 2>"$room/err"
-    status=$?
-    right=no
-    [ $status -eq 3 ] && [ ! -s "$room/out" ] && grep -q "^ws2s: $room/$2: refused $1[ :]" "$room/err" && right=yes
-    verdict $right "import of $2, refused $1, to standard output"
+}
+refused_import() { # NUMBER FILE
+    writes_nothing 3 "ws2s: $room/$2: refused $1" import "$room/$2"
 }
 
 # ---- texts: where they are refused
@@ -742,6 +743,7 @@ at_fault 23 1 38 'byte 0x12' 'ws2s; var1 belt, seat; belt = seat.0;?? ?@' "$(row
 for words in '' 'frobnicate' 'decide' 'decide --frob x' 'decide -c x' 'decide -c' 'decide -p 1x' 'decide -c -1 x' 'decide --hex --svg x' \
     'judge x' 'judge x y z' 'judge -p 1 x y' 'judge --hex x y' 'judge - -' 'check' 'check rule' 'check leaf x' 'check rule x y' 'check -c 1 rule x' \
     'import' 'import x y' 'import x -o' 'import -o x' 'import -c 1 x' 'import --hex x' 'import x -o y -o z' 'decide -o x y' 'print -o x y' 'check -o x rule y' \
+    'join' 'join x' 'join x y z' 'join x y -o' 'join -o x y' 'join -c 1 x y' 'join -p 1 x y' 'join --hex x y' 'join --strip x y' 'join x y -o z -o z' 'join - -' \
     'print' 'print --hex x' 'print -c 1 x' 'tree' 'tree --strip x' 'tree -p 1 x' 'decide x 1 2 3 4 5 6 7 8 9' 'tree x 1 2 3 4 5 6 7 8 9 10 11' '-x'; do
     # shellcheck disable=SC2086
     refuses 64 'ws2s --help says how it is used' $words
@@ -766,7 +768,11 @@ expect 0 'shown: 1 place, 3 states
 
 # ---- help
 "$command" --help >"$room/help" && [ "$(wc -l <"$room/help")" -gt 20 ] || { echo 'no help'; failed=$((failed + 1)); }
-for words in -h help 'decide --help' 'judge -h x' 'tree --help' 'import --help'; do
+for name in decide clash judge check print tree import join; do
+    grep -q "^\(usage:\|      \) ws2s $name " "$room/help" && grep -q "^$name  *[a-z]" "$room/help" && right=yes || right=no
+    verdict $right "help says nothing of $name"
+done
+for words in -h help 'decide --help' 'judge -h x' 'tree --help' 'import --help' 'join x -h' 'join --help'; do
     # shellcheck disable=SC2086
     expect 0 "$(cat "$room/help")" '' $words
 done
@@ -895,6 +901,213 @@ expect 0 "7: $(for number in $(seq 127); do printf 'X0 = X0 1 or '; done)X0 = X0
 rule again 1 '2 0 0' '6 0 0' '6 1 1' '6 2 2' '6 3 3' '6 4 4' '6 5 5' '6 6 6' '6 7 7'
 expect 0 '8: 7 or 7 (too long to be written whole; ws2s print has the records)' '' clash "$room/again"
 
+# ---- join
+# two teams, as texts and as the same strips: n is the larger; of the second, numbers of records are moved up and those of
+# variables not; last an "and" of both
+text belt.mona 'ws2s; var2 Belt, Seat; Belt sub Seat & ~Seat sub Belt;'
+text seat.mona 'ws2s; var2 Belt, Seat, Report; (ex1 s: s in Seat) & Seat sub Report;'
+rule belt.rul 2 '0 0 1' '0 1 0' '5 1 0' '7 0 2'
+rule seat.rul 4 '0 3 1' '1 3 0' '7 1 0' '8 3 2' '0 1 2' '7 3 4'
+rule belt_seat 4 '0 0 1' '0 1 0' '5 1 0' '7 0 2' '0 3 1' '1 3 0' '7 5 4' '8 3 6' '0 1 2' '7 7 8' '7 3 9'
+rule seat_belt 4 '0 3 1' '1 3 0' '7 1 0' '8 3 2' '0 1 2' '7 3 4' '0 0 1' '0 1 0' '5 7 0' '7 6 8' '7 5 9'
+rule belt_belt 2 '0 0 1' '0 1 0' '5 1 0' '7 0 2' '0 0 1' '0 1 0' '5 5 0' '7 4 6' '7 3 7'
+joins() { # STRIP WORDS...: it is written, to standard output and to files, new and longer, and nothing is said
+    asked=$room/$1
+    shift
+    "$command" join "$@" >"$room/out" 2>"$room/err" <"${input:-/dev/null}"
+    status=$?
+    same "$room/out" "$asked" "join $* to standard output"
+    "$command" join -o - "$@" >"$room/out" 2>"$room/err" <"${input:-/dev/null}"
+    status=$?
+    same "$room/out" "$asked" "join $* to -"
+    rm -f "$room/made"
+    for times in 1 2; do
+        expect 0 '' '' join "$@" -o "$room/made"
+        same "$room/made" "$asked" "join $* to a file"
+        head -c 300 /dev/zero >"$room/made"
+    done
+    expect 0 '' '' join -o"$room/made" -- "$@"
+    same "$room/made" "$asked" "join $* with the option and its file in one word"
+}
+for one in rul mona; do
+    for other in rul mona; do
+        joins belt_seat "$room/belt.$one" "$room/seat.$other"
+        joins seat_belt "$room/seat.$one" "$room/belt.$other"
+    done
+    input=$room/belt.$one
+    joins belt_seat - "$room/seat.mona"
+    joins seat_belt "$room/seat.rul" -
+    joins belt_belt - "$room/belt.$one"
+    input=
+    joins belt_belt "$room/belt.$one" "$room/belt.$one"
+done
+"$command" join "$room/belt.rul" "$room/seat.mona" | "$command" decide - Belt Seat Report >"$room/out" 2>"$room/err"
+status=$?
+[ $status -eq 0 ] && [ "$(cat "$room/out")" = 'shown: 1 place, 18 states
+Seat + Report' ] && [ ! -s "$room/err" ] && right=yes || right=no
+verdict $right 'decide of what is joined'
+cat "$room/belt.mona" | "$command" join - "$room/seat.rul" >"$room/out" 2>"$room/err"
+status=$?
+same "$room/out" "$room/belt_seat" 'join of a pipe'
+# texts that are read on, both of them, stay apart
+for team in belt seat; do { row 400 ' ' && cat "$room/$team.mona" && row 400 ' '; } >"$room/long_$team.mona"; done
+joins belt_seat "$room/long_belt.mona" "$room/long_seat.mona"
+
+# a refusal is that of the file alone, with its name; the first file's comes first, of whatever kind it is
+alone() { # FILE: what is said of it by decide
+    { "$command" decide "$1" >/dev/null; } 2>&1
+}
+text fault.mona 'ws2s;\nvar2 Belt, Seat;\nBelt sub Seats;\n'
+text other_fault.mona 'ws2s; var2 X; X sub X'
+rule fault.rul 3 '0 0 1' '5 2 0'
+strip other_fault.rul 022 001 040 000
+text other.mona 'ws2s; var2 Other; Other sub Other;'
+for kind in rul mona; do
+    for good in belt.rul belt.mona other.mona; do
+        writes_nothing 3 "$(alone "$room/fault.$kind")" join "$room/fault.$kind" "$room/$good"
+        writes_nothing 3 "$(alone "$room/fault.$kind")" join "$room/$good" "$room/fault.$kind"
+        expect 3 '' "$(alone "$room/fault.$kind")" join "$room/$good" "$room/fault.$kind"
+    done
+    for other in rul mona; do
+        expect 3 '' "$(alone "$room/fault.$kind")" join "$room/fault.$kind" "$room/other_fault.$other"
+        expect 3 '' "$(alone "$room/other_fault.$kind")" join "$room/other_fault.$kind" "$room/fault.$other"
+    done
+    expect 3 '' "$(alone "$room/fault.$kind")" join "$room/fault.$kind" "$room/missing"
+done
+expect 3 '' "ws2s: $room/fault.mona: refused 24 at line 3, column 10: $naming (\`Seats\`); $declare
+    Belt sub Seats;
+             ^~~~~" join "$room/belt.rul" "$room/fault.mona"
+expect 3 '' "ws2s: $room/fault.rul: refused 9 at bit 38: a record names itself or a later record (record 1, first field: not 2); put the record that it uses before it" \
+    join "$room/belt.mona" "$room/fault.rul"
+input=$room/fault.rul
+writes_nothing 3 'ws2s: standard input: refused 9 at bit 38: ' join "$room/belt.mona" -
+input=$room/fault.mona
+writes_nothing 3 'ws2s: standard input: refused 24 at line 3, column 10: ' join - "$room/belt.rul"
+input=/dev/zero
+writes_nothing 3 'ws2s: standard input: refused 2 at bit 0: ' join "$room/belt.mona" -
+input=
+writes_nothing 3 'ws2s: standard input: refused 1 at bit 0: ' join - "$room/belt.mona"
+
+# 128 records, and one more: both files are named, with the records of each; names do not matter then
+plain() { # COUNT: a rule and a text of so many records; of a text they are odd
+    set -- "$1"
+    for record in $(seq "$1"); do set -- "$@" '0 0 0'; done
+    count=$1
+    shift
+    rule "$count.rul" 1 "$@"
+    text "$count.mona" "ws2s; var2 Of$count; Of$count sub Of$count$(row $((count / 2)) " \\046 Of$count sub Of$count");"
+}
+plain 63 && plain 64 && plain 65 && plain 127 && plain 128 && plain 1
+expect 0 '' '' join "$room/63.rul" "$room/64.rul" -o "$room/made"
+expect 0 'accepted: 1 variable, 128 records' '' check rule "$room/made"
+"$command" print "$room/made" | tail -n 1 >"$room/out"
+[ "$(cat "$room/out")" = '127: 62 and 126' ] && right=yes || right=no
+verdict $right 'the 128th record'
+records='the two rules have more than 127 records together' shorten='shorten one of them: the "and" that joins them is the 128th record'
+for kind in rul mona; do
+    expect 3 '' "ws2s: $room/63.rul and $room/65.$kind: refused 30: $records (the first has 63, the second 65); $shorten" join "$room/63.rul" "$room/65.$kind"
+    expect 3 '' "ws2s: $room/65.$kind and $room/63.mona: refused 30: $records (the first has 65, the second 63); $shorten" join "$room/65.$kind" "$room/63.mona"
+done
+writes_nothing 3 "ws2s: $room/127.rul and $room/1.rul: refused 30: $records (the first has 127, the second 1); " join "$room/127.rul" "$room/1.rul"
+writes_nothing 3 "ws2s: $room/128.rul and $room/128.rul: refused 30: $records (the first has 128, the second 128); " join "$room/128.rul" "$room/128.rul"
+input=$room/64.rul
+writes_nothing 3 "ws2s: $room/64.rul and standard input: refused 30: $records (the first has 64, the second 64); " join "$room/64.rul" -
+input=
+
+# texts that do not agree in what a number is called are joined all the same, and it is said
+differing() { # STRIP ERR FIRST SECOND
+    expect 0 '' "$2" join "$room/$3" "$room/$4" -o "$room/made"
+    : >"$room/err"
+    same "$room/made" "$room/$1" "join of $3 and $4, which differ in names"
+    "$command" join "$room/$3" "$room/$4" >"$room/out" 2>"$room/err"
+    status=$?
+    [ "$(cat "$room/err")" = "$2" ] && : >"$room/err"
+    same "$room/out" "$room/$1" "join of $3 and $4 to standard output"
+}
+agree='; they are joined by number: declare the same names in the same order in both' kinds=', a place with var1 and a set with var2'
+text turned.mona 'ws2s; var2 Seat, Belt; Seat sub Belt & ~Belt sub Seat;' # by number the strip of belt.mona
+differing belt_belt "ws2s: variable 0 is \`Belt\` in $room/belt.mona and \`Seat\` in $room/turned.mona$agree
+ws2s: variable 1 is \`Seat\` in $room/belt.mona and \`Belt\` in $room/turned.mona$agree" belt.mona turned.mona
+differing belt_belt "ws2s: variable 0 is \`Seat\` in $room/turned.mona and \`Belt\` in $room/belt.mona$agree
+ws2s: variable 1 is \`Belt\` in $room/turned.mona and \`Seat\` in $room/belt.mona$agree" turned.mona belt.mona
+text belts.mona 'ws2s; var2 Belts, Seat; Belts sub Seat & ~Seat sub Belts;'
+differing belt_belt "ws2s: variable 0 is \`Belt\` in $room/belt.mona and \`Belts\` in $room/belts.mona$agree" belt.mona belts.mona
+differing belt_seat "ws2s: variable 0 is \`Belts\` in $room/belts.mona and \`Belt\` in $room/seat.mona$agree" belts.mona seat.mona
+text place.mona 'ws2s; var2 Belt; var1 Seat; Belt sub Belt;'
+rule place 2 '0 0 1' '0 1 0' '5 1 0' '7 0 2' '0 0 0' '1 1 0' '7 5 4' '7 3 6'
+differing place "ws2s: variable 1 is the set \`Seat\` in $room/belt.mona and the place \`Seat\` in $room/place.mona; they are joined by number: declare it with var1 in both, or with var2 in both" \
+    belt.mona place.mona
+text place.mona 'ws2s; var2 Belt;\n  var1 seat;Belt sub Belt;'
+differing place "ws2s: variable 1 is the set \`Seat\` in $room/belt.mona and the place \`seat\` in $room/place.mona$agree$kinds" belt.mona place.mona
+text set.mona 'ws2s; var2 A; var2 B; A sub B & ~B sub A;'
+rule set 2 '0 0 0' '1 1 0' '7 1 0' '0 0 1' '0 1 0' '5 4 0' '7 3 5' '7 2 6'
+differing set "ws2s: variable 0 is \`Belt\` in $room/place.mona and \`A\` in $room/set.mona$agree
+ws2s: variable 1 is the place \`seat\` in $room/place.mona and the set \`B\` in $room/set.mona$agree$kinds" place.mona set.mona
+# places that differ, and eight names of which the last does
+text eight.mona 'ws2s; var1 a, b, c, d; var1 e; var2 F; var2 G, H; a = a;'
+text other_eight.mona 'ws2s; var1 a, b, c, d, f; var2 F, G, I; a = a;'
+expect 0 '' "ws2s: variable 4 is \`e\` in $room/eight.mona and \`f\` in $room/other_eight.mona$agree
+ws2s: variable 7 is \`H\` in $room/eight.mona and \`I\` in $room/other_eight.mona$agree" join "$room/eight.mona" "$room/other_eight.mona" -o "$room/made"
+input=$room/turned.mona
+expect 0 '' "ws2s: variable 0 is \`Seat\` in standard input and \`Belts\` in $room/belts.mona$agree
+ws2s: variable 1 is \`Belt\` in standard input and \`Seat\` in $room/belts.mona$agree" join - "$room/belts.mona" -o "$room/made"
+input=
+# nothing is said of a strip, of numbers that one text alone declares, of what is bound or hidden, or of one file by two names
+ln -s turned.mona "$room/turned_link"
+silent() { # FIRST SECOND
+    expect 0 '' '' join "$room/$1" "$room/$2" -o "$room/made"
+}
+silent turned.mona turned.mona
+silent turned.mona turned_link
+silent turned.mona belt.rul
+silent belt.rul turned.mona
+silent seat.mona belt.mona
+text bound.mona 'ws2s; var2 Belt; (ex1 s: s in Belt) & (all2 Seats: Seats sub Belt);'
+text hidden.mona 'ws2s; var2 Belt, Seat; (ex1 Belt: Belt in Seat) & (all2 Seat: Seat sub Belt);'
+text free.mona 'ws2s; ex1 x: x = root;'
+silent bound.mona belt.mona
+silent seat.mona bound.mona
+silent hidden.mona belt.mona
+silent seat.mona hidden.mona
+silent bound.mona hidden.mona
+silent free.mona belt.mona
+silent seat.mona free.mona
+# long names are told by their beginnings
+text forty.mona "ws2s; var2 $(row 40 a), $(row 41 b); $(row 40 a) sub $(row 41 b);"
+expect 0 '' "ws2s: variable 0 is \`$(row 40 a)\` in $room/forty.mona and \`Belt\` in $room/belt.mona$agree
+ws2s: variable 1 is \`$(row 40 b)...\` in $room/forty.mona and \`Seat\` in $room/belt.mona$agree" join "$room/forty.mona" "$room/belt.mona" -o "$room/made"
+
+# a rule is not overwritten by what it is joined to
+cp "$room/belt.mona" "$room/own" && cp "$room/own" "$room/own_was" && ln -sf own "$room/link" && ln "$room/own" "$room/hard"
+for to in own link hard ./own; do
+    refuses 64 'the strip would replace one of the two rules' join "$room/own" "$room/seat.rul" -o "$room/$to"
+    refuses 64 'the strip would replace one of the two rules' join "$room/seat.rul" "$room/own" -o "$room/$to"
+    refuses 64 'the strip would replace one of the two rules' join "$room/link" "$room/own" -o "$room/$to"
+    input=$room/own
+    refuses 64 'the strip would replace one of the two rules' join - "$room/seat.rul" -o "$room/$to"
+    refuses 64 'the strip would replace one of the two rules' join "$room/seat.rul" - -o "$room/$to"
+    input=
+done
+cmp -s "$room/own" "$room/own_was" && right=yes || right=no
+verdict $right 'the rule that is joined is as it was'
+refuses 64 'the two rules cannot both be standard input' join - -
+refuses 64 'there are too few words' join "$room/belt.rul"
+refuses 64 'there are too many words' join "$room/belt.rul" "$room/seat.rul" "$room/belt.rul"
+refuses 64 '-c or -p is for another subcommand' join -c 3 "$room/belt.rul" "$room/seat.rul"
+refuses 64 'the form is for another subcommand' join --strip "$room/belt.rul" "$room/seat.rul"
+writes_nothing 74 "ws2s: $room/missing: No such file or directory" join "$room/missing" "$room/belt.rul"
+writes_nothing 74 "ws2s: $room/missing: No such file or directory" join "$room/belt.rul" "$room/missing"
+refuses 74 "$room/missing: No such file or directory" join "$room/missing" "$room/fault.rul"
+refuses 74 "$room: Is a directory" join "$room" "$room/belt.rul"
+refuses 74 "$room: Is a directory" join "$room/belt.mona" "$room"
+input=$room
+refuses 74 'standard input: Is a directory' join - "$room/belt.rul"
+refuses 74 'standard input: Is a directory' join "$room/belt.rul" -
+input=
+refuses 74 "$room: Is a directory" join "$room/belt.rul" "$room/seat.mona" -o "$room"
+refuses 74 "$room/missing/made: No such file or directory" join "$room/belt.rul" "$room/seat.mona" -o "$room/missing/made"
+refuses 74 '/dev/full: No space left on device' join "$room/belt.rul" "$room/seat.mona" -o /dev/full
+
 told() { # WHAT STATUS: standard error has this, once
     right=no
     [ "$status" -eq "$2" ] && [ "$(cat "$room/err")" = "ws2s: standard output: $1" ] && right=yes
@@ -904,7 +1117,7 @@ told() { # WHAT STATUS: standard error has this, once
 for words in "decide $samples/first_inside.rul" "decide --svg $samples/first_inside.rul" "decide --strip $samples/first_inside.rul" \
     "decide $samples/kinds_in_a_circle.rul" "decide -p 1 $samples/first_inside.rul" "judge $samples/crash_report.rul $room/tree" \
     "clash $samples/kinds_in_a_circle.rul" \
-    "import $room/inside.mona" "print $room/inside.mona" \
+    "import $room/inside.mona" "join $room/belt.rul $room/seat.mona" "print $room/inside.mona" \
     "check rule $samples/one_part.rul" "print $samples/one_part.rul" "print $samples/cut_short.rul" "tree $room/tree" '--help' '--version'; do
     # shellcheck disable=SC2086
     "$command" $words >/dev/full 2>"$room/err"

@@ -9,6 +9,8 @@
 # - The README's C programs are the examples; its table of refusals and those of
 #   ws2s(3) have the header's names, texts and places; the manual's structures are
 #   the header's; the manual's examples print what it says.
+# - The manual's synopsis of the command is the one that --help has, and the README and
+#   the manual have every subcommand.
 # - Every sample has a row in samples/README.md, with its records as the command
 #   prints them and the verdict program's verdict.
 # - The picture is the one that the command draws.
@@ -70,6 +72,7 @@ differs 'ws2s(3), example' 'label 1
   label 2' "$(manual ws2s)"
 differs 'ws2s_clash(3), example' 'record 0
 record 1' "$(manual ws2s_clash)"
+differs 'ws2s_join(3), example' 'variables 3, records 5: 130520201000020405C0827000C0' "$(manual ws2s_join)"
 
 cat >"$room/refusals.c" <<'END'
 #include <stdio.h>
@@ -85,7 +88,7 @@ END
 ${CC:-cc} -std=c99 -Iinclude "$room/refusals.c" -o "$room/refusals"
 # shellcheck disable=SC2046 # a word for each name, in the order of their numbers
 "$room/refusals" $(sed -n 's/^ *WS2S_REFUSED_\([A-Z_]*\) = \([0-9]*\).*/\2 \1/p' include/ws2s.h | sort -n | cut -d' ' -f2) >"$room/refused"
-[ "$(wc -l <"$room/refused")" -eq 29 ] || { echo 'the header does not have 29 refusals'; failed=1; }
+[ "$(wc -l <"$room/refused")" -eq 30 ] || { echo 'the header does not have 30 refusals'; failed=1; }
 # the places stand in brackets after the header's words for a refusal, at times on the next line
 awk '/^ *WS2S_REFUSED_[A-Z_]* = / { name = $1; sub(/^WS2S_REFUSED_/, "", name); number = $3 + 0 }
     /^};/ { name = "" }
@@ -109,6 +112,16 @@ pages=
 for name in check_rule check_tree judge decide clash import text_fault; do pages="$pages man/ws2s_$name.3"; done
 # shellcheck disable=SC2086 # a word for each page
 differs 'manual pages, structures' "$(structures $pages)" "$(cat "$room/structures")"
+differs 'ws2s_join(3), structure' "$(structures man/ws2s_join.3)" "$(structures man/ws2s_import.3)"
+
+# ---- The subcommands
+
+"$command" --help | sed -n 's/^\(usage:\|      \) \(ws2s .*\)/\2/p' >"$room/usage"
+differs 'ws2s(1), synopsis' "$(sed -n '/^\.SH SYNOPSIS/,/^\.fi/{s/\\f[BIP]//g; s/\\-/-/g; /^ws2s /p;}' man/ws2s.1)" "$(cat "$room/usage")"
+for name in $(sed -n 's/^ws2s \([a-z]*\) .*/\1/p' "$room/usage"); do
+    grep -q "^| \`$name .*\` |" README.md || { echo "the README has no ws2s $name"; failed=1; }
+    grep -q "^\.B $name$" man/ws2s.1 || { echo "ws2s(1) does not describe $name"; failed=1; }
+done
 
 # ---- The samples: `file` in the first column, records in the last but one, `verdict` in the last
 
