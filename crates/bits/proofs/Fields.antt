@@ -152,7 +152,7 @@ number-digits n (suc b) v =
     let f : n * 2 ^ suc b ≡ n * 2 * 2 ^ b = ap (λ (k : ℕ). n * k) (pow-suc 2 b ∙ mul-comm (2 ^ b) 2) ∙ sym (mul-assoc n 2 (2 ^ b)) in
     number-digits (n * 2 + v / 2 ^ b % 2) b v ∙ rw (e, f, add-mul) (omega arith)
 
-inner : (b j : ℕ) (xs ys : List ℕ) → j + b ≤ length xs → take b (drop j (xs ++ ys)) ≡ take b (drop j xs)
+pub inner : (b j : ℕ) (xs ys : List ℕ) → j + b ≤ length xs → take b (drop j (xs ++ ys)) ≡ take b (drop j xs)
 inner b j xs ys h =
     ap (take b) (drop-append-le j xs ys (omega arith)) ∙ take-append-le b (drop j xs) ys (omega (arith, length-drop j xs))
 
@@ -163,7 +163,7 @@ join a b x y h =
     ∙ ap₂ (λ (k l : List ℕ). k ++ l) (ap (digits a) (high x b h)) (sym (digits-low b 0 (x * 2 ^ b + y)) ∙ ap (digits b) (rw zero-add (low x b h))))
 
 -- b of the n digits of w
-field-in : (n w j b : ℕ) → j + b ≤ n → take b (drop j (digits n w)) ≡ digits b (w / 2 ^ (n - j - b))
+pub field-in : (n w j b : ℕ) → j + b ≤ n → take b (drop j (digits n w)) ≡ digits b (w / 2 ^ (n - j - b))
 field-in n w j b h =
     let e : n ≡ j + (b + (n - j - b)) = omega arith in
     ap (λ (k : ℕ). take b (drop j (digits k w))) e ∙ ap (take b) (digits-drop j (b + (n - j - b)) w) ∙ digits-take b (n - j - b) w
@@ -176,7 +176,7 @@ across w r x y j h l k =
     ap (λ (d : List ℕ). getD d j 0) (digits-low 8 0 (P / 2 ^ (w + w - r - 8)) ∙ sym (field-in (w + w) P r 8 l)
     ∙ ap (λ (d : List ℕ). take 8 (drop r d)) (sym (join w w x y h))) ∙ getD-take 8 (drop r (digits w x ++ digits w y)) j 0 k ∙ getD-drop r (digits w x ++ digits w y) j 0
 
-from-zero : (p v : ℕ) → 0 * p + v ≡ v
+pub from-zero : (p v : ℕ) → 0 * p + v ≡ v
 from-zero p v = omega arith
 
 pub window : (s : List ℕ) (i j b : ℕ) → i < length s → j < 8 → b ≤ 8 → 8 * i + j + b ≤ 8 * length s → ((k : ℕ) → getD s k 0 < 256)

@@ -11,10 +11,10 @@ use lib.Arith.{digits-lt, digits-mod}
 use lib.Dec.{ltb, lit<}
 use lib.ListN.{length, getD, take, drop, replicate, length-append, length-take, length-drop, length-replicate, take-append-drop}
 use lib.Pow.{high, pow-mono}
-use lib.Seq.{getD-drop, drop-drop, length-take-le, take-append-le, drop-append-le, take-at, drop-at}
+use lib.Seq.{getD-drop, drop-drop, drop-nil, drop-cons, length-take-le, take-append-le, drop-append-le, drop-append-add, take-at, drop-at}
 use Rattle.bits.specs.Bits.{digits, bits, number, field, pack}
 use Rattle.bits.proofs.Digits.{bit-lt}
-use Rattle.bits.proofs.Fields.{length-digits, length-bits, number-digits}
+use Rattle.bits.proofs.Fields.{length-digits, length-bits, number-digits, inner, join, field-in, from-zero}
 
 -- ---- lists of bits
 
@@ -112,6 +112,49 @@ module _ (s pre post : List ℕ) (at b v : ℕ) (stands : bits s ≡ pre ++ (dig
   -- what stands behind it
   pub behind : (bits s ≡ (pre ++ digits b v) ++ post) × (length (pre ++ digits b v) ≡ at + b)
   behind = (stands ∙ sym (append-assoc pre (digits b v) post), length-append pre (digits b v) ∙ (let d = length-digits b v in omega arith))
+
+-- one within another
+pub field-within : (s : List ℕ) (at n j b : ℕ) → at + n ≤ 8 * length s → j + b ≤ n → field s (at + j) b ≡ field s at n / 2 ^ (n - j - b) % 2 ^ b
+field-within s at n j b h k =
+    let X = take n (drop at (bits s)) in
+    let l : length X ≡ n = length-take-le n (drop at (bits s)) (omega (arith, length-from s at)) in
+    let e : digits n (number 0 X) ≡ X =
+    ap (λ (m : ℕ). digits m (number 0 X)) (sym l) ∙ digits-number 0 X (bits-take n (drop at (bits s)) (bits-drop at (bits s) (bits-bits s))) in
+    let f : take b (drop j (drop at (bits s))) ≡ take b (drop j X) =
+    ap (λ (d : List ℕ). take b (drop j d)) (sym (take-append-drop n (drop at (bits s)))) ∙ inner b j X (drop n (drop at (bits s))) (omega arith) in
+    ap (λ (d : List ℕ). number 0 (take b d)) (sym (drop-drop j at (bits s)))
+    ∙ ap (number 0) (f ∙ ap (λ (d : List ℕ). take b (drop j d)) (sym e) ∙ field-in n (number 0 X) j b k) ∙ number-digits 0 b _ ∙ from-zero (2 ^ b) _
+
+-- the bits from a byte on
+bits-from : (s : List ℕ) (i : ℕ) → drop (8 * i) (bits s) ≡ bits (drop i s)
+unfolding bits
+bits-from s zero = refl
+bits-from [] (suc i) = drop-nil (8 * suc i)
+bits-from (x ∷ s) (suc i) =
+    let e : 8 * suc i ≡ length (digits 8 x) + 8 * i = omega (arith, length-digits 8 x) in
+    rw e (drop-append-add (digits 8 x) (bits s) (8 * i) ∙ bits-from s i)
+
+pub three-field : (s : List ℕ) (i : ℕ) → i + 3 ≤ length s → ((k : ℕ) → getD s k 0 < 256)
+    → getD s i 0 * 65536 + (getD s (i + 1) 0 * 256 + getD s (i + 2) 0) ≡ field s (8 * i) 24
+unfolding bits
+three-field s i h g =
+    let x = getD s i 0 in
+    let y = getD s (i + 1) 0 in
+    let z = getD s (i + 2) 0 in
+    let a = g i in
+    let b = g (i + 1) in
+    let c = g (i + 2) in
+    let e₁ : suc i ≡ i + 1 = omega arith in
+    let e₂ : suc (i + 1) ≡ i + 2 = omega arith in
+    let d : drop i s ≡ x ∷ y ∷ z ∷ drop (suc (i + 2)) s =
+    drop-cons s i 0 (omega arith)
+    ∙ ap (λ (l : List ℕ). x ∷ l) (rw e₁ (drop-cons s (i + 1) 0 (omega arith) ∙ ap (λ (l : List ℕ). y ∷ l) (rw e₂ (drop-cons s (i + 2) 0 (omega arith))))) in
+    let j : digits 8 x ++ (digits 8 y ++ digits 8 z) ≡ digits 24 (x * 65536 + (y * 256 + z)) =
+    ap (λ (l : List ℕ). digits 8 x ++ l) (join 8 8 y z c) ∙ join 8 16 x (y * 256 + z) (omega arith) in
+    let t : bits (drop i s) ≡ digits 24 (x * 65536 + (y * 256 + z)) ++ bits (drop (suc (i + 2)) s) = rw (d, ← j) (sym (simp append-assoc)) in
+    sym (ap (λ (l : List ℕ). number 0 (take 24 l)) (bits-from s i ∙ t)
+    ∙ ap (number 0) (take-at (digits 24 (x * 65536 + (y * 256 + z))) (bits (drop (suc (i + 2)) s)) 24 (length-digits 24 _))
+    ∙ number-of 24 (x * 65536 + (y * 256 + z)) (omega arith))
 
 -- ---- the first byte, and the rest
 number-zeros : (a d : ℕ) → number a (replicate d 0) ≡ a * 2 ^ d

@@ -104,6 +104,14 @@ pub fn field_at(s: &[u8], at: usize, b: usize) -> u64
     ((hi * 256 + lo) >> (16 - at % 8 - b)) % (1 << b)
 }
 
+// The 24 bits from byte i on, as a number.
+pub fn three_bytes(s: &[u8], i: usize) -> u64
+    requires { ⌜ i + 3 ≤ length (now s) ⌝ }
+    ensures { λ r. ⌜ r ≡ field (now (s .entry)) (8 * i) 24 ⌝ }
+{
+    wide(s[i]) * 65536 + (wide(s[i + 1]) * 256 + wide(s[i + 2]))
+}
+
 // The first n bytes are made 0.
 pub fn clear(d: &mut [u8], n: usize)
     requires { ⌜ n ≤ length (now d) ⌝ }
