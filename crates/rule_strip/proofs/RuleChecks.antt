@@ -1,22 +1,24 @@
--- Laws by which the functions on rule strips meet their contracts: a record's fault field by field, one turn of the loop over the records,
--- the head before the rest. Assumes nothing.
+-- Laws by which the functions on rule strips meet their contracts: a record's fault field by field, its fields, one turn of the loop over
+-- the records, the head before the rest. Assumes nothing.
 use mathlib.Core.Path.{_≡_, refl, sym, ap, _∙_}
 use mathlib.Core.Bool.{Bool, true, false, not, _&&_, true≢false, cond}
 use mathlib.Core.List.{List, [], _∷_}
-use Prim.Native.Nat.{ℕ, zero, suc, _+_, _-_, _*_, _≤_, _<_}
-use native.Mathlib.Nat.{not-suc-le-zero, le-of-suc-le-suc}
+use Prim.Native.Nat.{ℕ, zero, suc, _+_, _-_, _*_, _/_, _%_, _^_, _≤_, _<_}
+use native.Mathlib.Nat.{not-suc-le-zero, le-of-suc-le-suc, div-one}
 use native.Mathlib.Numerals.{add-one}
 use native.Mathlib.Omega.{arith}
 use lib.Dec.{ltb, leb, eqb, lit≤, leb·zero, leb·suc-suc, eqb·suc-zero}
 use lib.ListN.{length, getD, drop, length-drop}
+use lib.Pow.{shr-shr}
 use lib.Seq.{slice, take-all}
 use borrow.Author.Tests.{lt-leb, leb-true, eqb-true, lt-ltb, le-ltb, not-false}
 use Rattle.logic.specs.Rule.{Record as RuleRecord}
-use Rattle.bits.specs.Bits.{bits, between, anySet, firstSet, bitLength}
+use Rattle.bits.specs.Bits.{bits, field, between, anySet, firstSet, bitLength}
 use Rattle.bits.specs.Faults.{orElse}
 use Rattle.bits.specs.declared.Fault.{Fault}
 use Rattle.bits.specs.declared.Fault.the-variants.{Sound, At}
 use Rattle.bits.proofs.Fields.{length-bits}
+use Rattle.bits.proofs.Packing.{field-within}
 use Rattle.bits.proofs.Places.{any-first}
 use Rattle.rule_strip.specs.RuleStrip.{versionOf, variablesOf, countOf, recordAt, recordsFrom, recordsOf, ruleBytes, firstUse, secondUse}
 use Rattle.rule_strip.specs.RuleStrip.{badVariable, badEarlier, badUnused, recordFault, recordsFault, recordsEnd, rulePadding, headFault, ruleFault}
@@ -100,6 +102,30 @@ module _ (n i at op a b : ℕ) (h : op < 9) (use₁ : Use) (u : use₁ ≡ first
   pub record-second : f ≡ Sound → (use₂ : Use) (g : Fault) → use₂ ≡ secondUse op → g ≡ fieldFault n i (at + 11) use₂ b
       → g ≡ recordFault n i at (record { op = op; first = a; second = b })
   record-second e use₂ g w r = sym (record-split n i at op a b ∙ rw (lt-leb 9 op h, ← u, ← q, ← w, ← r, e) refl)
+
+-- ---- its fields, out of three bytes, if it starts at an even place
+
+module _ (s : List ℕ) (at : ℕ) (even : at % 2 ≡ 0) (room : at + 18 ≤ 8 * length s) where
+  -- the three bytes, from the bit on that ends the record
+  abbrev window : ℕ
+  window = field s (8 * (at / 8)) 24 / 2 ^ (6 - at % 8)
+
+  -- b bits, from k bits on
+  part-is : (p k b : ℕ) → p ≡ at + k → k + b ≤ 18 → window / 2 ^ (18 - k - b) % 2 ^ b ≡ field s p b
+  part-is p k b q h =
+      let e : p ≡ 8 * (at / 8) + (at % 8 + k) = omega arith in
+      let f : 6 - at % 8 + (18 - k - b) ≡ 24 - (at % 8 + k) - b = omega arith in
+      let v = field s (8 * (at / 8)) 24 in
+      ap (λ (x : ℕ). x % 2 ^ b) (shr-shr v (6 - at % 8) (18 - k - b) ∙ ap (λ (x : ℕ). v / 2 ^ x) f)
+      ∙ sym (rw e (field-within s (8 * (at / 8)) 24 (at % 8 + k) b (omega arith) (omega arith)))
+
+  pub fields-are : _≡_ {A = Fields} (record { op = window / 16384 % 16; first = window / 128 % 128; second = window % 128 }) (fieldsOf (recordAt s at))
+  unfolding recordAt
+  fields-are =
+      let a = part-is at 0 4 (omega arith) (omega arith) in
+      let b = part-is (at + 4) 4 7 refl (omega arith) in
+      let c = ap (λ (x : ℕ). x % 128) (sym (div-one window)) ∙ part-is (at + 11) 11 7 refl (omega arith) in
+      λ i. record { op = a i; first = b i; second = c i }
 
 -- ---- one turn of the loop
 

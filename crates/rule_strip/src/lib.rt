@@ -1,7 +1,7 @@
 // Rule strips, read and checked: document 01, "Strips" and "Check a rule strip".
 ghost use mathlib.Core.Path.{_≡_};
 ghost use mathlib.Core.Bool.{not};
-ghost use Prim.Native.Nat.{_+_, _*_, _<_, _≤_};
+ghost use Prim.Native.Nat.{_+_, _*_, _%_, _<_, _≤_};
 ghost use lib.ListN.{length};
 ghost use Rattle.bits.specs.Bits.{between};
 ghost use Rattle.rule_strip.specs.RuleStrip.{variablesOf, countOf, firstUse, secondUse, recordAt, recordFault, headFault};
@@ -137,23 +137,24 @@ pub fn record_fault(n: usize, i: usize, at: usize, op: usize, first: usize, seco
     field_fault(n, i, at + 11, second_use(op), second)
 }
 
-// The fields of the record at a bit place.
+// The fields of the record at a bit place: 18 bits that start at an even place lie in three bytes.
 pub fn fields_at(s: &[u8], at: usize) -> Fields
     requires { ⌜ length (now s) ≤ 4096 ⌝ }
-    requires { ⌜ at + 18 ≤ 8 * length (now s) ⌝ }
+    requires { ⌜ (at % 2 ≡ 0) × (at + 18 ≤ 8 * length (now s)) ⌝ }
     ensures { λ r. ⌜ r ≡ fieldsOf (recordAt (now (s .entry)) at) ⌝ }
 {
+    let w = bits::three_bytes(s, at / 8) >> (6 - at % 8);
     Fields {
-        op: bits::field_at(s, at, 4) as usize,
-        first: bits::field_at(s, at + 4, 7) as usize,
-        second: bits::field_at(s, at + 11, 7) as usize,
+        op: (w / 16384 % 16) as usize,
+        first: (w / 128 % 128) as usize,
+        second: (w % 128) as usize,
     }
 }
 
 // Record number i, at a bit place.
 fn read_record(s: &[u8], n: usize, i: usize, at: usize) -> Read
     requires { ⌜ length (now s) ≤ 4096 ⌝ }
-    requires { ⌜ at + 18 ≤ 8 * length (now s) ⌝ }
+    requires { ⌜ (at % 2 ≡ 0) × (at + 18 ≤ 8 * length (now s)) ⌝ }
     ensures { λ r. ⌜ r ≡ readRecord (now (s .entry)) n i at ⌝ }
 {
     let f = fields_at(s, at);

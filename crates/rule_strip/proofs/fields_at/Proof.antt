@@ -1,16 +1,17 @@
--- `fields_at` meets its contract, from that of `field_at`. Assumes nothing.
-use mathlib.Core.Path.{refl}
+-- `fields_at` meets its contract, from that of `three_bytes`. Assumes nothing.
 use borrow.Author.Needs.{needs}
-use Rattle.rule_strip.specs.RuleStrip.{recordAt}
+use native.Mathlib.Omega.{arith}
+use Rattle.rule_strip.proofs.RuleChecks.{fields-are}
 use Rattle.rule_strip.proofs.fields_at.Statement.{statement}
 use Rattle.rule_strip.proofs.fields_at.Tie as tie
 
 returns : tie.Need-returns
-unfolding recordAt
-returns c = rw (c .before .before .field-at .ensures, c .before .field-at2 .ensures, c .field-at3 .ensures) refl
+returns c =
+    let st = c .before .before in
+    rw (c .three-bytes .ensures) (fields-are (st .args .s .now) (st .args .at) (st .pre .1 .0) (st .pre .1 .1))
 
 pub fields-at-spec : {M : Type 1} → statement M
 fields-at-spec =
     tie.close
     (tie.spec
-    (λ c κs. search needs) (λ c. search needs) (λ c κs. search needs) (λ c. search needs) (λ c κs. search needs) returns)
+    (λ c κs. omega arith) (λ c. search needs) (λ c. search needs) returns)
