@@ -62,14 +62,14 @@ answer q =
 abbrev pub with : ℕ → ℕ → List ℕ → Question
 with c P s = record { strip = s; c = c; P = P }
 
-abbrev rec : ℕ → ℕ → ℕ → Record
+abbrev pub rec : ℕ → ℕ → ℕ → Record
 rec o a b = record { op = o; first = a; second = b }
 
-abbrev is : ℕ → List Record → Verdict → List ℕ → Answer
+abbrev pub is : ℕ → List Record → Verdict → List ℕ → Answer
 is n rs v t = record { variables = n; records = rs; verdict = v; tree = t }
 
 -- the strip of a: n = 1, Sing(X0)
-abbrev sing : List ℕ
+abbrev pub sing : List ℕ
 sing = 0x11 ∷ 0x01 ∷ 0x10 ∷ 0x00 ∷ 0x00 ∷ []
 
 -- a to l, with both parts of k and of l

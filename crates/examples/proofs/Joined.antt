@@ -12,8 +12,10 @@ use Rattle.rule_strip.specs.RuleWriting.{recordBits, ruleStrip}
 use Rattle.refusals.specs.declared.Refusal.the-variants.{Placed, Plain}
 use Rattle.join.specs.JoinedRule.{moved, movedAll, joinedRecords}
 use Rattle.join.specs.Joining.{recordsRefusal, ruleOutRefusal, joinRefusal, joinedStrip, writtenOf, joinOf, outAfterJoin}
+use Rattle.decide.specs.declared.Verdict.the-variants.{Shown, None}
 use Rattle.join.specs.declared.Joined.{Joined}
 use Rattle.join.specs.declared.Joined.the-variants.{Written, Refused}
+use Rattle.examples.proofs.Decided.{Question, Answer, answer, with, rec, is, sing}
 
 -- what join is asked, and with how many bytes of out, each of them 255
 pub record JoinRequest : Type 0 where
@@ -103,3 +105,18 @@ answers =
 pub joins-told : map told requests ≡ answers
 unfolding told requests answers
 joins-told = refl
+
+-- the first joined rule, and Sing(X0) over one variable with example f, decided: "none", as example i is, and a tree
+pub questions : List Question
+unfolding joinedStrip joinedRecords
+questions = with 64 255 (joinedStrip root inside) ∷ with 64 255 (joinedStrip sing inside) ∷ []
+
+pub verdicts : List Answer
+verdicts =
+    is 2 (rec 4 0 0 ∷ rec 2 0 1 ∷ rec 7 0 1 ∷ []) (None 6) []
+    ∷ is 2 (rec 1 0 0 ∷ rec 2 0 1 ∷ rec 7 0 1 ∷ []) (Shown 2 6 3) (0x12 ∷ 0xB8 ∷ 0x00 ∷ [])
+    ∷ []
+
+pub joined-decided : map answer questions ≡ verdicts
+unfolding told answer questions verdicts
+joined-decided = refl
