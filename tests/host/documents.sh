@@ -70,9 +70,9 @@ manual() { # PAGE: what its example prints
 }
 differs 'ws2s(3), example' 'label 1
   label 2' "$(manual ws2s)"
-differs 'ws2s_clash(3), example' 'record 0
-record 1' "$(manual ws2s_clash)"
-differs 'ws2s_join(3), example' 'variables 3, records 5: 130520201000020405C0827000C0' "$(manual ws2s_join)"
+for page in ws2s_clash ws2s_join; do
+    differs "$page(3), example" "$(sed -n '/^prints "/{s/^prints "//; s/" and "/\n/g; s/"\.$//; p;}' "man/$page.3")" "$(manual "$page")"
+done
 
 cat >"$room/refusals.c" <<'END'
 #include <stdio.h>
@@ -113,6 +113,14 @@ for name in check_rule check_tree judge decide clash import text_fault; do pages
 # shellcheck disable=SC2086 # a word for each page
 differs 'manual pages, structures' "$(structures $pages)" "$(cat "$room/structures")"
 differs 'ws2s_join(3), structure' "$(structures man/ws2s_join.3)" "$(structures man/ws2s_import.3)"
+exported=$(sed -n 's/^pub extern "C" fn \([a-z0-9_]*\)(.*/\1/p' crates/ws2s/src/exports.rt)
+for name in $exported; do
+    in_header=$(tr -d ' \n' <include/ws2s.h | grep -o "ws2s_[a-z_]*$name([a-z0-9_*,]*);" | head -n 1)
+    in_page=$(sed -n '/^\.SH SYNOPSIS/,/^\.fi/{s/^\.BI //p;}' "man/$name.3" | tr -d '" \n')
+    differs "$name(3), synopsis" "$in_page" "$in_header"
+    grep -q "^| \`$name\` |" README.md || { echo "the README has no $name"; failed=1; }
+done
+[ "$(printf '%s\n' "$exported" | wc -l)" -eq 8 ] || { echo 'the library does not have 8 functions'; failed=1; }
 
 # ---- The subcommands
 
