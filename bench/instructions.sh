@@ -15,8 +15,9 @@ fi
 bench=$1
 shift
 
+# the C library's functions are looked up at the start, so that the first call of one counts as any other
 count() { # side, prefix of its functions, name
-    valgrind --tool=callgrind --callgrind-out-file=/dev/null \
+    LD_BIND_NOW=1 valgrind --tool=callgrind --callgrind-out-file=/dev/null \
         --toggle-collect="$2_decide" --toggle-collect="$2_judge" --toggle-collect="$2_clash" --toggle-collect="$2_import" \
         --toggle-collect="$2_join" \
         "$bench" -o "$1" "$3" 2>&1 | awk '/Collected *:/ { print $NF }'
