@@ -1,11 +1,9 @@
 -- A7, "Two strips into one", by computation on the definitions: from the bytes of two rule strips and the length of out to what join returns
 -- and the bytes at the front of out. Assumes nothing.
-use Prim.Native.Nat.{ℕ, _+_, _-_, max}
+use Prim.Native.Nat.{ℕ}
 use mathlib.Core.Path.{_≡_, refl}
-use mathlib.Core.List.{List, [], _∷_, _++_, map}
-use lib.ListN.{length, take, replicate}
-use lib.Seq.{sets}
-use Rattle.logic.specs.Rule.{Record}
+use mathlib.Core.List.{List, [], _∷_, map}
+use lib.ListN.{take, replicate}
 use Rattle.bits.specs.Bits.{digits, bits, anySet, firstSet, bitLength, pack}
 use Rattle.rule_strip.specs.RuleStrip.{recordAt, recordsFrom, recordsOf, firstUse, secondUse, recordFault, recordsFault, headFault, ruleFault}
 use Rattle.rule_strip.specs.RuleWriting.{recordBits, ruleStrip}

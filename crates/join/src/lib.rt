@@ -11,7 +11,6 @@ ghost use Rattle.join.specs.JoinedRule.{movedField, moved, joinedRecords
 ghost use Rattle.join.specs.Joining.{recordsRefusal, ruleOutRefusal, sizeRefusal, joinRefusal, faultyStrip, joinOf, outAfterJoin, JoinClaim};
 ghost use Rattle.join.specs.Joining.{joinedStrip, writtenOf, Joinable, PutMoved};
 use refusals::Refusal;
-use rule_strip::Fields;
 use rule_strip::RuleCheck;
 use rule_strip::Use;
 

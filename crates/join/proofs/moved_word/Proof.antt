@@ -1,7 +1,6 @@
 -- `join::moved_word` meets its contract. Assumes nothing.
 use mathlib.Core.Path.{_∙_}
 use native.Mathlib.Omega.{arith}
-use borrow.Author.Needs.{needs}
 use Rattle.rule_strip.proofs.RuleLaws.{rule-accepted}
 use Rattle.join.proofs.Words.{Movable, movable, word-moved}
 use Rattle.join.proofs.moved_word.Statement.{statement}

@@ -1,5 +1,5 @@
 -- `join::size_refusal` meets its contract. Assumes nothing.
-use mathlib.Core.Path.{sym, _∙_}
+use mathlib.Core.Path.{_∙_}
 use borrow.Author.Needs.{needs}
 use Rattle.refusals.specs.declared.Refusal.the-variants.{Nothing}
 use Rattle.refusals.proofs.Refusals.{tested-stops, tested-passes}
