@@ -3,6 +3,7 @@ use Prim.Native.Nat.{ℕ}
 use mathlib.Core.Path.{_≡_}
 use mathlib.Core.List.{List}
 use lib.ListN.{take}
+use Rattle.rule_strip.specs.Numbers.{writtenRule, unwrittenRule}
 use Rattle.rule_strip.specs.declared.numbers.WrittenNumbers.{WrittenNumbers}
 use Rattle.text.specs.Claims.{Imported}
 use Rattle.import.specs.declared.Import.{Import}
@@ -10,10 +11,10 @@ use Rattle.import.specs.declared.Import.the-variants.{Written, Refused}
 use Rattle.import.specs.declared.TextFault.{TextFault}
 use Rattle.import.specs.declared.numbers.FaultNumbers.{FaultNumbers}
 
--- "an operation that writes a strip returns its length in bytes"
+-- the rule that was written, or the refusal, which has no place
 abbrev pub writtenNumbers : Import → WrittenNumbers
-writtenNumbers (Written n m l) = record { refusal = 0; variables = n; records = m; length = l; place = 0; strip = 0 }
-writtenNumbers (Refused k) = record { refusal = k; variables = 0; records = 0; length = 0; place = 0; strip = 0 }
+writtenNumbers (Written n m l) = writtenRule n m l
+writtenNumbers (Refused k) = unwrittenRule k 0 0
 
 abbrev pub faultNumbers : TextFault → FaultNumbers
 faultNumbers f = record { refusal = f .refusal; start = f .start; length = f .length }

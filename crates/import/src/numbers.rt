@@ -4,31 +4,19 @@ ghost use Rattle.import.specs.Numbers.{writtenNumbers, faultNumbers};
 use crate::Import;
 use crate::TextFault;
 use rule_strip::numbers::WrittenNumbers;
+use rule_strip::numbers::unwritten_rule;
+use rule_strip::numbers::written_rule;
 
 pub fn written_numbers(w: Import) -> WrittenNumbers
     ensures { λ x. ⌜ x ≡ writtenNumbers w ⌝ }
 {
     match w {
-        Import::Refused(k) => WrittenNumbers {
-            refusal: k,
-            variables: 0,
-            records: 0,
-            length: 0,
-            place: 0,
-            strip: 0,
-        },
+        Import::Refused(k) => unwritten_rule(k, 0, 0),
         Import::Written {
             variables,
             records,
             length,
-        } => WrittenNumbers {
-            refusal: 0,
-            variables: variables as u64,
-            records: records as u64,
-            length: length as u64,
-            place: 0,
-            strip: 0,
-        },
+        } => written_rule(variables, records, length),
     }
 }
 

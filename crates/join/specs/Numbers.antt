@@ -3,18 +3,19 @@ use Prim.Native.Nat.{ℕ}
 use mathlib.Core.Path.{_≡_}
 use mathlib.Core.List.{List}
 use lib.ListN.{take}
+use Rattle.rule_strip.specs.Numbers.{writtenRule, unwrittenRule}
 use Rattle.rule_strip.specs.declared.numbers.WrittenNumbers.{WrittenNumbers}
 use Rattle.refusals.specs.Refusal.{refusalNumbers}
 use Rattle.join.specs.Joining.{JoinedStrips, FaultTold}
 use Rattle.join.specs.declared.Joined.{Joined}
 use Rattle.join.specs.declared.Joined.the-variants.{Written, Refused}
 
--- "an operation that writes a strip returns its length in bytes"; a strip's refusal, its place and whose it is
+-- the rule that was written, or what refuses and whose fault it is
 abbrev pub joinNumbers : Joined → WrittenNumbers
-joinNumbers (Written n m l) = record { refusal = 0; variables = n; records = m; length = l; place = 0; strip = 0 }
+joinNumbers (Written n m l) = writtenRule n m l
 joinNumbers (Refused r s) =
     let x = refusalNumbers r in
-    record { refusal = x .number; variables = 0; records = 0; length = 0; place = x .place; strip = s }
+    unwrittenRule (x .number) (x .place) s
 
 -- A7'S CLAIM of these numbers: unless something refuses, the first `length` bytes of out are the two strips joined; where a strip's number is
 -- told, that strip is at fault at that place

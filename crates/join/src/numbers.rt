@@ -3,6 +3,8 @@ ghost use mathlib.Core.Path.{_≡_};
 ghost use Rattle.join.specs.Numbers.{joinNumbers};
 use crate::Joined;
 use rule_strip::numbers::WrittenNumbers;
+use rule_strip::numbers::unwritten_rule;
+use rule_strip::numbers::written_rule;
 
 pub fn join_numbers(j: Joined) -> WrittenNumbers
     ensures { λ x. ⌜ x ≡ joinNumbers j ⌝ }
@@ -12,24 +14,10 @@ pub fn join_numbers(j: Joined) -> WrittenNumbers
             variables,
             records,
             length,
-        } => WrittenNumbers {
-            refusal: 0,
-            variables: variables as u64,
-            records: records as u64,
-            length: length as u64,
-            place: 0,
-            strip: 0,
-        },
+        } => written_rule(variables, records, length),
         Joined::Refused { refusal, strip } => {
             let x = refusals::refusal_numbers(refusal);
-            WrittenNumbers {
-                refusal: x.number,
-                variables: 0,
-                records: 0,
-                length: 0,
-                place: x.place,
-                strip,
-            }
+            unwritten_rule(x.number, x.place, strip)
         }
     }
 }
