@@ -5,7 +5,7 @@ use mathlib.Core.Path.{_≡_, refl, ap, ap₂, sym, subst, _∙_}
 use mathlib.Core.Logic.{_↔_}
 use mathlib.Core.Bool.{Bool, true, _&&_}
 use mathlib.Core.List.{List, [], _∷_, _++_, append-assoc, append-nil}
-use native.Mathlib.Nat.{add-suc}
+use native.Mathlib.Nat.{add-suc, zero-add}
 use native.Mathlib.Omega.{arith}
 use borrow.Author.Tests.{lt-ltb}
 use lib.Dec.{T, eqb, ltb, ltb→lt, lt→ltb}
@@ -18,7 +18,9 @@ use Rattle.logic.proofs.Connectives.{and-iff}
 use Rattle.logic.proofs.Rules.{and-both, extend-length}
 use Rattle.logic.proofs.FirstSets.{satisfies-first}
 use Rattle.rule_strip.specs.RuleStrip.{firstUse, secondUse}
-use Rattle.join.specs.JoinedRule.{moved, movedAll, lastAnd, joinedRecords, firstSets, JoinedRule}
+use Rattle.rule_strip.specs.declared.Use.{Use}
+use Rattle.rule_strip.specs.declared.Use.the-variants.{Variable, Earlier, Unused}
+use Rattle.join.specs.JoinedRule.{movedField, moved, movedAll, lastAnd, joinedRecords, firstSets, JoinedRule}
 
 -- ---- formulas
 
@@ -107,6 +109,21 @@ module _ (k : ℕ) (rs ss : List Record) where
       ∙ ap₂ conjunction (List·getD-append F G (root 0) (lastOf rs) (let e = F-length in omega arith))
       (ap (λ (m : ℕ). getD (F ++ G) (m + lastOf ss) (root 0)) (sym F-length) ∙ getD-append-add F G (lastOf ss) (root 0))
 
+-- a record moved by nothing is as it was
+unmoved-field : (u : Use) (v : ℕ) → movedField 0 u v ≡ v
+unmoved-field Variable v = refl
+unmoved-field Earlier v = zero-add v
+unmoved-field Unused v = refl
+
+pub unmoved : (r : Record) → moved 0 r ≡ r
+unfolding moved
+unmoved r = λ i. record { op = r .op; first = unmoved-field (firstUse (r .op)) (r .first) i; second = unmoved-field (secondUse (r .op)) (r .second) i }
+
+unmoved-all : (rs : List Record) → movedAll 0 rs ≡ rs
+unfolding movedAll
+unmoved-all [] = refl
+unmoved-all (r ∷ rs) = ap₂ (λ (q : Record) (qs : List Record). q ∷ qs) (unmoved r) (unmoved-all rs)
+
 pub moved-length : (m : ℕ) (rs : List Record) → length (movedAll m rs) ≡ length rs
 unfolding movedAll
 moved-length m [] = refl
@@ -135,25 +152,7 @@ higher : (m a i : ℕ) → T (ltb a i) → T (ltb (m + a) (m + i))
 higher m a i t = lt→ltb (m + a) (m + i) (let l = ltb→lt a i t in omega arith)
 
 module _ (k n p : ℕ) (h : n ≤ p) where
-  -- over more variables, at the same place
-  good-wider : (i op a b : ℕ) → T (good k n i (record { op = op; first = a; second = b })) → T (good k p i (record { op = op; first = a; second = b }))
-  unfolding good
-  good-wider i zero a b = each (ltb a n) (ltb b n) (ltb a p) (ltb b p) (wider a n p h) (wider b n p h)
-  good-wider i (suc zero) a b = each (ltb a n) (eqb b 0) (ltb a p) (eqb b 0) (wider a n p h) (λ t. t)
-  good-wider i (suc (suc zero)) a b =
-      each (ltb 0 k) (ltb a n && ltb b n) (ltb 0 k) (ltb a p && ltb b p) (λ t. t) (each (ltb a n) (ltb b n) (ltb a p) (ltb b p) (wider a n p h) (wider b n p h))
-  good-wider i (suc (suc (suc zero))) a b =
-      each (ltb 1 k) (ltb a n && ltb b n) (ltb 1 k) (ltb a p && ltb b p) (λ t. t) (each (ltb a n) (ltb b n) (ltb a p) (ltb b p) (wider a n p h) (wider b n p h))
-  good-wider i (suc (suc (suc (suc zero)))) a b = each (ltb a n) (eqb b 0) (ltb a p) (eqb b 0) (wider a n p h) (λ t. t)
-  good-wider i (suc (suc (suc (suc (suc zero))))) a b = λ t. t
-  good-wider i (suc (suc (suc (suc (suc (suc zero)))))) a b = λ t. t
-  good-wider i (suc (suc (suc (suc (suc (suc (suc zero))))))) a b = λ t. t
-  good-wider i (suc (suc (suc (suc (suc (suc (suc (suc zero)))))))) a b = each (ltb a n) (ltb b i) (ltb a p) (ltb b i) (wider a n p h) (λ t. t)
-  good-wider i (suc (suc (suc (suc (suc (suc (suc (suc (suc zero))))))))) a b =
-      each (ltb 2 k) (ltb a n && ltb b n) (ltb 2 k) (ltb a p && ltb b p) (λ t. t) (each (ltb a n) (ltb b n) (ltb a p) (ltb b p) (wider a n p h) (wider b n p h))
-  good-wider i (suc (suc (suc (suc (suc (suc (suc (suc (suc (suc op)))))))))) a b = λ t. t
-
-  -- and m places further up
+  -- over more variables, and m places further up
   pub moved-good : (m i op a b : ℕ) → T (good k n i (record { op = op; first = a; second = b }))
       → T (good k p (m + i) (moved m (record { op = op; first = a; second = b })))
   unfolding good moved firstUse secondUse
@@ -175,12 +174,6 @@ module _ (k n p : ℕ) (h : n ≤ p) where
       each (ltb 2 k) (ltb a n && ltb b n) (ltb 2 k) (ltb a p && ltb b p) (λ t. t) (each (ltb a n) (ltb b n) (ltb a p) (ltb b p) (wider a n p h) (wider b n p h))
   moved-good m i (suc (suc (suc (suc (suc (suc (suc (suc (suc (suc op)))))))))) a b = λ t. absurd t
 
-  all-wider : (rs : List Record) (i : ℕ) → T (goodFrom k n i rs) → T (goodFrom k p i rs)
-  unfolding goodFrom
-  all-wider [] i t = tt
-  all-wider (r ∷ rs) i t = each (good k n i r) (goodFrom k n (suc i) rs) (good k p i r) (goodFrom k p (suc i) rs)
-      (good-wider i (r .op) (r .first) (r .second)) (all-wider rs (suc i)) t
-
   all-moved : (m : ℕ) (rs : List Record) (i : ℕ) → T (goodFrom k n i rs) → T (goodFrom k p (m + i) (movedAll m rs))
   unfolding goodFrom movedAll
   all-moved m [] i t = tt
@@ -188,6 +181,10 @@ module _ (k n p : ℕ) (h : n ≤ p) where
       each (good k n i r) (goodFrom k n (suc i) rs) (good k p (m + i) (moved m r)) (goodFrom k p (suc (m + i)) (movedAll m rs))
       (moved-good m i (r .op) (r .first) (r .second))
       (λ u. subst (λ (j : ℕ). T (goodFrom k p j (movedAll m rs))) (add-suc m i) (all-moved m rs (suc i) u)) t
+
+  -- the first rule's are moved by nothing
+  all-wider : (rs : List Record) → T (goodFrom k n 0 rs) → T (goodFrom k p 0 rs)
+  all-wider rs t = subst (λ (qs : List Record). T (goodFrom k p 0 qs)) (unmoved-all rs) (all-moved 0 rs 0 t)
 
 good-append : (k n : ℕ) (rs ss : List Record) (i : ℕ) → T (goodFrom k n i rs) → T (goodFrom k n (i + length rs) ss) → T (goodFrom k n i (rs ++ ss))
 unfolding goodFrom
@@ -207,7 +204,7 @@ module _ (k n p : ℕ) (rs ss : List Record) (ok : Accepted k n rs) (ko : Accept
       let q : ℕ = max n p in
       let c = moved-length m ss in (
         (omega arith),
-        good-append k q rs (movedAll m ss ++ (lastAnd rs ss ∷ [])) 0 (all-wider k n q (omega arith) rs 0 (ok .1))
+        good-append k q rs (movedAll m ss ++ (lastAnd rs ss ∷ [])) 0 (all-wider k n q (omega arith) rs (ok .1))
             (good-append k q (movedAll m ss) (lastAnd rs ss ∷ []) (0 + m)
             (subst (λ (j : ℕ). T (goodFrom k q j (movedAll m ss))) (omega arith) (all-moved k p q (omega arith) m ss 0 (ko .1)))
             (pair (ltb (lastOf rs) (0 + m + length (movedAll m ss)) && ltb (m + lastOf ss) (0 + m + length (movedAll m ss))) true

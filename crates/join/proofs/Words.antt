@@ -23,7 +23,7 @@ use Rattle.rule_strip.specs.declared.Use.the-variants.{Variable, Earlier, Unuse
 use Rattle.rule_strip.proofs.RuleLaws.{record-kept, good-iff, records-at, rule-accepted}
 use Rattle.join.specs.JoinedRule.{movedField, moved, movedAll, lastAnd, joinedRecords}
 use Rattle.join.specs.Joining.{PutMoved}
-use Rattle.join.proofs.JoinedRule.{moved-length}
+use Rattle.join.proofs.JoinedRule.{moved-length, unmoved}
 
 -- ---- one record
 
@@ -66,16 +66,6 @@ pub word-moved : (up : ℕ) (q : Record) (f : Fields) (u w : Use) (x y : ℕ) �
     → recordWord (record { op = f .op; first = x; second = y }) ≡ recordWord (moved up q)
 unfolding moved
 word-moved up q f u w x y e a b c d = rw (c, d, a, b, e) refl
-
--- moved by nothing, it is as it was
-unmoved-field : (u : Use) (v : ℕ) → movedField 0 u v ≡ v
-unmoved-field Variable v = refl
-unmoved-field Earlier v = zero-add v
-unmoved-field Unused v = refl
-
-unmoved : (r : Record) → moved 0 r ≡ r
-unfolding moved
-unmoved r = λ i. record { op = r .op; first = unmoved-field (firstUse (r .op)) (r .first) i; second = unmoved-field (secondUse (r .op)) (r .second) i }
 
 -- ---- the loop
 
