@@ -23,18 +23,18 @@ pub part-all : (n : ℕ) (ws : List ℕ) → take (length ws - n) (drop n ws) �
 part-all n ws = take-all (length ws - n) (drop n ws) (let e = length-drop n ws in omega arith)
 
 module _ (s : Shape) (shape : Shaped s) (base : ℕ) (m : Mach) (k : Summary) (ws table : List ℕ) (st : Stored s base m k ws) (et : table ≡ drop base ws) where
-  step-is : (l : ℕ) (is : List ℕ) → l < labelsIn s → Tuple (s .branches) (length (m .codes)) is
-      → (m .step l is ≡ stepIn s table 0 (k .looks) l is) × (m .step l is < length (m .codes))
+  step-is : (l : ℕ) (is : List ℕ) → l < labelsIn s → Tuple (s .branches) (m .count) is
+      → (m .step l is ≡ stepIn s table 0 (k .looks) l is) × (m .step l is < m .count)
   unfolding entry through
   step-is l is hl t =
       let h = st .holds l is hl t in
       let at = placeIn s (seen (k .looks) l) is in
       (sym (h .0) ∙ sym (getD-drop base ws at 0) ∙ rw (et, zero-add at), h .1)
 
-  bounded : Bounded (s .variables) (length (m .codes)) (machOf m)
+  bounded : Bounded (s .variables) (m .count) (machOf m)
   bounded = (st .some-state, λ l hl q b. step-is l (q one ∷ q two ∷ []) hl (pair-in s shape (b one) (b two)) .1)
 
-  agrees : Agrees (s .variables) (length (m .codes)) (machOf m) (machineIn s (k .looks) table (k .accept))
+  agrees : Agrees (s .variables) (m .count) (machOf m) (machineIn s (k .looks) table (k .accept))
   agrees = record {
     starts = refl;
     steps = λ l hl q b. step-is l (q one ∷ q two ∷ []) hl (pair-in s shape (b one) (b two)) .0;
@@ -53,7 +53,7 @@ module _ (s : Shape) (shape : Shaped s) (base : ℕ) (m : Mach) (k : Summary) (w
   pub searched-alike : (P : ℕ) → search (labelsIn s) (tableIn s (k .looks) table (k .accept) (k .count)) P ≡ search (labelsIn s) (machTable m) P
   searched-alike P =
       ap (λ (c : ℕ). search (labelsIn s) (tableIn s (k .looks) table (k .accept) c) P) (st .count)
-      ∙ sym (search-agrees (s .variables) (length (m .codes)) (machOf m) (machineIn s (k .looks) table (k .accept)) bounded agrees P)
+      ∙ sym (search-agrees (s .variables) (m .count) (machOf m) (machineIn s (k .looks) table (k .accept)) bounded agrees P)
 
   pub run-alike : (t : Tree 2) → Proper (s .variables) t → run (machineIn s (k .looks) table (k .accept)) t ≡ run (machOf m) t
-  run-alike t o = sym (run-agrees (s .variables) (length (m .codes)) (machOf m) (machineIn s (k .looks) table (k .accept)) bounded agrees t o .0)
+  run-alike t o = sym (run-agrees (s .variables) (m .count) (machOf m) (machineIn s (k .looks) table (k .accept)) bounded agrees t o .0)

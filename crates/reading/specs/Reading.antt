@@ -18,7 +18,7 @@ use Rattle.search.specs.declared.Found.{Found}
 
 -- a machine that is built, with its number of states
 abbrev pub machTable : Mach → Table 2
-machTable m = record { count = length (m .codes); machine = machOf m }
+machTable m = record { count = m .count; machine = machOf m }
 
 -- some machine is stored in record r's share, and k is kept of it
 pub record HasMachine (ws : List ℕ) (s : Shape) (r : ℕ) (k : Summary) : Type 0 where
@@ -37,7 +37,7 @@ pub record HasTree (strip : List ℕ) (s : Shape) : Type 0 where
 
 -- b: does some state of the machine that k is kept of accept
 abbrev pub Satisfiable : Summary → Bool → Type 0
-Satisfiable k b = (s : Shape) (base : ℕ) (m : Mach) (ws : List ℕ) → Stored s base m k ws → b ≡ anyBelow (machOf m .accepting) (length (m .codes))
+Satisfiable k b = (s : Shape) (base : ℕ) (m : Mach) (ws : List ℕ) → Stored s base m k ws → b ≡ anyBelow (machOf m .accepting) (m .count)
 
 -- f: what the search for the earliest tree that record r's machine accepts comes to
 abbrev pub Finds : List ℕ → Shape → ℕ → Summary → ℕ → Found → Type 0

@@ -122,10 +122,10 @@ module _ (x : Decoded) (r : ℕ) (s : Shape) (kf kg : Summary) (ws : List ℕ) (
   few-part = omega (arith, part .count, part .few)
 
   module _ (ws′ : List ℕ) (k : Summary) (copied : Copied (Entries s (kf .looks) (kf .count) (labelsIn s)) (shareAt s (x .first)) (shareAt s r) ws ws′) where
-    as-counted : {is : List ℕ} → Tuple (s .branches) (length (f .codes)) is → Tuple (s .branches) (kf .count) is
+    as-counted : {is : List ℕ} → Tuple (s .branches) (f .count) is → Tuple (s .branches) (kf .count) is
     as-counted t = tuple-up (omega (arith, part .count)) t
 
-    holds : TableHolds s ws′ (shareAt s r) (kf .looks) (length (f .codes)) (f .step)
+    holds : TableHolds s ws′ (shareAt s r) (kf .looks) (f .count) (f .step)
     unfolding entry through
     holds l is hl t =
         let b = kf .looks in
@@ -143,7 +143,7 @@ module _ (x : Decoded) (r : ℕ) (s : Shape) (kf kg : Summary) (ws : List ℕ) (
         placed s r (complementOf f) k ws ws′ (record {
           count = ec ∙ part .count;
           accept = ea ∙ ap₂ othersOf (part .accept) (part .count);
-          holds = subst (λ (l : ℕ). TableHolds s ws′ (shareAt s r) l (length (f .codes)) (f .step)) (sym el) holds;
+          holds = subst (λ (l : ℕ). TableHolds s ws′ (shareAt s r) l (f .count) (f .step)) (sym el) holds;
           some-state = part .some-state;
           few = part .few;
         }) (λ q off. copied .rest q (λ i w e. off (w .0) (w .1) (subst (λ (b : ℕ). w .0 ≤ seen b (w .0)) (sym el) (w .3))

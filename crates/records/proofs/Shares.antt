@@ -85,9 +85,9 @@ accept-parts Exists a b a′ b′ cs h = ap (λ (n : ℕ). acceptOf Exists n b c
 
 -- ---- a share's bytes: entries, and where none stands what was there
 module _ (s : Shape) (r : ℕ) (m : Mach) (k : Summary) (ws ws′ : List ℕ) (stored : Stored s (shareAt s r) m k ws′)
-    (bare : (q : ℕ) → Bare s (shareAt s r) (k .looks) (length (m .codes)) q → getD ws′ q 0 ≡ getD ws q 0) where
+    (bare : (q : ℕ) → Bare s (shareAt s r) (k .looks) (m .count) q → getD ws′ q 0 ≡ getD ws q 0) where
   abbrev n : ℕ
-  n = length (m .codes)
+  n = m .count
 
   pos : 0 < s .ceiling
   pos = omega (arith, stored .some-state, stored .few)
@@ -133,7 +133,7 @@ module _ (x : Decoded) (r : ℕ) (s : Shape) (kf kg : Summary) (ws : List ℕ) (
 
   -- an earlier machine's table lies before the share
   part-at : (a : ℕ) (k : Summary) (m : Mach) → a < r → Stored s (shareAt s a) m k ws
-      → Part s (through (k .looks) (entry s low (shareAt s a))) (m .step) (length (m .codes))
+      → Part s (through (k .looks) (entry s low (shareAt s a))) (m .step) (m .count)
   unfolding entry through
   part-at a k m h st = record {
     zero-in = st .some-state;
@@ -158,7 +158,7 @@ module _ (x : Decoded) (r : ℕ) (s : Shape) (kf kg : Summary) (ws : List ℕ) (
 
   same : Same (x .kind) s (x .wx) (x .wy) (firstStep low plan) (f .step) (secondStep low plan) (g .step)
   same =
-      record-same s (fits .shape) (x .wx) (x .wy) (fits .bit) (length (f .codes)) (length (g .codes)) (firstStep low plan) (f .step) (secondStep low plan)
+      record-same s (fits .shape) (x .wx) (x .wy) (fits .bit) (f .count) (g .count) (firstStep low plan) (f .step) (secondStep low plan)
       (g .step) (x .kind) (parts-map (x .kind) (λ w. part-at (x .first) kf f (w .0) (w .1)) (λ w. part-at (x .second) kg g (w .0) (w .1)) parts)
 
   -- the table of the part of an "exists" lies before the share, and leads to the part's states
@@ -167,7 +167,7 @@ module _ (x : Decoded) (r : ℕ) (s : Shape) (kf kg : Summary) (ws : List ℕ) (
   led-of e =
       let w = subst (λ (k : Kind). OfParts k First Second) e parts in
       let p = part-at (x .first) kf f (w .0) (w .1) in (
-        length (f .codes),
+        f .count,
         record {
           some-state = p .zero-in;
           few = w .1 .few;

@@ -19,14 +19,14 @@ use Rattle.table.specs.declared.plan.Plan.{Plan}
 use Rattle.records.specs.declared.Decoded.{Decoded}
 use Rattle.records.specs.declared.Summary.{Summary}
 
--- a machine: the codes of its states, its step and the set of its accepting states
+-- a machine: the number of its states, its step and the set of its accepting states
 pub record Mach : Type 0 where
-  pub codes : List ℕ
+  pub count : ℕ
   pub step : Step
   pub accept : ℕ
 
 abbrev pub noMach : Mach
-noMach = record { codes = []; step = λ l is. 0; accept = 0 }
+noMach = record { count = 0; step = λ l is. 0; accept = 0 }
 
 -- the same in the terms of the logic: state 0 is the state of the empty tree
 abbrev pub machOf : Mach → Machine 2 ℕ
@@ -35,14 +35,14 @@ machOf m = branching 0 (m .step) (λ q. mem q (m .accept))
 -- the machine of a record with these codes
 abbrev pub machFrom : Decoded → Mach → Mach → List ℕ → Mach
 machFrom x f g cs = record {
-  codes = cs;
+  count = length cs;
   step = stepOf (kindCode (x .kind) (f .step) (g .step) (x .wx) (x .wy)) cs;
   accept = acceptOf (x .kind) (f .accept) (g .accept) cs;
 }
 
 -- the machine of "not": "Not flips acceptance."
 abbrev pub complementOf : Mach → Mach
-complementOf f = record { codes = f .codes; step = f .step; accept = othersOf (f .accept) (length (f .codes)) }
+complementOf f = record { count = f .count; step = f .step; accept = othersOf (f .accept) (f .count) }
 
 -- is it a "not"
 abbrev pub isNot : Kind → Bool
@@ -110,11 +110,11 @@ pub record Fits (x : Decoded) (r : ℕ) (s : Shape) (n : ℕ) : Type 0 where
 -- machine m is stored: k keeps its number of states, its accepting states and the bits that it looks at, and the table at `base` its
 -- steps, at the labels that it tells apart
 pub record Stored (s : Shape) (base : ℕ) (m : Mach) (k : Summary) (ws : List ℕ) : Type 0 where
-  pub count : k .count ≡ length (m .codes)
+  pub count : k .count ≡ m .count
   pub accept : k .accept ≡ m .accept
-  pub holds : TableHolds s ws base (k .looks) (length (m .codes)) (m .step)
-  pub some-state : 0 < length (m .codes)
-  pub few : length (m .codes) ≤ s .ceiling
+  pub holds : TableHolds s ws base (k .looks) (m .count) (m .step)
+  pub some-state : 0 < m .count
+  pub few : m .count ≤ s .ceiling
 
 -- the machines f and g of the parts that record x has are stored, in the shares of their numbers
 abbrev pub PartsStored : Decoded → Shape → Summary → Summary → List ℕ → Mach → Mach → Type 0
@@ -128,7 +128,7 @@ SomeParts x s kf kg ws = (f : Mach) × (g : Mach) × PartsStored x s kf kg ws f 
 -- that was there
 abbrev pub ShareBytes : Shape → ℕ → Mach → ℕ → List ℕ → List ℕ → Type 0
 ShareBytes s base m b ws ws′ =
-    (q : ℕ) → q < shareOf s → getD ws′ (base + q) 0 ≡ shareByte s b (length (m .codes)) (m .step) q (getD ws (base + q) 0)
+    (q : ℕ) → q < shareOf s → getD ws′ (base + q) 0 ≡ shareByte s b (m .count) (m .step) q (getD ws (base + q) 0)
 
 -- record r's machine m is k's, and fills the record's share
 pub record Placed (s : Shape) (r : ℕ) (m : Mach) (k : Summary) (ws ws′ : List ℕ) : Type 0 where

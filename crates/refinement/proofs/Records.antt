@@ -36,8 +36,8 @@ codeMachine k f g wx wy = branching (startCode k 2 (f .step) wx) (kindCode k (f 
 -- a machine of F with at most c states, all of them reached
 pub record Good (n c : ℕ) (F : Formula 2) (m : Mach) : Type 0 where
   pub machine : MachineOf n F (machOf m)
-  pub full : Full n (length (m .codes)) (machOf m)
-  pub few : length (m .codes) ≤ c
+  pub full : Full n (m .count) (machOf m)
+  pub few : m .count ≤ c
 
 -- a machine of F that comes to more than c states
 pub record Large (n c : ℕ) (F : Formula 2) : Type 0 where
@@ -47,7 +47,7 @@ pub record Large (n c : ℕ) (F : Formula 2) : Type 0 where
 
 -- a machine of F's has as many states as document 01's
 pub good-few : {n c : ℕ} {F : Formula 2} {m : Mach} → Valid n F → Good n c F m → (table n F) .count ≤ c
-good-few {n} {F = F} {m = m} v g = omega (arith, g .few, states-any n F v (machOf m) (g .machine) (length (m .codes)) (g .full))
+good-few {n} {F = F} {m = m} v g = omega (arith, g .few, states-any n F v (machOf m) (g .machine) (m .count) (g .full))
 
 pub large-many : {n c : ℕ} {F : Formula 2} → Valid n F → Large n c F → c < (table n F) .count
 large-many {n} {c} {F} v w =
@@ -126,19 +126,19 @@ module _ (n c : ℕ) (sh : Shaped (shapeOf n c)) where
   comes-other g a b q started = started
   comes-other g a b q (stepped l t s h) = stepped l t s (λ d. comes-other g a b (s d) (h d))
 
-  others-agree : (f : Mach) → length (f .codes) ≤ c → Agrees n (length (f .codes)) (complement (machOf f)) (machOf (complementOf f))
+  others-agree : (f : Mach) → f .count ≤ c → Agrees n (f .count) (complement (machOf f)) (machOf (complementOf f))
   unfolding othersOf
   others-agree f few = record {
     starts = refl;
     steps = λ l h s u. refl;
     accepts = λ q h.
-        sym (word-mem 64 q (λ (s : ℕ). ltb s (length (f .codes)) && not (mem s (f .accept))) (omega arith) ∙ rw (lt-ltb q (length (f .codes)) h));
+        sym (word-mem 64 q (λ (s : ℕ). ltb s (f .count) && not (mem s (f .accept))) (omega arith) ∙ rw (lt-ltb q (f .count) h));
   }
 
   pub complemented : {F : Formula 2} {f : Mach} → Good n c F f → Good n c (negation F) (complementOf f)
   complemented {F} {f} p = record {
     machine =
-        of-agrees n (length (f .codes)) (complement (machOf f)) (machOf (complementOf f)) (p .full .0) (others-agree f (p .few)) (negation F)
+        of-agrees n (f .count) (complement (machOf f)) (machOf (complementOf f)) (p .full .0) (others-agree f (p .few)) (negation F)
         (of-negation n F (machOf f) (p .machine));
     full = (p .full .0, λ q h. comes-other (f .step) _ _ q (p .full .1 q h));
     few = p .few;
@@ -147,7 +147,7 @@ module _ (n c : ℕ) (sh : Shaped (shapeOf n c)) where
   -- ---- "or" and "and": the pair of states q and r is q * 64 + r
   module _ {f g : Mach} {F G : Formula 2} (p : Good n c F f) (q : Good n c G g) (vf : Valid n F) (vg : Valid n G) where
     abbrev Both : ℕ → ℕ × ℕ → Type 0
-    Both z s = Pair (length (f .codes)) (length (g .codes)) z s
+    Both z s = Pair (f .count) (g .count) z s
 
     one-pair : (z z′ : ℕ) (s s′ : ℕ × ℕ) → Both z s → Both z′ s′ → (z ≡ z′) ↔ (s ≡ s′)
     one-pair z z′ s s′ u u′ = (
@@ -190,4 +190,4 @@ module _ (n c : ℕ) (sh : Shaped (shapeOf n c)) where
   pub some-set : {f : Mach} {F : Formula 2} → Good n c F f → Valid n F → (g : Mach) (x wy : ℕ) → x < n
       → MachineOf n (someF x F) (codeMachine Exists f g (bitWeight n x) wy)
   unfolding startCode kindCode
-  some-set {f} {F} p vf g x wy hx = of-sets n x (length (f .codes)) hx (f .step) (f .accept) (omega arith) (p .full .0) F vf (p .machine)
+  some-set {f} {F} p vf g x wy hx = of-sets n x (f .count) hx (f .step) (f .accept) (omega arith) (p .full .0) F vf (p .machine)

@@ -36,7 +36,7 @@ ruleShape rule c = shapeOf (variablesOf rule) c
 pub record MachineFor (rule : List ℕ) (c : ℕ) (ws : List ℕ) (r : ℕ) (k : Summary) (f : Formula 2) : Type 0 where
   pub readable : HasMachine ws (ruleShape rule c) r k
   pub decides : MachineOf (variablesOf rule) f (machOf (readable .machine))
-  pub full : Full (variablesOf rule) (length (readable .machine .codes)) (machOf (readable .machine))
+  pub full : Full (variablesOf rule) (readable .machine .count) (machOf (readable .machine))
 
 -- the machines of the records that are reached stand in their shares, and es is what is kept of them
 abbrev pub ReachedBuilt : List ℕ → ℕ → (ℕ → Summary) → List ℕ → Type 0
