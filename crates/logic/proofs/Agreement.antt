@@ -9,10 +9,10 @@ use lib.Dec.{ltb, eqb}
 use lib.ListN.{length}
 use Rattle.logic.specs.Meaning.{Branch}
 use Rattle.logic.specs.Tree.{Tree, empty, node, positions, Proper}
-use Rattle.logic.specs.Machine.{Machine, run}
+use Rattle.logic.specs.Machine.{Machine, run, Bounded}
 use Rattle.logic.specs.Search.{at, rank, candidate, settled, view, Best, nothing, found, target, lighter, choose, consider, loop, tuples, pick}
 use Rattle.logic.specs.Search.{Sought, verdict, next, rounds, anyBelow, begin, search}
-use Rattle.logic.specs.Alike.{Bounded, Agrees}
+use Rattle.logic.specs.Alike.{Agrees}
 use Rattle.logic.proofs.Scan.{loop-inv}
 
 -- loops with the same turns

@@ -11,10 +11,10 @@ use lib.ListN.{length, getD}
 use lib.Pow.{pow-pos}
 use Rattle.logic.specs.Meaning.{Branch}
 use Rattle.logic.specs.Tree.{Tree, empty, node, Proper, low}
-use Rattle.logic.specs.Machine.{Machine, run, complement, product, withBit, Blank, none, grown, Projects}
+use Rattle.logic.specs.Machine.{Machine, run, complement, product, withBit, Blank, none, grown, Projects, Bounded}
 use Rattle.logic.specs.Reach.{elem, below, reach, position, numbered, projection}
 use Rattle.logic.specs.Table.{codedProduct, build}
-use Rattle.logic.specs.Alike.{Bounded, Closed, Alike, Varies, Comes}
+use Rattle.logic.specs.Alike.{Closed, Alike, Varies, Comes}
 use Rattle.logic.proofs.Places.{T-ext}
 use Rattle.logic.proofs.Bits.{low-ext, put-lt}
 use Rattle.logic.proofs.Connectives.{run-complement, run-product, run-simulates}

@@ -9,15 +9,15 @@ use native.Mathlib.Nat.{not-suc-le-zero, le-of-suc-le-suc, le-antisymm}
 use native.Mathlib.Omega.{arith}
 use lib.Dec.{T, not-T, eqb, eqb→eq, eqb-refl}
 use lib.ListN.{length, getD}
-use Rattle.logic.specs.Machine.{Machine}
+use Rattle.logic.specs.Machine.{Machine, Bounded}
 use Rattle.logic.specs.Meaning.{Branch}
 use Rattle.logic.specs.Reach.{elem, below, select, Reached, started, stepped, reach, position, numbered}
 use Rattle.logic.specs.Table.{build}
 use Rattle.logic.proofs.Places.{T→true, not-T as false-of, neqb}
 use Rattle.logic.proofs.Reach.{elem-cons, elem-below, elem-select}
-use Rattle.logic.proofs.Rounds.{without, reach-only, reach-all, reach-distinct}
-use Rattle.logic.specs.Alike.{Bounded, Distinct, Closed, Lists}
-use Rattle.logic.proofs.Numbered.{bound, build-bounded, position-lt, getD-position, getD-elem, reached-bound}
+use Rattle.logic.proofs.Rounds.{without, reach-start, reach-closed, reach-only, reach-all, reach-distinct}
+use Rattle.logic.specs.Alike.{Full, Distinct, Closed, Lists}
+use Rattle.logic.proofs.Numbered.{bound, build-bounded, position-lt, getD-position, getD-elem, reached-bound, numbered-bounded}
 
 pub position-getD : (L : List ℕ) → Distinct L → (i : ℕ) → i < length L → position (getD L i 0) L ≡ i
 unfolding Distinct position
@@ -61,27 +61,46 @@ module _ {k : ℕ} (n : ℕ) (M : Machine k ℕ) (L : List ℕ) (one : (i j : �
         (closed l ((elem-below l (2 ^ n)) .0 t) (λ b. position (s b) L) (λ b. position-lt (s b) L (h b))));
   }
 
+-- the states of a list, numbered in its order, are all reached
+module _ {k : ℕ} (n : ℕ) (M : Machine k ℕ) (L : List ℕ) (v : Lists n M L) where
+  listed : (q : ℕ) → Reached M (below (2 ^ n)) q → T (elem q L)
+  listed q started = v .begins
+  listed q (stepped l t s h) = v .closed l t s (λ b. listed (s b) (h b))
+
+  renumbered : (q : ℕ) → Reached M (below (2 ^ n)) q → Reached (numbered M L) (below (2 ^ n)) (position q L)
+  unfolding numbered
+  renumbered q started = started
+  renumbered q (stepped l t s h) =
+      let e : M .step l (λ b. getD L (position (s b) L) 0) ≡ M .step l s = ap (M .step l) (fun-ext (λ b. getD-position (s b) L (listed (s b) (h b)))) in
+      subst (λ (z : ℕ). Reached (numbered M L) (below (2 ^ n)) (position z L)) e (stepped l t (λ b. position (s b) L) (λ b. renumbered (s b) (h b)))
+
+  pub full-numbered : Full n (length L) (numbered M L)
+  full-numbered = (
+    numbered-bounded n M L (v .begins) (v .closed),
+    λ q h. subst (λ (z : ℕ). Reached (numbered M L) (below (2 ^ n)) z) (position-getD L (v .distinct) q h)
+        (renumbered (getD L q 0) (v .only (getD L q 0) (getD-elem L q h))),
+  )
+
 module _ {k : ℕ} (n d : ℕ) (M : Machine k ℕ) (B : Bounded n d M) where
   abbrev L : List ℕ
   L = reach M (below (2 ^ n)) d
 
-  renumbered : (r : ℕ) → Reached M (below (2 ^ n)) r → Reached (numbered M L) (below (2 ^ n)) (position r L)
-  unfolding numbered
-  renumbered r started = started
-  renumbered r (stepped l t s h) =
-      let e : M .step l (λ b. getD L (position (s b) L) 0) ≡ M .step l s =
-      ap (M .step l) (fun-ext (λ b. getD-position (s b) L (reach-all M (below (2 ^ n)) d (bound n d M B) (s b) (h b)))) in
-      subst (λ (z : ℕ). Reached (numbered M L) (below (2 ^ n)) (position z L)) e (stepped l t (λ b. position (s b) L) (λ b. renumbered (s b) (h b)))
+  reach-lists : Lists n M L
+  reach-lists = record {
+    distinct = reach-distinct M (below (2 ^ n)) d (bound n d M B);
+    only = reach-only M (below (2 ^ n)) d (bound n d M B);
+    begins = reach-start M (below (2 ^ n)) d (bound n d M B);
+    closed = reach-closed M (below (2 ^ n)) d (bound n d M B);
+  }
 
   pub build-states : (q : ℕ) → (q < (build n d M) .count) ↔ Reached ((build n d M) .machine) (below (2 ^ n)) q
   unfolding build
   build-states q = (
-    (λ h. subst (λ (z : ℕ). Reached (numbered M L) (below (2 ^ n)) z) (position-getD L (reach-distinct M (below (2 ^ n)) d (bound n d M B)) q h)
-        (renumbered (getD L q 0) (reach-only M (below (2 ^ n)) d (bound n d M B) (getD L q 0) (getD-elem L q h)))),
+    (full-numbered n M L reach-lists) .1 q,
     λ r. reached-bound n ((build n d M) .count) ((build n d M) .machine) (below (2 ^ n)) (build-bounded n d M B) (λ l t. (elem-below l (2 ^ n)) .0 t) q r,
   )
 
-select-length : (g : ℕ → Bool) (N : List ℕ) → length (select g N) ≤ length N
+pub select-length : (g : ℕ → Bool) (N : List ℕ) → length (select g N) ≤ length N
 unfolding select
 select-length g [] = omega arith
 select-length g (q ∷ N) = go (g q) (select-length g N)

@@ -10,8 +10,8 @@ use Rattle.logic.specs.Tree.{SameSets}
 use Rattle.logic.specs.Rule.{Record, lastOf, formulaAt, Satisfies, Accepted}
 use Rattle.logic.specs.Machine.{run}
 use Rattle.logic.specs.Trim.{treeOf}
-use Rattle.logic.specs.Table.{table}
-use Rattle.logic.proofs.Tables.{table-right}
+use Rattle.logic.specs.Joined.{joinedTable}
+use Rattle.logic.proofs.Joined.{joined-right}
 use Rattle.logic.proofs.Satisfiable.{holds-iff}
 use Rattle.logic.proofs.Assignments.{tree-of, tree-same}
 use Rattle.logic.proofs.Rules.{record-valid}
@@ -20,8 +20,8 @@ module _ {k : ℕ} (n : ℕ) where
   -- such assignments have one tree, and a machine of the formula accepts it or not
   pub holds-first : (f : Formula k) → Valid n f → (A B : Assignment k) → SameSets n A B → Holds f A ↔ Holds f B
   holds-first f v A B s =
-      let M = (table n f) .machine in
-      let D = (table-right n f v) .1 in
+      let M = (joinedTable n f) .machine in
+      let D = (joined-right n f v) .1 in
       let e = tree-same n A B (treeOf n A) (treeOf n B) s (tree-of n A) (tree-of n B) in
       let i = holds-iff n M f D A in
       let j = holds-iff n M f D B in (

@@ -10,7 +10,8 @@ use Rattle.logic.specs.Meaning.{Assignment}
 use Rattle.logic.specs.Tree.{Tree, TreeOf}
 use Rattle.logic.specs.Rule.{Record, Satisfies, Accepted}
 use Rattle.logic.specs.ReachedRecords.{ReachedRecord}
-use Rattle.logic.specs.Claims.{Outcome, refused14, Judgement, unbuilt, yes, no, statesAt, FirstOver, Roomy, Demand2, Demand3, Answers, Judges}
+use Rattle.logic.specs.Claims.{Outcome, refused14, Judgement, unbuilt, yes, no, statesAt, FirstOver, Roomy, Demand2, Demand3, LeastForRule, Answers}
+use Rattle.logic.specs.Claims.{Judges}
 use Rattle.logic.proofs.Rules.{reached-within}
 
 -- the first of all records with more than c states
@@ -21,8 +22,9 @@ FirstOfAll k n rs c r = (r < length rs) × (c < statesAt k n rs r) × ((i : ℕ)
 abbrev pub AllRoomy : (k n : ℕ) → List Record → ℕ → Type 0
 AllRoomy k n rs c = (r : ℕ) → r < length rs → statesAt k n rs r ≤ c
 
--- the claim on decide's answer before A5
+-- the claim on decide's answer as it would be without A5
 pub record AnswersAll {k : ℕ} (n : ℕ) (rs : List Record) (c P q : ℕ) (o : Outcome k) : Type 0 where
+  pub least : LeastForRule k n rs q
   pub refused-is : (r : ℕ) → (o ≡ refused14 r) ↔ FirstOfAll k n rs c r
   pub demand2 : AllRoomy k n rs c → Demand2 n rs P q o
   pub demand3 : AllRoomy k n rs c → Demand3 n rs P q o
@@ -61,8 +63,8 @@ module _ (k n : ℕ) (rs : List Record) (ok : Accepted k n rs) (c : ℕ) where
     -- DECIDE'S CLAIM IS THE OLD ONE
     pub lean-answers : (P q : ℕ) (o : Outcome k) → Answers n rs c P q o ↔ AnswersAll n rs c P q o
     lean-answers P q o = (
-      (λ a. record { refused-is = λ r. both (a .refused-is r); demand2 = λ h. a .demand2 (all-roomy h); demand3 = λ h. a .demand3 (all-roomy h) }),
-      λ a. record { refused-is = λ r. back (a .refused-is r); demand2 = λ h. a .demand2 (roomy-all h); demand3 = λ h. a .demand3 (roomy-all h) },
+      (λ a. record { least = a .least; refused-is = λ r. both (a .refused-is r); demand2 = λ h. a .demand2 (all-roomy h); demand3 = λ h. a .demand3 (all-roomy h) }),
+      λ a. record { least = a .least; refused-is = λ r. back (a .refused-is r); demand2 = λ h. a .demand2 (roomy-all h); demand3 = λ h. a .demand3 (roomy-all h) },
     )
 
     -- AND SO IS JUDGE'S

@@ -22,8 +22,16 @@ pub mod Depth
 pub mod Rules
 pub mod Assignments
 pub mod FirstSets
+pub mod Apart
+pub mod ApartPairs
+pub mod Classes
+pub mod Joining
+pub mod Again
+pub mod Joined
+pub mod Shown
 pub mod Answers
 pub mod Leftovers
+pub mod Unjoined
 pub mod Alike
 pub mod Agreement
 pub mod Builders

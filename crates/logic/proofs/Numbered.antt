@@ -10,13 +10,13 @@ use native.Mathlib.Omega.{arith}
 use lib.Dec.{T, eqb, eqb→eq}
 use lib.ListN.{length, getD}
 use Rattle.logic.specs.Meaning.{Branch, Formula}
-use Rattle.logic.specs.Machine.{Machine, Decides, Simulates}
+use Rattle.logic.specs.Machine.{Machine, Decides, Simulates, Bounded}
 use Rattle.logic.specs.Reach.{elem, below, Reached, started, stepped, reach, position, numbered}
 use Rattle.logic.specs.Table.{build}
 use Rattle.logic.proofs.Places.{true→T}
 use Rattle.logic.proofs.Connectives.{decides-simulated}
 use Rattle.logic.proofs.Reach.{elem-cons, elem-below}
-use Rattle.logic.specs.Alike.{Bounded, Closed}
+use Rattle.logic.specs.Alike.{Closed}
 use Rattle.logic.proofs.Rounds.{reach-closed, reach-start}
 
 pub position-lt : (q : ℕ) (L : List ℕ) → T (elem q L) → position q L < length L

@@ -8,13 +8,12 @@ use mathlib.Core.List.{List, [], _∷_}
 use lib.Pow.{pow-pos}
 use lib.Dec.{T}
 use Rattle.logic.specs.Tree.{low}
-use Rattle.logic.specs.Machine.{Machine, Blank, none, grown, Projects, withBit, anyOf}
+use Rattle.logic.specs.Machine.{Machine, Blank, none, grown, Projects, withBit, anyOf, Bounded}
 use Rattle.logic.specs.Reach.{elem, below, successors, Reached, started, stepped, reach, wordOf, members, projection}
 use Rattle.logic.proofs.Bits.{low-word, word-lt, put-lt}
 use Rattle.logic.proofs.Connectives.{or-iff}
 use Rattle.logic.proofs.Reach.{elem-cons, elem-below, elem-select, successors-iff}
 use Rattle.logic.proofs.Rounds.{reach-only, reach-all}
-use Rattle.logic.specs.Alike.{Bounded}
 use Rattle.logic.proofs.Numbered.{reached-bound}
 
 members-iff : (c w q : ℕ) → T (elem q (members c w)) ↔ ((q < c) × T (low w q))

@@ -16,12 +16,11 @@ use Rattle.logic.specs.Rule.{Record, noRecord, successorAt, formulaOf, e
 use Rattle.logic.specs.Meaning.{Formula, successor, root, negation, disjunction, conjunction, exists, Valid}
 use Rattle.logic.specs.Reach.{elem}
 use Rattle.logic.specs.ReachedRecords.{namesOf, namesIn, ReachedRecord, isReached}
-use Rattle.logic.specs.Table.{Table, table, tableOf, Built, over, built, admit, buildAll, kindOf}
+use Rattle.logic.specs.Table.{Table, tableBy, keptBy, tableOf, Built, over, built, admit, buildAll, kindOf}
 use Rattle.logic.proofs.Connectives.{and-iff}
 use Rattle.logic.proofs.Orders.{less, same, more, ℕ-tri}
 use Rattle.logic.proofs.Reach.{elem-none, elem-one, elem-two}
 use Rattle.logic.proofs.ReachedRecords.{Earlier, reached-iff, reached-below}
-use Rattle.logic.proofs.Tables.{Right, table-right}
 
 pub and-both : (a b : Bool) → T (a && b) → T a × T b
 and-both a b = (and-iff a b (λ t. t, λ t. t) (λ t. t, λ t. t)) .0
@@ -44,28 +43,36 @@ extend-length [] fs = omega arith
 extend-length (r ∷ rs) fs = extend-length rs (fs ++ (formulaOf r fs ∷ [])) ∙ (let e = snoc-length fs (formulaOf r fs) in omega arith)
 
 -- what an earlier record's formula is does not change as further records follow
-extend-keeps : {k : ℕ} (rs : List Record) (fs : List (Formula k)) (j : ℕ) → j < length fs → getD (extend fs rs) j (root 0) ≡ getD fs j (root 0)
+pub extend-keeps : {k : ℕ} (rs : List Record) (fs : List (Formula k)) (j : ℕ) → j < length fs → getD (extend fs rs) j (root 0) ≡ getD fs j (root 0)
 unfolding extend
 extend-keeps [] fs j h = refl
 extend-keeps (r ∷ rs) fs j h =
     let e = snoc-length fs (formulaOf r fs) in
     extend-keeps rs (fs ++ (formulaOf r fs ∷ [])) j (omega arith) ∙ List·getD-append fs (formulaOf r fs ∷ []) (root 0) j h
 
-module _ (k n c : ℕ) (used : ℕ → Bool) where
+-- whatever is kept of the machines
+module _ (k : ℕ) (keep : Table k → Table k) (n c : ℕ) (used : ℕ → Bool) where
   pub tablesOf : List (Formula k) → List (Table k)
   tablesOf [] = []
-  tablesOf (f ∷ fs) = table n f ∷ tablesOf fs
+  tablesOf (f ∷ fs) = keptBy keep n f ∷ tablesOf fs
 
-  pub tables-at : (fs : List (Formula k)) (j : ℕ) → getD (tablesOf fs) j (table n (root 0)) ≡ table n (getD fs j (root 0))
+  pub tables-at : (fs : List (Formula k)) (j : ℕ) → getD (tablesOf fs) j (keptBy keep n (root 0)) ≡ keptBy keep n (getD fs j (root 0))
   unfolding tablesOf
   tables-at [] j = refl
   tables-at (f ∷ fs) zero = refl
   tables-at (f ∷ fs) (suc j) = tables-at fs j
 
-  tables-snoc : (fs : List (Formula k)) (f : Formula k) → tablesOf (fs ++ (f ∷ [])) ≡ tablesOf fs ++ (table n f ∷ [])
+  -- of a formula that there is, whatever stands for the others
+  pub tables-in : (fs : List (Formula k)) (j : ℕ) → j < length fs → (z : Table k) → getD (tablesOf fs) j z ≡ keptBy keep n (getD fs j (root 0))
+  unfolding tablesOf
+  tables-in [] j h z = absurd (not-suc-le-zero h)
+  tables-in (f ∷ fs) zero h z = refl
+  tables-in (f ∷ fs) (suc j) h z = tables-in fs j (omega arith) z
+
+  tables-snoc : (fs : List (Formula k)) (f : Formula k) → tablesOf (fs ++ (f ∷ [])) ≡ tablesOf fs ++ (keptBy keep n f ∷ [])
   unfolding tablesOf
   tables-snoc [] f = refl
-  tables-snoc (g ∷ fs) f = ap (λ (ts : List (Table k)). table n g ∷ ts) (tables-snoc fs f)
+  tables-snoc (g ∷ fs) f = ap (λ (ts : List (Table k)). keptBy keep n g ∷ ts) (tables-snoc fs f)
 
   tables-length : (fs : List (Formula k)) → length (tablesOf fs) ≡ length fs
   unfolding tablesOf
@@ -73,8 +80,8 @@ module _ (k n c : ℕ) (used : ℕ → Bool) where
   tables-length (f ∷ fs) = ap suc (tables-length fs)
 
   table-of : (fs : List (Formula k)) (op a b : ℕ)
-      → tableOf n (kindOf (record { op = op; first = a; second = b })) (tablesOf fs) ≡ table n (formulaOf (record { op = op; first = a; second = b }) fs)
-  unfolding tableOf kindOf formulaOf table
+      → tableOf keep n (kindOf (record { op = op; first = a; second = b })) (tablesOf fs) ≡ tableBy keep n (formulaOf (record { op = op; first = a; second = b }) fs)
+  unfolding tableOf kindOf formulaOf tableBy
   table-of fs zero a b = refl
   table-of fs (suc zero) a b = refl
   table-of fs (suc (suc zero)) a b = refl
@@ -88,7 +95,7 @@ module _ (k n c : ℕ) (used : ℕ → Bool) where
   table-of fs (suc (suc (suc (suc (suc (suc (suc (suc (suc (suc op)))))))))) a b = refl
 
   abbrev CountAt : List (Formula k) → ℕ → ℕ
-  CountAt fs i = (table n (getD fs i (root 0))) .count
+  CountAt fs i = (tableBy keep n (getD fs i (root 0))) .count
 
   -- no formula of fs that is used has more than c states
   abbrev pub Roomed : List (Formula k) → Type 0
@@ -104,7 +111,7 @@ module _ (k n c : ℕ) (used : ℕ → Bool) where
   all-built fs h = (refl, h)
 
   -- one record more, of formula f and with the machine t
-  module _ (rs : List Record) (fs : List (Formula k)) (h : Roomed fs) (f : Formula k) (t : Table k) (e : t ≡ table n f) where
+  module _ (rs : List Record) (fs : List (Formula k)) (h : Roomed fs) (f : Formula k) (t : Table k) (e : t ≡ tableBy keep n f) where
     abbrev gs : List (Formula k)
     gs = fs ++ (f ∷ [])
 
@@ -118,34 +125,34 @@ module _ (k n c : ℕ) (used : ℕ → Bool) where
     new = extend-keeps rs gs (length fs) (let a = longer in omega arith) ∙ getD-append-seam fs f [] (root 0)
 
     admit-says : (i y : ℕ) → i ≡ length fs → (c < y → c < t .count) → (y ≤ c → t .count ≤ c)
-        → (Roomed gs → Says (extend gs rs) (buildAll n c used rs (tablesOf gs)))
-        → Says (extend gs rs) (admit (used i && ltb c y) t (buildAll n c used rs) (tablesOf fs))
+        → (Roomed gs → Says (extend gs rs) (buildAll keep n c used rs (tablesOf gs)))
+        → Says (extend gs rs) (admit (used i && ltb c y) (keep t) (buildAll keep n c used rs) (tablesOf fs))
     unfolding Says admit
     admit-says i y here many few ih = rw here (go (used (length fs)) (ltb c y) refl refl)
       where
-        on : (T (used (length fs)) → t .count ≤ c) → Says (extend gs rs) (buildAll n c used rs (tablesOf fs ++ (t ∷ [])))
+        on : (T (used (length fs)) → t .count ≤ c) → Says (extend gs rs) (buildAll keep n c used rs (tablesOf fs ++ (keep t ∷ [])))
         on room = rw (e, ← tables-snoc fs f)
-            (ih (getD-snoc (λ i g. T (used i) → (table n g) .count ≤ c) (root 0) fs f h (λ w. subst (λ (a : Table k). a .count ≤ c) e (room w))))
+            (ih (getD-snoc (λ i g. T (used i) → (tableBy keep n g) .count ≤ c) (root 0) fs f h (λ w. subst (λ (a : Table k). a .count ≤ c) e (room w))))
 
-        go : (u v : Bool) → used (length fs) ≡ u → ltb c y ≡ v → Says (extend gs rs) (admit (u && v) t (buildAll n c used rs) (tablesOf fs))
+        go : (u v : Bool) → used (length fs) ≡ u → ltb c y ≡ v → Says (extend gs rs) (admit (u && v) (keep t) (buildAll keep n c used rs) (tablesOf fs))
         go true true p q = rw (tables-length fs) (
           rw p tt,
-          subst (λ (g : Formula k). c < (table n g) .count) (sym new) (subst (λ (a : Table k). c < a .count) e (many (ltb-true c y q))),
-          λ i l w. subst (λ (g : Formula k). (table n g) .count ≤ c) (sym (old i l)) (h i l w),
+          subst (λ (g : Formula k). c < (tableBy keep n g) .count) (sym new) (subst (λ (a : Table k). c < a .count) e (many (ltb-true c y q))),
+          λ i l w. subst (λ (g : Formula k). (tableBy keep n g) .count ≤ c) (sym (old i l)) (h i l w),
         )
         go true false p q = on (λ w. few (ltb-false c y q))
         go false v p q = on (λ w. absurd (rw p at w))
 
-  build-says : (rs : List Record) (fs : List (Formula k)) → Roomed fs → Says (extend fs rs) (buildAll n c used rs (tablesOf fs))
+  build-says : (rs : List Record) (fs : List (Formula k)) → Roomed fs → Says (extend fs rs) (buildAll keep n c used rs (tablesOf fs))
   unfolding buildAll extend
   build-says [] fs h = all-built fs h
   build-says (r ∷ rs) fs h =
       let f : Formula k = formulaOf r fs in
-      let t : Table k = tableOf n (kindOf r) (tablesOf fs) in
+      let t : Table k = tableOf keep n (kindOf r) (tablesOf fs) in
       admit-says rs fs h f t (table-of fs (r .op) (r .first) (r .second)) _ _
       (let e = tables-length fs in omega arith) (λ l. omega arith) (λ l. omega arith) (build-says rs (fs ++ (f ∷ [])))
 
-  pub built-says : (rs : List Record) → Says (extend [] rs) (buildAll n c used rs [])
+  pub built-says : (rs : List Record) → Says (extend [] rs) (buildAll keep n c used rs [])
   unfolding tablesOf
   built-says rs = build-says rs [] (λ i h. absurd (not-suc-le-zero h))
 
@@ -283,9 +290,3 @@ module _ (k n : ℕ) where
       → formulaAt {k = k} rs i ≡ formulaOf (getD rs i noRecord) (extend [] rs)
   unfolding formulaAt
   record-formula rs g i h = ap (λ (j : ℕ). getD (extend [] rs) j (root 0)) (omega arith) ∙ extend-at rs [] g i h
-
--- THE THEOREM, for every record of an accepted rule
-pub record-right : {k : ℕ} (n : ℕ) (rs : List Record) → T (goodFrom k n 0 rs) → (i : ℕ) → i < length rs
-    → Right {k = k} n (formulaAt rs i) (table n (formulaAt rs i))
-unfolding formulaAt
-record-right {k} n rs g i h = table-right n (formulaAt rs i) (record-valid k n rs g i h)

@@ -1,4 +1,4 @@
--- Each formula's machine decides it.
+-- Each formula's machine decides it, whatever is kept of the machines of its parts, if that decides them.
 -- Assumes nothing.
 use Prim.Native.Nat.{ℕ, _*_, _/_, _%_, _^_, _<_}
 use mathlib.Core.Path.{_≡_, refl, ap, _∙_, fun-ext}
@@ -10,15 +10,14 @@ use lib.Arith.{digits-lt, digits-div, digits-mod}
 use borrow.Author.Tests.{eq-eqb}
 use Rattle.logic.specs.Meaning.{Branch, Formula, subset, singleton, successor, root, negation, disjunction, conjunction, exists, Valid}
 use Rattle.logic.specs.Tree.{branches, bit}
-use Rattle.logic.specs.Machine.{Machine, Decides, complement, product, Simulates, bitOf, anyOf}
+use Rattle.logic.specs.Machine.{Machine, Decides, complement, product, Simulates, bitOf, anyOf, Bounded}
 use Rattle.logic.specs.Atom.{subsetMachine, singletonMachine, successorMachine, rootMachine, successorStep, idle, alone}
 use Rattle.logic.specs.Reach.{projection, below, Reached, started, stepped, position, numbered}
-use Rattle.logic.specs.Table.{Table, codedProduct, build, productTable, projectionTable, complementTable, table}
+use Rattle.logic.specs.Table.{Table, codedProduct, build, productTable, projectionTable, complementTable, tableBy}
 use Rattle.logic.proofs.Bits.{bitOf-small}
 use Rattle.logic.proofs.Connectives.{decides-negation, decides-disjunction, decides-conjunction, decides-simulated}
 use Rattle.logic.proofs.Atoms.{decides-subset, decides-singleton, decides-successor, decides-root}
 use Rattle.logic.proofs.Exists.{decides-exists}
-use Rattle.logic.specs.Alike.{Bounded}
 use Rattle.logic.proofs.Rounds.{reach-front}
 use Rattle.logic.proofs.Numbered.{build-bounded, build-decides}
 use Rattle.logic.proofs.Counts.{build-states}
@@ -97,50 +96,65 @@ module _ {k : ℕ} (n : ℕ) where
   flip-reached M ls q started = started
   flip-reached M ls q (stepped l t s h) = stepped l t s (λ b. flip-reached M ls (s b) (h b))
 
-  flip-right : (f : Formula k) (a : Table k) → Right f a → Right (negation f) (complementTable a)
+  pub flip-right : (f : Formula k) (a : Table k) → Right f a → Right (negation f) (complementTable a)
   unfolding complementTable
   flip-right f a r = (r .0, decides-negation n (a .machine) f (r .1), λ q h. flip-reached (a .machine) (below (2 ^ n)) q (r .2 q h))
 
-  projection-right : (x : ℕ) (f : Formula k) (a : Table k) → x < n → Right f a → Right (exists x f) (projectionTable n x a)
+  pub projection-right : (x : ℕ) (f : Formula k) (a : Table k) → x < n → Right f a → Right (exists x f) (projectionTable n x a)
   unfolding projectionTable
   projection-right x f a hx r =
       build-right (exists x f) (2 ^ a .count) (projection n x (a .count) (a .machine)) (projection-bounded n x (a .count) hx (a .machine) (r .0))
       (decides-exists n x hx (a .machine) (projection n x (a .count) (a .machine)) (λ w. w < 2 ^ a .count) (In n x (a .count) hx (a .machine) (r .0))
       (projection-projects n x (a .count) hx (a .machine) (r .0)) f (r .1))
 
+  -- what is kept of a machine that is right is right
+  abbrev pub KeepsRight : (Table k → Table k) → Type 0
+  KeepsRight keep = (f : Formula k) (a : Table k) → Right f a → Right f (keep a)
+
   -- THE THEOREM: the machine of a formula accepts a tree exactly if the formula holds for the assignment
-  pub table-right : (f : Formula k) → Valid n f → Right f (table n f)
-  unfolding table Valid
-  table-right (subset x y) v = build-right (subset x y) 2 (subsetMachine n x y) (subset-bounded x y) (decides-subset n x y (v .0) (v .1))
-  table-right (singleton x) v = build-right (singleton x) 3 (singletonMachine n x) (singleton-bounded x) (decides-singleton n x v)
-  table-right (successor i x y) v =
-      build-right (successor i x y) 4 (successorMachine n i x y) (successor-bounded i x y) (decides-successor n x y i (v .0) (v .1))
-  table-right (root x) v = build-right (root x) 3 (rootMachine n x) (root-bounded x) (decides-root n x v)
-  table-right (negation f) v = flip-right f (table n f) (table-right f v)
-  table-right (disjunction f g) v =
-      let r = table-right f (v .0) in let q = table-right g (v .1) in
-      pair-right _||_ (disjunction f g) (table n f) (table n g) (r .0) (q .0)
-      (decides-disjunction n ((table n f) .machine) f (r .1) ((table n g) .machine) g (q .1))
-  table-right (conjunction f g) v =
-      let r = table-right f (v .0) in let q = table-right g (v .1) in
-      pair-right _&&_ (conjunction f g) (table n f) (table n g) (r .0) (q .0)
-      (decides-conjunction n ((table n f) .machine) f (r .1) ((table n g) .machine) g (q .1))
-  table-right (exists x f) v = projection-right x f (table n f) (v .0) (table-right f (v .1))
+  module _ (keep : Table k → Table k) (keeps : KeepsRight keep) where
+    pub table-right : (f : Formula k) → Valid n f → Right f (tableBy keep n f)
+    unfolding tableBy Valid
+    table-right (subset x y) v = build-right (subset x y) 2 (subsetMachine n x y) (subset-bounded x y) (decides-subset n x y (v .0) (v .1))
+    table-right (singleton x) v = build-right (singleton x) 3 (singletonMachine n x) (singleton-bounded x) (decides-singleton n x v)
+    table-right (successor i x y) v =
+        build-right (successor i x y) 4 (successorMachine n i x y) (successor-bounded i x y) (decides-successor n x y i (v .0) (v .1))
+    table-right (root x) v = build-right (root x) 3 (rootMachine n x) (root-bounded x) (decides-root n x v)
+    table-right (negation f) v = flip-right f (keep (tableBy keep n f)) (keeps f (tableBy keep n f) (table-right f v))
+    table-right (disjunction f g) v =
+        let a = keep (tableBy keep n f) in
+        let b = keep (tableBy keep n g) in
+        let r = keeps f (tableBy keep n f) (table-right f (v .0)) in
+        let q = keeps g (tableBy keep n g) (table-right g (v .1)) in
+        pair-right _||_ (disjunction f g) a b (r .0) (q .0) (decides-disjunction n (a .machine) f (r .1) (b .machine) g (q .1))
+    table-right (conjunction f g) v =
+        let a = keep (tableBy keep n f) in
+        let b = keep (tableBy keep n g) in
+        let r = keeps f (tableBy keep n f) (table-right f (v .0)) in
+        let q = keeps g (tableBy keep n g) (table-right g (v .1)) in
+        pair-right _&&_ (conjunction f g) a b (r .0) (q .0) (decides-conjunction n (a .machine) f (r .1) (b .machine) g (q .1))
+    table-right (exists x f) v = projection-right x f (keep (tableBy keep n f)) (v .0) (keeps f (tableBy keep n f) (table-right f (v .1)))
 
 -- state 0 is the state of the empty tree
-built-zero : {k : ℕ} (n d : ℕ) (M : Machine k ℕ) → (build n d M) .machine .start ≡ 0
+pub built-zero : {k : ℕ} (n d : ℕ) (M : Machine k ℕ) → (build n d M) .machine .start ≡ 0
 unfolding build numbered position
 built-zero n d M =
     let w = reach-front M (below (2 ^ n)) d in
     ap (λ (L : List ℕ). position (M .start) L) (w .1) ∙ rw (eq-eqb (M .start) (M .start) refl)
 
-pub start-zero : {k : ℕ} (n : ℕ) (f : Formula k) → (table n f) .machine .start ≡ 0
-unfolding table complementTable productTable projectionTable
-start-zero n (subset x y) = built-zero n 2 (subsetMachine n x y)
-start-zero n (singleton x) = built-zero n 3 (singletonMachine n x)
-start-zero n (successor i x y) = built-zero n 4 (successorMachine n i x y)
-start-zero n (root x) = built-zero n 3 (rootMachine n x)
-start-zero n (negation f) = start-zero n f
-start-zero n (disjunction f g) = built-zero n _ (codedProduct _||_ ((table n g) .count) ((table n f) .machine) ((table n g) .machine))
-start-zero n (conjunction f g) = built-zero n _ (codedProduct _&&_ ((table n g) .count) ((table n f) .machine) ((table n g) .machine))
-start-zero n (exists x f) = built-zero n _ (projection n x ((table n f) .count) ((table n f) .machine))
+module _ {k : ℕ} (n : ℕ) (keep : Table k → Table k) (keeps : KeepsRight n keep)
+    (zero-kept : (f : Formula k) (a : Table k) → Right n f a → a .machine .start ≡ 0 → (keep a) .machine .start ≡ 0) where
+  pub start-zero : (f : Formula k) → Valid n f → (tableBy keep n f) .machine .start ≡ 0
+  unfolding tableBy Valid complementTable productTable projectionTable
+  start-zero (subset x y) v = built-zero n 2 (subsetMachine n x y)
+  start-zero (singleton x) v = built-zero n 3 (singletonMachine n x)
+  start-zero (successor i x y) v = built-zero n 4 (successorMachine n i x y)
+  start-zero (root x) v = built-zero n 3 (rootMachine n x)
+  start-zero (negation f) v = zero-kept f (tableBy keep n f) (table-right n keep keeps f v) (start-zero f v)
+  start-zero (disjunction f g) v =
+      let a = keep (tableBy keep n f) in
+      let b = keep (tableBy keep n g) in built-zero n (a .count * b .count) (codedProduct _||_ (b .count) (a .machine) (b .machine))
+  start-zero (conjunction f g) v =
+      let a = keep (tableBy keep n f) in
+      let b = keep (tableBy keep n g) in built-zero n (a .count * b .count) (codedProduct _&&_ (b .count) (a .machine) (b .machine))
+  start-zero (exists x f) v = let a = keep (tableBy keep n f) in built-zero n (2 ^ a .count) (projection n x (a .count) (a .machine))

@@ -8,13 +8,10 @@ use mathlib.Core.List.{List, [], _∷_}
 use lib.Dec.{T}
 use Rattle.logic.specs.Meaning.{Branch, Formula}
 use Rattle.logic.specs.Tree.{Tree, empty, node, Proper}
-use Rattle.logic.specs.Machine.{Machine, run, withBit, Decides}
+use Rattle.logic.specs.Machine.{Machine, Bounded, run, withBit, Decides}
 use Rattle.logic.specs.Reach.{elem, below, Reached}
-use Rattle.logic.specs.Table.{table}
-
--- M's states stay below c
-abbrev pub Bounded : {k : ℕ} → ℕ → ℕ → Machine k ℕ → Type 0
-Bounded {k} n c M = (M .start < c) × ((l : ℕ) → l < 2 ^ n → (s : Branch k → ℕ) → ((b : Branch k) → s b < c) → M .step l s < c)
+use Rattle.logic.specs.Table.{Table}
+use Rattle.logic.specs.Joined.{constructed, joinedTable}
 
 -- M's states are those below c, and it comes to each of them
 abbrev pub Full : {k : ℕ} → ℕ → ℕ → Machine k ℕ → Type 0
@@ -45,10 +42,18 @@ pub record Agrees {k : ℕ} (n c : ℕ) (M N : Machine k ℕ) : Type 0 where
   pub steps : (l : ℕ) → l < 2 ^ n → (s : Branch k → ℕ) → ((b : Branch k) → s b < c) → M .step l s ≡ N .step l s
   pub accepts : (q : ℕ) → q < c → M .accepting q ≡ N .accepting q
 
--- M is document 01's machine of f, up to the names of its states
-pub record MachineOf {k : ℕ} (n : ℕ) (f : Formula k) (M : Machine k ℕ) : Type 0 where
+-- M decides f, and is a's machine up to the names of its states
+pub record MachineOf {k : ℕ} (n : ℕ) (f : Formula k) (a : Table k) (M : Machine k ℕ) : Type 0 where
   pub decides : Decides n M f
-  pub alike : Alike n M ((table n f) .machine)
+  pub alike : Alike n M (a .machine)
+
+-- M is the construction of f over joined parts
+abbrev pub ConstructedOf : {k : ℕ} → ℕ → Formula k → Machine k ℕ → Type 0
+ConstructedOf n f M = MachineOf n f (constructed n f) M
+
+-- M is f's machine with its states joined
+abbrev pub JoinedOf : {k : ℕ} → ℕ → Formula k → Machine k ℕ → Type 0
+JoinedOf n f M = MachineOf n f (joinedTable n f) M
 
 -- v is t with any bits for variable x, also at nodes below t's
 unfoldable pub Varies : {k : ℕ} → ℕ → ℕ → Tree k → Tree k → Type 0

@@ -1,5 +1,5 @@
 -- What the demands ask of decide's and judge's answers to an accepted rule, once the ceilings and buffers are in order.
--- The claims are in terms of assignments, their trees and the order of trees; `statesAt` alone speaks of machines. Assumes nothing.
+-- The claims are in terms of assignments, their trees and the order of trees; `statesAt` alone speaks of a construction. Assumes nothing.
 use Prim.Native.Nat.{ℕ, _≤_, _<_}
 use mathlib.Core.Path.{_≡_}
 use mathlib.Core.Logic.{_↔_, _⊎_}
@@ -9,9 +9,10 @@ use lib.ListN.{length}
 use Rattle.logic.specs.Meaning.{Branch, Place, Assignment}
 use Rattle.logic.specs.Tree.{Tree, positions, nodeAt, TreeOf, SameSets}
 use Rattle.logic.specs.Order.{_≺_}
-use Rattle.logic.specs.Rule.{Record, formulaAt, Satisfies}
+use Rattle.logic.specs.Rule.{Record, formulaAt, lastOf, Satisfies}
 use Rattle.logic.specs.ReachedRecords.{ReachedRecord}
-use Rattle.logic.specs.Table.{table}
+use Rattle.logic.specs.Least.{LeastBelow}
+use Rattle.logic.specs.Joined.{constructed}
 
 -- decide's answers: refusal 14 with the record's number; shown (positions, states) and the tree; none (states); larger (states)
 pub data Outcome (k : ℕ) : Type 0 where
@@ -24,11 +25,12 @@ pub data Judgement : Type 0 where
   unbuilt : (r : ℕ) → Judgement
   yes no : Judgement
 
--- the number of states of record r's machine
+-- A8: "the reachable states of the construction over already shrunk parts", of record r
 abbrev pub statesAt : (k n : ℕ) → List Record → ℕ → ℕ
-statesAt k n rs r = (table {k = k} n (formulaAt rs r)) .count
+statesAt k n rs r = (constructed {k = k} n (formulaAt rs r)) .count
 
--- "the first record in strip order with more than c states", which since A5 "speaks only of records reached from the last one"
+-- "the first record in strip order with more than c states", which since A5 "speaks only of records reached from the last one" and since A8
+-- "compares c with" these
 abbrev pub FirstOver : (k n : ℕ) → List Record → ℕ → ℕ → Type 0
 FirstOver k n rs c r = ReachedRecord rs r × (c < statesAt k n rs r) × ((i : ℕ) → i < r → ReachedRecord rs i → statesAt k n rs i ≤ c)
 
@@ -70,8 +72,14 @@ pub record Demand3 {k : ℕ} (n : ℕ) (rs : List Record) (P q : ℕ) (o : Outco
   -- "larger" is said exactly when satisfying assignments exist and every one of them has more positions than the place ceiling
   pub larger-is : (o ≡ larger q) ↔ (((A : Assignment k) × Satisfies rs A) × ((A : Assignment k) (t : Tree k) → Model n rs A t → P < positions t))
 
+-- q is the least number of states of a machine that decides the rule
+abbrev pub LeastForRule : (k n : ℕ) → List Record → ℕ → Type 0
+LeastForRule k n rs q = LeastBelow {k = k} n (formulaAt rs (lastOf rs)) q
+
 -- o answers the rule rs of n variables, with state ceiling c and place ceiling P, and reports q states
 pub record Answers {k : ℕ} (n : ℕ) (rs : List Record) (c P q : ℕ) (o : Outcome k) : Type 0 where
+  -- A8: "Reported states become that least number"
+  pub least : LeastForRule k n rs q
   pub refused-is : (r : ℕ) → (o ≡ refused14 r) ↔ FirstOver k n rs c r
   pub demand2 : Roomy k n rs c → Demand2 n rs P q o
   pub demand3 : Roomy k n rs c → Demand3 n rs P q o

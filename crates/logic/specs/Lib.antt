@@ -8,6 +8,8 @@ pub mod Atom
 pub mod Reach
 pub mod ReachedRecords
 pub mod Table
+pub mod Least
+pub mod Joined
 pub mod Trim
 pub mod Search
 pub mod Decide

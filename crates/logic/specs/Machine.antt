@@ -34,6 +34,10 @@ pub record Machine (k : ℕ) (Q : Type 0) : Type 0 where
   pub step : ℕ → (Branch k → Q) → Q
   pub accepting : Q → Bool
 
+-- M's states are numbers below c, under n-bit labels
+abbrev pub Bounded : {k : ℕ} → ℕ → ℕ → Machine k ℕ → Type 0
+Bounded {k} n c M = (M .start < c) × ((l : ℕ) → l < 2 ^ n → (s : Branch k → ℕ) → ((b : Branch k) → s b < c) → M .step l s < c)
+
 unfoldable pub run : {k : ℕ} {Q : Type 0} → Machine k Q → Tree k → Q
 run M empty = M .start
 run M (node l f) = M .step l (λ b. run M (f b))

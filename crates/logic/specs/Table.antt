@@ -1,4 +1,4 @@
--- The machine of each formula, with exactly the states that can be reached, numbered.
+-- The machine of each formula, with exactly the states that can be reached, numbered, over what is kept of the machines of its parts.
 -- Assumes nothing.
 use Prim.Native.Nat.{ℕ, _+_, _*_, _/_, _%_, _^_}
 use mathlib.Core.Bool.{Bool, true, false, _&&_, _||_}
@@ -36,15 +36,20 @@ projectionTable n x a = build n (2 ^ a .count) (projection n x (a .count) (a .ma
 unfoldable pub complementTable : {k : ℕ} → Table k → Table k
 complementTable a = record { count = a .count; machine = complement (a .machine) }
 
-unfoldable pub table : {k : ℕ} → ℕ → Formula k → Table k
-table n (subset x y) = build n 2 (subsetMachine n x y)
-table n (singleton x) = build n 3 (singletonMachine n x)
-table n (successor i x y) = build n 4 (successorMachine n i x y)
-table n (root x) = build n 3 (rootMachine n x)
-table n (negation f) = complementTable (table n f)
-table n (disjunction f g) = productTable n _||_ (table n f) (table n g)
-table n (conjunction f g) = productTable n _&&_ (table n f) (table n g)
-table n (exists x f) = projectionTable n x (table n f)
+-- the machine of a formula, where `keep` says what is kept of a machine once it is built
+unfoldable pub tableBy : {k : ℕ} → (Table k → Table k) → ℕ → Formula k → Table k
+tableBy keep n (subset x y) = build n 2 (subsetMachine n x y)
+tableBy keep n (singleton x) = build n 3 (singletonMachine n x)
+tableBy keep n (successor i x y) = build n 4 (successorMachine n i x y)
+tableBy keep n (root x) = build n 3 (rootMachine n x)
+tableBy keep n (negation f) = complementTable (keep (tableBy keep n f))
+tableBy keep n (disjunction f g) = productTable n _||_ (keep (tableBy keep n f)) (keep (tableBy keep n g))
+tableBy keep n (conjunction f g) = productTable n _&&_ (keep (tableBy keep n f)) (keep (tableBy keep n g))
+tableBy keep n (exists x f) = projectionTable n x (keep (tableBy keep n f))
+
+-- what is kept of it
+abbrev pub keptBy : {k : ℕ} → (Table k → Table k) → ℕ → Formula k → Table k
+keptBy keep n f = keep (tableBy keep n f)
 
 -- a record: an atom, or a combination of earlier records, by their numbers
 pub data Kind (k : ℕ) : Type 0 where
@@ -59,15 +64,15 @@ kindOf r =
     getD (atom (subset a b) ∷ atom (singleton a) ∷ atom (successorAt 0 a b) ∷ atom (successorAt 1 a b) ∷ atom (root a)
     ∷ notOf a ∷ orOf a b ∷ andOf a b ∷ someOf a b ∷ atom (successorAt 2 a b) ∷ []) (r .op) (atom (root 0))
 
--- the machine of a record, from those of the earlier records
-unfoldable pub tableOf : {k : ℕ} → ℕ → Kind k → List (Table k) → Table k
-tableOf n (atom f) ts = table n f
-tableOf n (notOf a) ts = complementTable (getD ts a (table n (root 0)))
-tableOf n (orOf a b) ts = productTable n _||_ (getD ts a (table n (root 0))) (getD ts b (table n (root 0)))
-tableOf n (andOf a b) ts = productTable n _&&_ (getD ts a (table n (root 0))) (getD ts b (table n (root 0)))
-tableOf n (someOf x a) ts = projectionTable n x (getD ts a (table n (root 0)))
+-- the machine of a record, from what is kept of those of the earlier records
+unfoldable pub tableOf : {k : ℕ} → (Table k → Table k) → ℕ → Kind k → List (Table k) → Table k
+tableOf keep n (atom f) ts = tableBy keep n f
+tableOf keep n (notOf a) ts = complementTable (getD ts a (keptBy keep n (root 0)))
+tableOf keep n (orOf a b) ts = productTable n _||_ (getD ts a (keptBy keep n (root 0))) (getD ts b (keptBy keep n (root 0)))
+tableOf keep n (andOf a b) ts = productTable n _&&_ (getD ts a (keptBy keep n (root 0))) (getD ts b (keptBy keep n (root 0)))
+tableOf keep n (someOf x a) ts = projectionTable n x (getD ts a (keptBy keep n (root 0)))
 
--- the machines of all records; or the number of the first reached one with more than c states
+-- what is kept of the machines of all records; or the number of the first reached one that is built with more than c states
 pub data Built (k : ℕ) : Type 0 where
   over : ℕ → Built k
   built : List (Table k) → Built k
@@ -76,7 +81,8 @@ unfoldable pub admit : {k : ℕ} → Bool → Table k → (List (Table k) → Bu
 admit true t go ts = over (length ts)
 admit false t go ts = go (ts ++ (t ∷ []))
 
--- the records that follow those of ts, where `used` says which records are reached
-unfoldable pub buildAll : {k : ℕ} → ℕ → ℕ → (ℕ → Bool) → List Record → List (Table k) → Built k
-buildAll n c used [] ts = built ts
-buildAll n c used (r ∷ rs) ts = let t = tableOf n (kindOf r) ts in admit (used (length ts) && ltb c (t .count)) t (buildAll n c used rs) ts
+-- the records that follow those of ts, where `used` says which records are reached: each is built, compared with c, and kept
+unfoldable pub buildAll : {k : ℕ} → (Table k → Table k) → ℕ → ℕ → (ℕ → Bool) → List Record → List (Table k) → Built k
+buildAll keep n c used [] ts = built ts
+buildAll keep n c used (r ∷ rs) ts =
+    let t = tableOf keep n (kindOf r) ts in admit (used (length ts) && ltb c (t .count)) (keep t) (buildAll keep n c used rs) ts

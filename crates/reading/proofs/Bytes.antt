@@ -6,8 +6,8 @@ use Rattle.layout.specs.Shape.{Shaped, labelsIn, shareOf, placeIn, Tuple}
 use Rattle.layout.specs.declared.Shape.{Shape}
 use Rattle.layout.proofs.Places.{tuple-up, pair-in}
 use Rattle.words.specs.Word.{mem}
-use Rattle.logic.specs.Alike.{Bounded, Agrees}
-use Rattle.logic.specs.Machine.{run}
+use Rattle.logic.specs.Alike.{Agrees}
+use Rattle.logic.specs.Machine.{run, Bounded}
 use Rattle.logic.specs.Search.{search}
 use Rattle.logic.specs.Tree.{Tree, Proper}
 use Rattle.logic.specs.Two.{one, two}

@@ -3,10 +3,10 @@
 use Rattle.words.proofs.Vocabulary.{ℕ, _≤_, _<_, _%_, _/_, Bool, _≡_, _∙_, refl, sym, ap, eqb, T, eqb→eq, arith}
 use Rattle.logic.specs.Meaning.{Branch, Formula, subset, singleton, successor, root}
 use Rattle.logic.specs.Tree.{downFrom, sumOf, bit}
-use Rattle.logic.specs.Machine.{Machine, allOf, anyOf}
+use Rattle.logic.specs.Machine.{Machine, allOf, anyOf, Bounded}
 use Rattle.logic.specs.Atom.{subsetStep, singletonStep, successorStep, rootStep}
 use Rattle.logic.specs.Reach.{below}
-use Rattle.logic.specs.Alike.{Bounded, MachineOf}
+use Rattle.logic.specs.Alike.{MachineOf}
 use Rattle.logic.specs.Two.{one, two, pairOf, branching}
 use Rattle.logic.proofs.Reach.{elem-below}
 use Rattle.logic.proofs.Tables.{subset-bounded, singleton-bounded, successor-bounded, root-bounded}

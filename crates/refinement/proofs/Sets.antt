@@ -4,9 +4,9 @@ use Rattle.words.proofs.Vocabulary.{subst, ap₂, ⊎-elim, _↔_, List, [], _�
 use Rattle.layout.specs.Shape.{Each, Tuple}
 use Rattle.layout.proofs.Places.{two-of, pair-of}
 use Rattle.logic.specs.Meaning.{Branch, Formula, exists, Valid}
-use Rattle.logic.specs.Machine.{Machine, withBit, Blank, none, grown, Projects}
+use Rattle.logic.specs.Machine.{Machine, withBit, Blank, none, grown, Projects, Bounded}
 use Rattle.logic.specs.Reach.{elem, successors, add, closure, reach}
-use Rattle.logic.specs.Alike.{Bounded, MachineOf}
+use Rattle.logic.specs.Alike.{MachineOf}
 use Rattle.logic.specs.Two.{one, two, pairOf, branching}
 use Rattle.logic.proofs.Bits.{put-lt}
 use Rattle.logic.proofs.Places.{T→true, true→T}
