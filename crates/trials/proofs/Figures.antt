@@ -10,11 +10,12 @@ use Rattle.logic.specs.Rule.{Record, successorAt, formulaOf, extend, formulaAt}
 use Rattle.logic.specs.ReachedRecords.{namesOf, namedAfter, mark, marks, isReached}
 use Rattle.logic.specs.Machine.{allOf, anyOf, setLow, withBit}
 use Rattle.logic.specs.Reach.{elem, below, flat, select, outcomes, successors, add, closure, reach, position, numbered, wordOf, members, projection}
-use Rattle.logic.specs.Table.{Table, table, codedProduct, build, productTable, projectionTable, complementTable, tableOf, admit, kindOf, buildAll}
+use Rattle.logic.specs.Joined.{pairs, seeds, splitsAt, splits, spread, apartPairs, numbers, first, classOf, merged, classes, joinBy, join, constructed, joinedTable}
+use Rattle.logic.specs.Table.{Table, tableBy, codedProduct, build, productTable, projectionTable, complementTable, tableOf, admit, kindOf, buildAll}
 use Rattle.logic.specs.Search.{anyBelow}
 use Rattle.parts.specs.Parts.{isAnd, walk, fresh, partsOf}
 use Rattle.trials.specs.Clash.{triedWith, keptOf}
-use Rattle.trials.specs.Joins.{Joiner, plainJoiner, accepts, noJoint, joinOne, joinFrom, over14, keptList, trialSays, trials, trialsFrom}
+use Rattle.trials.specs.Joins.{Joiner, ruleJoiner, accepts, noJoint, joinOne, joinFrom, over14, keptList, trialSays, trials, trialsFrom}
 use Rattle.trials.specs.Answer.{ClashAnswer, refusedFor, satisfiable, clashing, trialsAnswer, afterBuilt, clashOf}
 
 r : ℕ → ℕ → ℕ → Record
@@ -131,14 +132,16 @@ expected =
 
 answers-right : answers examples ≡ expected
 unfolding answers examples expected never tried circle many again chain r clashOf afterBuilt trialsAnswer trials trialSays joinFrom joinOne accepts
-    partsOf fresh walk isAnd table tableOf admit kindOf buildAll successorAt decLt isReached marks mark namedAfter namesOf build productTable
+    partsOf fresh walk isAnd joinedTable constructed join joinBy classes merged classOf first numbers apartPairs spread splits splitsAt seeds pairs
+    tableBy tableOf admit kindOf buildAll successorAt decLt isReached marks mark namedAfter namesOf build productTable
     projectionTable complementTable codedProduct reach closure add successors flat outcomes below elem position numbered bit low sumOf downFrom
     projection withBit setLow wordOf members select anyOf allOf anyBelow
 answers-right = refl
 
 -- the trials of one of them with the kept parts joined once
-once-right : trialsFrom (plainJoiner 2 2 tried) 64 noJoint [] (2 ∷ 0 ∷ 1 ∷ 3 ∷ []) ≡ keptList (1 ∷ 3 ∷ [])
-unfolding tried r formulaAt extend formulaOf trialsFrom trialSays joinFrom joinOne accepts table successorAt decLt build productTable
+once-right : trialsFrom (ruleJoiner 2 2 tried) 64 noJoint [] (2 ∷ 0 ∷ 1 ∷ 3 ∷ []) ≡ keptList (1 ∷ 3 ∷ [])
+unfolding tried r formulaAt extend formulaOf trialsFrom trialSays joinFrom joinOne accepts joinedTable constructed
+    join joinBy classes merged classOf first numbers apartPairs spread splits splitsAt seeds pairs tableBy successorAt decLt build productTable
     projectionTable complementTable codedProduct reach closure add successors flat outcomes below elem position numbered bit low sumOf downFrom
     projection withBit setLow wordOf members select anyOf allOf anyBelow
 once-right = refl

@@ -12,20 +12,22 @@ use lib.ListN.{length}
 use Rattle.logic.specs.Meaning.{Assignment, Formula, conjunction, Holds, Valid}
 use Rattle.logic.specs.Rule.{Record, formulaAt, Accepted}
 use Rattle.logic.specs.Reach.{elem, below, Reached}
-use Rattle.logic.specs.Table.{Table, table, productTable}
+use Rattle.logic.specs.Table.{Table, productTable}
+use Rattle.logic.specs.Joined.{join, joinedTable}
 use Rattle.logic.specs.Search.{anyBelow}
 use Rattle.logic.proofs.Connectives.{decides-conjunction}
 use Rattle.logic.proofs.Reach.{elem-none, elem-cons, elem-first, elem-below}
 use Rattle.logic.proofs.Places.{T→true, true→T, not-T}
 use Rattle.logic.proofs.Numbered.{reached-bound}
-use Rattle.logic.proofs.Tables.{Right, pair-right, table-right}
+use Rattle.logic.proofs.Tables.{Right, pair-right}
+use Rattle.logic.proofs.Joined.{join-right, joined-right}
 use Rattle.logic.proofs.Satisfiable.{satisfiable-iff}
 use Rattle.logic.proofs.Settle.{some-true, some-false}
-use Rattle.logic.proofs.Rules.{snoc-length, record-right, record-valid}
+use Rattle.logic.proofs.Rules.{snoc-length, record-valid}
 use Rattle.parts.specs.Parts.{AllHold}
 use Rattle.parts.proofs.Lists.{told, not-false, elem-later}
 use Rattle.trials.specs.Clash.{NoneHold, SomeHold, Tells, TrialsKeep, all-tried, dropped, stays, Clash}
-use Rattle.trials.specs.Joins.{joinedTo, conjunctionOf, Joiner, plainJoiner, accepts, noneBy, Joint, noJoint, jointBy, jointOver}
+use Rattle.trials.specs.Joins.{joinedTo, conjunctionOf, Joiner, ruleJoiner, accepts, noneBy, Joint, noJoint, jointBy, jointOver}
 use Rattle.trials.specs.Joins.{joinOne, joinFrom, joinAll, Trialled, over14, keptList, trialSays, trials, trialsFrom}
 use Rattle.trials.specs.Joins.{FirstJoinOver, JoinsFit, Stops, goes-over, dropped-then, stays-then}
 use Rattle.trials.proofs.Clash.{between, kept-more, some-empty, keeps-clash}
@@ -90,8 +92,11 @@ pub record Sound {k : ℕ} (n : ℕ) (rs : List Record) (J : Joiner k) : Type 0 
 pub both-right : {k : ℕ} (n : ℕ) (f g : Formula k) (a b : Table k) → Right n f a → Right n g b → Right n (conjunction f g) (productTable n _&&_ a b)
 both-right n f g a b r q = pair-right n _&&_ (conjunction f g) a b (r .0) (q .0) (decides-conjunction n (a .machine) f (r .1) (b .machine) g (q .1))
 
-pub plain-sound : (k n : ℕ) (rs : List Record) → Accepted k n rs → Sound n rs (plainJoiner k n rs)
-plain-sound k n rs ok = record { at-right = λ p h. record-right n rs (ok .1) p h; join-right = λ f g a b. both-right n f g a b }
+pub rule-sound : (k n : ℕ) (rs : List Record) → Accepted k n rs → Sound n rs (ruleJoiner k n rs)
+rule-sound k n rs ok = record {
+  at-right = λ p h. joined-right n (formulaAt rs p) (record-valid k n rs (ok .1) p h);
+  join-right = λ f g a b r q. join-right n (conjunction f g) (productTable n _&&_ a b) (both-right n f g a b r q);
+}
 
 module _ (k n : ℕ) (rs : List Record) (ok : Accepted k n rs) where
   joined-valid : (L : List ℕ) (f : Formula k) → Valid n f → ((i : ℕ) → T (elem i L) → i < length rs) → Valid n (joinedTo rs f L)
@@ -102,9 +107,9 @@ module _ (k n : ℕ) (rs : List Record) (ok : Accepted k n rs) where
 
   -- the machine of a conjunction is right
   pub conjunction-right : (p : ℕ) (L : List ℕ) → ((i : ℕ) → T (elem i (p ∷ L)) → i < length rs)
-      → Right {k = k} n (conjunctionOf rs (p ∷ L)) (table n (conjunctionOf rs (p ∷ L)))
+      → Right {k = k} n (conjunctionOf rs (p ∷ L)) (joinedTable n (conjunctionOf rs (p ∷ L)))
   unfolding conjunctionOf
-  conjunction-right p L h = table-right n (joinedTo rs (formulaAt rs p) L)
+  conjunction-right p L h = joined-right n (joinedTo rs (formulaAt rs p) L)
       (joined-valid L (formulaAt rs p) (record-valid k n rs (ok .1) p (h p (elem-first p L))) (λ i m. h i (elem-later i p L m)))
 
   -- THE TEST BY MACHINES TELLS
@@ -115,8 +120,8 @@ module _ (k n : ℕ) (rs : List Record) (ok : Accepted k n rs) where
       yes-none : (L : List ℕ) → ((i : ℕ) → T (elem i L) → i < length rs) → noneBy k n rs L ≡ true → NoneHold k rs L
       yes-none [] h e = absurd (true≢false (sym e))
       yes-none (p ∷ L) h e = λ A w.
-          let i = accepts-iff n (conjunctionOf rs (p ∷ L)) (table n (conjunctionOf rs (p ∷ L))) (conjunction-right p L h) in
-          T-not (accepts (table n (conjunctionOf rs (p ∷ L)))) (true→T e) (i .1 (A, (conjunction-holds rs A (p ∷ L)) .1 w))
+          let i = accepts-iff n (conjunctionOf rs (p ∷ L)) (joinedTable n (conjunctionOf rs (p ∷ L))) (conjunction-right p L h) in
+          T-not (accepts (joinedTable n (conjunctionOf rs (p ∷ L)))) (true→T e) (i .1 (A, (conjunction-holds rs A (p ∷ L)) .1 w))
 
       flip : (v : Bool) → not v ≡ false → T v
       flip true e = tt
@@ -125,8 +130,8 @@ module _ (k n : ℕ) (rs : List Record) (ok : Accepted k n rs) where
       no-none : (L : List ℕ) → ((i : ℕ) → T (elem i L) → i < length rs) → noneBy k n rs L ≡ false → SomeHold k rs L
       no-none [] h e = some-empty k rs
       no-none (p ∷ L) h e =
-          let i = accepts-iff n (conjunctionOf rs (p ∷ L)) (table n (conjunctionOf rs (p ∷ L))) (conjunction-right p L h) in
-          let w = i .0 (flip (accepts (table n (conjunctionOf rs (p ∷ L)))) e) in (w .0, (conjunction-holds rs (w .0) (p ∷ L)) .0 (w .1))
+          let i = accepts-iff n (conjunctionOf rs (p ∷ L)) (joinedTable n (conjunctionOf rs (p ∷ L))) (conjunction-right p L h) in
+          let w = i .0 (flip (accepts (joinedTable n (conjunctionOf rs (p ∷ L)))) e) in (w .0, (conjunction-holds rs (w .0) (p ∷ L)) .0 (w .1))
 
 -- ---- joining left to right
 

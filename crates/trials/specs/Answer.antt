@@ -8,12 +8,13 @@ use mathlib.Core.List.{List, []}
 use lib.ListN.{getD}
 use Rattle.logic.specs.Meaning.{Assignment, root}
 use Rattle.logic.specs.Rule.{Record, Satisfies}
-use Rattle.logic.specs.Table.{table, Built, over, built}
+use Rattle.logic.specs.Table.{Built, over, built}
+use Rattle.logic.specs.Joined.{joinedTable}
 use Rattle.logic.specs.Decide.{lastTable, buildRule}
 use Rattle.logic.specs.Claims.{FirstOver, Roomy}
 use Rattle.parts.specs.Parts.{partsOf}
 use Rattle.trials.specs.Clash.{Clash}
-use Rattle.trials.specs.Joins.{pairJoiner, plainJoiner, accepts, Trialled, over14, keptList, trials, Stops}
+use Rattle.trials.specs.Joins.{pairJoiner, ruleJoiner, accepts, Trialled, over14, keptList, trials, Stops}
 
 -- 14 with the record, for the rule itself or in a trial; 29; or the list
 pub data ClashAnswer : Type 0 where
@@ -29,7 +30,7 @@ trialsAnswer (keptList R) = clashing R
 unfoldable pub afterBuilt : {k : ℕ} → ℕ → List Record → ℕ → Built k → ClashAnswer
 afterBuilt n rs c (over r) = refusedFor r
 afterBuilt n rs c (built ts) =
-    let R = trialsAnswer (trials (pairJoiner n (λ p. getD ts p (table n (root 0)))) c [] (partsOf rs)) in
+    let R = trialsAnswer (trials (pairJoiner n (λ p. getD ts p (joinedTable n (root 0)))) c [] (partsOf rs)) in
     cond (accepts (lastTable n rs ts)) satisfiable R
 
 -- "29, after 14 for the rule itself, when the rule is satisfiable"
@@ -43,5 +44,5 @@ pub record ClashAnswers (k n : ℕ) (rs : List Record) (c : ℕ) (o : ClashAnswe
   pub satisfiable-is : Roomy k n rs c → (o ≡ satisfiable) ↔ ((A : Assignment k) × Satisfies rs A)
   -- otherwise the list, and no trial goes over; or the 14 of the first join that does
   pub otherwise : Roomy k n rs c → ((A : Assignment k) → ¬ Satisfies rs A)
-      → ((R : List ℕ) × (o ≡ clashing R) × Clash k rs (partsOf rs) R × ((q : ℕ) → ¬ Stops rs (plainJoiner k n rs) c [] (partsOf rs) q))
-      ⊎ ((q : ℕ) × (o ≡ refusedFor q) × Stops rs (plainJoiner k n rs) c [] (partsOf rs) q)
+      → ((R : List ℕ) × (o ≡ clashing R) × Clash k rs (partsOf rs) R × ((q : ℕ) → ¬ Stops rs (ruleJoiner k n rs) c [] (partsOf rs) q))
+      ⊎ ((q : ℕ) × (o ≡ refusedFor q) × Stops rs (ruleJoiner k n rs) c [] (partsOf rs) q)

@@ -8,7 +8,8 @@ use lib.Dec.{ltb}
 use lib.ListN.{length}
 use Rattle.logic.specs.Meaning.{Formula, subset, conjunction}
 use Rattle.logic.specs.Rule.{Record, formulaAt}
-use Rattle.logic.specs.Table.{Table, table, productTable}
+use Rattle.logic.specs.Table.{Table, productTable}
+use Rattle.logic.specs.Joined.{join, joinedTable}
 use Rattle.logic.specs.Search.{anyBelow}
 use Rattle.trials.specs.Clash.{NoneHold, SomeHold}
 
@@ -28,18 +29,18 @@ pub record Joiner (k : ℕ) : Type 0 where
   pub states : Table k → Table k → ℕ
   pub join : Table k → Table k → Table k
 
--- THE ONE PLACE that says so: before A8 the pairs of document 01's machines, all of whose states count. A8 changes this alone: the states of
--- the pairs count, and the shrunk pairs come out
+-- THE ONE PLACE that says so. A8: "After each [..] joining of a clash trial, is built, join its states": the states of the pairs count, and the
+-- pairs come out with their states joined
 abbrev pub pairJoiner : {k : ℕ} → ℕ → (ℕ → Table k) → Joiner k
 pairJoiner n at = record {
   at = at;
   states = λ a b. (productTable n _&&_ a b) .count;
-  join = λ a b. productTable n _&&_ a b;
+  join = λ a b. join n (productTable n _&&_ a b);
 }
 
 -- over the machines of the rule's records
-abbrev pub plainJoiner : (k n : ℕ) → List Record → Joiner k
-plainJoiner k n rs = pairJoiner n (λ p. table n (formulaAt rs p))
+abbrev pub ruleJoiner : (k n : ℕ) → List Record → Joiner k
+ruleJoiner k n rs = pairJoiner n (λ p. joinedTable n (formulaAt rs p))
 
 -- some assignment is accepted: some state accepts, all of them being reached
 unfoldable pub accepts : {k : ℕ} → Table k → Bool
@@ -48,7 +49,7 @@ accepts a = anyBelow (a .machine .accepting) (a .count)
 -- the test of a list by the machine of its conjunction, whatever its states; of the empty list nothing is asked
 unfoldable pub noneBy : (k n : ℕ) → List Record → List ℕ → Bool
 noneBy k n rs [] = false
-noneBy k n rs (p ∷ L) = not (accepts (table {k = k} n (conjunctionOf rs (p ∷ L))))
+noneBy k n rs (p ∷ L) = not (accepts (joinedTable {k = k} n (conjunctionOf rs (p ∷ L))))
 
 -- the conjunction of some records: of none, which is true and has no machine; its machine; or a join had more than c states, with the part joined
 pub data Joint (k : ℕ) : Type 0 where
