@@ -1,0 +1,5 @@
+pub mod Classes
+pub mod Parting
+pub mod Rewriting
+pub mod Numbering
+pub mod Joining
