@@ -3,3 +3,4 @@ pub mod Parting
 pub mod Rewriting
 pub mod Numbering
 pub mod Joining
+pub mod Record
