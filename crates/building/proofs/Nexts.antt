@@ -5,6 +5,7 @@ use Rattle.words.proofs.Vocabulary.{Option, none, Bool, true, false, cond, _&&_
 use Rattle.words.proofs.Vocabulary.{getD-append-seam, add-zero, eq-or-lt-of-le, add-suc, add-one, drop, arith}
 use lib.Dec.{lt→ltb}
 use Rattle.records.specs.Rule.{Mach, noMach, machineOf, noDecoded, SomeParts, Stored}
+use Rattle.joining.specs.Joining.{joinedOf}
 use Rattle.layout.specs.Shape.{shareOf, shareAt}
 use Rattle.layout.specs.declared.Shape.{Shape}
 use Rattle.records.specs.declared.Decoded.{Decoded}
@@ -81,15 +82,15 @@ module _ {xs : List Decoded} {used : ℕ → Bool} {s : Shape} {r : ℕ} {es : �
       one-more noMach (upto-next xs used s r ∙ rw e (ap passed (w .is))) (λ a h u. w .stored a ((below-iff used r a) .1 (h, u))) (λ u. absurd (subst T e u))
 
   module _ (is-used : used r ≡ true) where
-    next-is : (o : Option Mach) → machineOf s x (made (x .first)) (made (x .second)) ≡ o → upto xs used s (r + 1) ≡ more r (w .machines) o
+    next-is : (o : Option Mach) → machineOf s x (made (x .first)) (made (x .second)) ≡ o → upto xs used s (r + 1) ≡ more s r (w .machines) o
     unfolding after
-    next-is o e = upto-next xs used s r ∙ rw is-used (ap (after s r x) (w .is) ∙ ap (more r (w .machines)) e)
+    next-is o e = upto-next xs used s r ∙ rw is-used (ap (after s r x) (w .is) ∙ ap (more s r (w .machines)) e)
 
     module _ {es′ : ℕ → Summary} {ws′ : List ℕ} {v : Bool} (t : Tried x s r (usedBelow used r) made es es′ ws ws′ v) where
       ready-next : v ≡ false → Upto xs used s (r + 1) es′ ws′
       ready-next e =
           let new = t .few e in
-          one-more (new .0) (next-is (some (new .0)) (new .1))
+          one-more (joinedOf s (new .0)) (next-is (some (new .0)) (new .1))
           (λ a h u. t .others a (rw (changed-other (usedBelow used r) r false a (λ (q : a ≡ r). omega arith)) ((below-iff used r a) .1 (h, u))))
           (λ u. new .2 .stored)
 

@@ -6,7 +6,9 @@ use Rattle.layout.specs.declared.Shape.{Shape}
 use Rattle.layout.proofs.Places.{tuple-up, place-in, share-next}
 use Rattle.table.specs.Entry.{entry, through, seen}
 use Rattle.table.proofs.Masks.{seen-le}
-use Rattle.records.specs.Rule.{Mach, Stored, PartsStored, Adds, Spared}
+use Rattle.records.specs.Rule.{Mach, Stored, PartsStored, Spared}
+use Rattle.joining.specs.Joining.{joinedOf}
+use Rattle.joining.specs.Record.{AddsJoined}
 use Rattle.records.specs.declared.Decoded.{Decoded}
 use Rattle.records.specs.declared.Summary.{Summary}
 use Rattle.logic.proofs.Orders.{less, same as equal, more, ℕ-tri}
@@ -83,9 +85,9 @@ pub parts-stored : (x : Decoded) {s : Shape} {es : ℕ → Summary} {ws : List �
 parts-stored x {s} {es} {ws} used ms all names =
     all-named (x .kind) (x .first) (x .second) (λ (i : ℕ). Stored s (shareAt s i) (ms i) (es i) ws) (λ i e. all i (names i e))
 
--- ONE RECORD: by what `build_next` says of k, and what is kept then
+-- ONE RECORD: by what `build_joined` says of k, and what is kept then
 pub builds : {x : Decoded} {s : Shape} {r : ℕ} {es es′ : ℕ → Summary} {k : Summary} {ws ws′ : List ℕ} {over : Bool}
-    → Adds x s r (es (x .first)) (es (x .second)) k ws ws′ → Spared s r ws ws′ → ((a : ℕ) → (a ≡ r → over ≡ true) → es′ a ≡ es a)
+    → AddsJoined x s r (es (x .first)) (es (x .second)) k ws ws′ → Spared s r ws ws′ → ((a : ℕ) → (a ≡ r → over ≡ true) → es′ a ≡ es a)
     → (over ≡ true → s .ceiling < k .count) → (over ≡ false → (k .count ≤ s .ceiling) × (es′ r ≡ k)) → Builds x s r es es′ ws ws′ over
 builds {x} {s} {r} {es} {es′} {k} {ws} {ws′} {over} adds sp same many few = record {
   tried = λ used ms all names.
@@ -104,8 +106,8 @@ builds {x} {s} {r} {es} {es′} {k} {ws} {ws′} {over} adds sp same many few = 
               made .1,
               rw (few o .1) (made .2),
               λ a u. elim (ℕ-discrete a r) [
-                | yes e ↦ rw (e, changed-here ms r (made .0), few o .1) (made .2 .stored)
-                | no d ↦ rw (changed-other ms r (made .0) a d) (others a d (rw (changed-other used r true a d) at u))
+                | yes e ↦ rw (e, changed-here ms r (joinedOf s (made .0)), few o .1) (made .2 .stored)
+                | no d ↦ rw (changed-other ms r (joinedOf s (made .0)) a d) (others a d (rw (changed-other used r true a d) at u))
               ],
             );
         looks = λ o. rw (few o .1) (added .looks (few o .0));

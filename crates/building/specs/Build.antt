@@ -12,6 +12,7 @@ use Rattle.layout.specs.declared.Shape.{Shape}
 use Rattle.records.specs.Rule.{Mach, noMach, machineOf, Stored, noDecoded}
 use Rattle.records.specs.declared.Decoded.{Decoded}
 use Rattle.records.specs.declared.Summary.{Summary}
+use Rattle.joining.specs.Joining.{joinedOf}
 use Rattle.building.specs.OneRecord.{keptIn}
 use Rattle.building.specs.declared.Ending.{Ending}
 use Rattle.building.specs.declared.Ending.the-variants.{Over, Ready}
@@ -22,15 +23,15 @@ pub data Progress : Type 0 where
   built : List Mach → Progress
   over : ℕ → Progress
 
--- the machines with one more, or the record's number
-abbrev pub more : ℕ → List Mach → Option Mach → Progress
-more r ms none = over r
-more r ms (some m) = built (ms ++ (m ∷ []))
+-- the machines with one more, its states joined, or the record's number. A8: "After each record [..] is built, join its states"
+abbrev pub more : Shape → ℕ → List Mach → Option Mach → Progress
+more s r ms none = over r
+more s r ms (some m) = built (ms ++ (joinedOf s m ∷ []))
 
 -- after record r
 unfoldable pub after : Shape → ℕ → Decoded → Progress → Progress
 after s r x (over k) = over k
-after s r x (built ms) = more r ms (machineOf s x (getD ms (x .first) noMach) (getD ms (x .second) noMach))
+after s r x (built ms) = more s r ms (machineOf s x (getD ms (x .first) noMach) (getD ms (x .second) noMach))
 
 -- what is kept of the machines, and how building ended
 abbrev pub machinesIn : List ℕ → List ℕ → List ℕ → Ending → Machines

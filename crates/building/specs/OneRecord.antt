@@ -10,9 +10,11 @@ use lib.ListN.{length, getD}
 use Rattle.layout.specs.Shape.{shareAt}
 use Rattle.layout.specs.declared.Shape.{Shape}
 use Rattle.table.specs.Succ.{looksOf}
-use Rattle.records.specs.Rule.{Mach, machineOf, Fits, Stored, Placed, Spared}
+use Rattle.records.specs.Rule.{Mach, machineOf, Fits, Stored, Spared}
 use Rattle.records.specs.declared.Decoded.{Decoded}
 use Rattle.records.specs.declared.Summary.{Summary}
+use Rattle.joining.specs.Joining.{joinedOf}
+use Rattle.joining.specs.Record.{Kept}
 use Rattle.building.specs.Named.{NamesUsed}
 
 -- what is kept of record a's machine
@@ -40,13 +42,13 @@ unfoldable pub changed : {A : Type 0} → (ℕ → A) → ℕ → A → ℕ → 
 changed f r v a = cond (eqb a r) v (f a)
 
 -- Record r was tried where the machines ms of the records that are used are stored, among them those that it names. It has too many states,
--- or it has a machine, which is placed in its share, looks at the bits that its kind and its parts give, and is stored beside the others.
+-- or it has a machine, which is kept joined in its share, looks at the bits that its kind and its parts give, and is stored beside the others.
 pub record Tried (x : Decoded) (s : Shape) (r : ℕ) (used : ℕ → Bool) (ms : ℕ → Mach) (es es′ : ℕ → Summary) (ws ws′ : List ℕ) (over : Bool) : Type 0 where
   pub others : AllStored (changed used r false) ms s es′ ws′
   pub many : over ≡ true → machineOf s x (ms (x .first)) (ms (x .second)) ≡ none
   pub few : over ≡ false
-      → (m : Mach) × (machineOf s x (ms (x .first)) (ms (x .second)) ≡ some m) × Placed s r m (es′ r) ws ws′
-      × AllStored (changed used r true) (changed ms r m) s es′ ws′
+      → (m : Mach) × (machineOf s x (ms (x .first)) (ms (x .second)) ≡ some m) × Kept s r (joinedOf s m) (es′ r) ws ws′
+      × AllStored (changed used r true) (changed ms r (joinedOf s m)) s es′ ws′
   pub looks : over ≡ false → es′ r .looks ≡ looksOf (x .kind) (x .wx) (x .wy) (es (x .first) .looks) (es (x .second) .looks)
 
 -- What building record r comes to, whichever machines are stored: nothing but its share is changed, and nothing that is kept of another

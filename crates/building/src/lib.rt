@@ -8,10 +8,10 @@ ghost use Rattle.records.specs.Rule.{noDecoded, SomeParts};
 ghost use Rattle.building.specs.Named.{namedOf, usedIn, InOrder, marked, Marks, MarksClosed, marking, nextOf};
 ghost use Rattle.building.specs.OneRecord.{keptIn, Wide, Buildable, Builds};
 ghost use Rattle.building.specs.Build.{machinesIn, MadeBy, Untouched};
+use joining::record::build_joined;
 use layout::Shape;
 use records::Decoded;
 use records::Summary;
-use records::build_next;
 use table::plan::Kind;
 
 // A mark for each record that x names.
@@ -100,8 +100,8 @@ pub fn kept(counts: &[u8; 128], accepts: &[u64; 128], looks: &[u8; 128], a: usiz
     }
 }
 
-// Record r's machine, from what is kept of its parts: into the record's share, and what is kept of it into its entries, unless it has too
-// many states, which is the answer. The arrays are written in place: a copy for each record takes longer than a small machine.
+// Record r's machine, joined, from what is kept of its parts: into the record's share, and what is kept of it into its entries, unless too many
+// states are built, which is the answer. The arrays are written in place: a copy for each record takes longer than a small machine.
 pub fn build_record(
     ws: &mut [u8],
     counts: &mut [u8; 128],
@@ -121,7 +121,7 @@ pub fn build_record(
 {
     let f = kept(counts, accepts, looks, x.first as usize);
     let g = kept(counts, accepts, looks, x.second as usize);
-    let k = build_next(ws, x, f, g, r, s);
+    let k = build_joined(ws, x, f, g, r, s);
     let c = s.ceiling;
     if c < k.count as usize {
         return true;
