@@ -6,7 +6,7 @@ use Rattle.logic.specs.Tree.{downFrom, sumOf, bit}
 use Rattle.logic.specs.Machine.{Machine, allOf, anyOf, Bounded}
 use Rattle.logic.specs.Atom.{subsetStep, singletonStep, successorStep, rootStep}
 use Rattle.logic.specs.Reach.{below}
-use Rattle.logic.specs.Alike.{MachineOf}
+use Rattle.logic.specs.Alike.{ConstructedOf}
 use Rattle.logic.specs.Two.{one, two, pairOf, branching}
 use Rattle.logic.proofs.Reach.{elem-below}
 use Rattle.logic.proofs.Tables.{subset-bounded, singleton-bounded, successor-bounded, root-bounded}
@@ -61,7 +61,7 @@ module _ (n x y m : ℕ) (rule : Rule) (f : Steps) (acc : ℕ → Bool) (few : m
       rw (bit-is n l x, bit-is n l y, rule-bits rule (bitWeight n x) (bitWeight n y) l (s one) (s two), e, d)
       (sym (rule-is u v (s one) (s two) (omega arith) (omega arith) h k ∙ ap (f (eqb u 1) (eqb v 1)) (two-branches s)))
 
-  pub of-atom : Bounded n m M → (F : Formula 2) → MachineOf n F M → MachineOf n F A
+  pub of-atom : Bounded n m M → (F : Formula 2) → ConstructedOf n F M → ConstructedOf n F A
   of-atom B F o =
       of-agrees n m M A B (record { starts = refl; steps = λ l h s u. step-is l s (u one) (u two); accepts = λ q h. refl }) F o
 
@@ -70,27 +70,27 @@ module _ (n x y : ℕ) (hx : x < n) where
   abbrev atomOf : Rule → (ℕ → Bool) → Machine 2 ℕ
   atomOf rule acc = branching 0 (tabled (ruleAt rule) (bitWeight n x) (bitWeight n y)) acc
 
-  pub atom-single : MachineOf n (singleton x) (atomOf singleRule (λ q. eqb q 1))
+  pub atom-single : ConstructedOf n (singleton x) (atomOf singleRule (λ q. eqb q 1))
   unfolding agrees allOf anyOf sumOf below downFrom
   atom-single =
       of-atom n x y 3 singleRule (λ v w. singletonStep v) (λ q. eqb q 1) (omega arith) tt (singleton-bounded n x) (singleton x) (of-singleton n x hx)
 
-  pub atom-root : MachineOf n (root x) (atomOf rootRule (λ q. eqb q 1))
+  pub atom-root : ConstructedOf n (root x) (atomOf rootRule (λ q. eqb q 1))
   unfolding agrees allOf anyOf sumOf below downFrom
   atom-root = of-atom n x y 3 rootRule (λ v w. rootStep v) (λ q. eqb q 1) (omega arith) tt (root-bounded n x) (root x) (of-root n x hx)
 
   module _ (hy : y < n) where
-    pub atom-subset : MachineOf n (subset x y) (atomOf subsetRule (λ q. eqb q 0))
+    pub atom-subset : ConstructedOf n (subset x y) (atomOf subsetRule (λ q. eqb q 0))
     unfolding agrees allOf anyOf sumOf below downFrom
     atom-subset = of-atom n x y 2 subsetRule subsetStep (λ q. eqb q 0) (omega arith) tt (subset-bounded n x y) (subset x y) (of-subset n x y hx hy)
 
-    pub atom-first : MachineOf n (successor one x y) (atomOf child1Rule (λ q. eqb q 2))
+    pub atom-first : ConstructedOf n (successor one x y) (atomOf child1Rule (λ q. eqb q 2))
     unfolding agrees allOf anyOf sumOf below downFrom
     atom-first =
         of-atom n x y 4 child1Rule (successorStep one) (λ q. eqb q 2) (omega arith) tt (successor-bounded n one x y) (successor one x y)
         (of-successor n one x y hx hy)
 
-    pub atom-second : MachineOf n (successor two x y) (atomOf child2Rule (λ q. eqb q 2))
+    pub atom-second : ConstructedOf n (successor two x y) (atomOf child2Rule (λ q. eqb q 2))
     unfolding agrees allOf anyOf sumOf below downFrom
     atom-second =
         of-atom n x y 4 child2Rule (successorStep two) (λ q. eqb q 2) (omega arith) tt (successor-bounded n two x y) (successor two x y)

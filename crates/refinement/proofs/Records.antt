@@ -1,19 +1,23 @@
--- The machine that the builder makes of a record, from its parts' machines, is a machine of the record; where it makes none, the record has
--- more than c states. Assumes nothing.
-use Rattle.words.proofs.Vocabulary.{ℕ, _≤_, _<_, _+_, _*_, suc, _%_, _^_, _/_, Bool, _||_, _&&_, not, _≡_, _∙_, refl, sym, ap, ap₂, _↔_, List, [], _∷_}
+-- The machine that the builder makes of a record, from its parts' joined machines, is the record's construction, and joined it is the record's
+-- joined machine; where it makes none, the construction has more than c states. Assumes nothing.
+use Rattle.words.proofs.Vocabulary.{ℕ, _≤_, _<_, _+_, _*_, suc, _%_, _^_, _/_, Bool, _||_, _&&_, not, _≡_, _∙_, refl, sym, ap, ap₂, subst, _↔_, List, [], _∷_}
 use Rattle.words.proofs.Vocabulary.{some, Option, none, lt-ltb, ltb, length, getD, arith}
 use Rattle.layout.specs.Shape.{Shaped, Each, nil, cons, shapeOf}
 use Rattle.layout.proofs.Places.{two-of}
 use Rattle.logic.specs.Meaning.{Formula, negation, disjunction, conjunction, exists as someF, Valid}
 use Rattle.logic.specs.Machine.{Machine, complement, product, Simulates}
 use Rattle.logic.specs.Reach.{below, Reached, stepped, started, numbered}
-use Rattle.logic.specs.Alike.{Full, Agrees, Lists, MachineOf}
+use Rattle.logic.specs.Alike.{Full, Agrees, Lists, MachineOf, ConstructedOf}
 use Rattle.logic.specs.Two.{one, two, pairOf, branching}
 use Rattle.logic.proofs.Counts.{lists-index}
 use Rattle.logic.proofs.Reach.{elem-below}
 use Rattle.logic.proofs.Two.{each}
-use Rattle.logic.specs.Table.{table}
-use Rattle.logic.proofs.Builders.{states-any, over-index, of-negation, of-disjunction, of-conjunction, of-numbered, full-numbered, of-agrees, full-agrees}
+use Rattle.logic.specs.Table.{Table}
+use Rattle.logic.specs.Joined.{join, constructed, joinedTable}
+use Rattle.logic.proofs.Joining.{joined-fewer}
+use Rattle.logic.proofs.Counts.{full-numbered}
+use Rattle.logic.proofs.Builders.{states-any, over-index, of-negation, of-disjunction, of-conjunction, of-numbered, of-agrees, full-agrees}
+use Rattle.logic.proofs.Builders.{of-join, full-join}
 use Rattle.exploring.specs.Explore.{explore}
 use Rattle.words.specs.Word.{mem}
 use Rattle.table.specs.Entry.{Step}
@@ -27,29 +31,39 @@ use Rattle.exploring.proofs.Found.{Codes, Found, explore-found, explore-many, e
 use Rattle.exploring.proofs.Place.{place-own}
 use Rattle.words.proofs.WordLaws.{word-mem}
 use Rattle.records.specs.Decode.{bitWeight}
+use Rattle.joining.specs.Joining.{joinedOf}
+use Rattle.joining.proofs.Meaning.{join-count, join-agrees}
 use Rattle.refinement.proofs.Sets.{of-sets}
 
 -- the machine over codes of a record of kind k
 abbrev pub codeMachine : Kind → Mach → Mach → ℕ → ℕ → Machine 2 ℕ
 codeMachine k f g wx wy = branching (startCode k 2 (f .step) wx) (kindCode k (f .step) (g .step) wx wy) (acceptBy k (f .accept) (g .accept))
 
--- a machine of F with at most c states, all of them reached
-pub record Good (n c : ℕ) (F : Formula 2) (m : Mach) : Type 0 where
-  pub machine : MachineOf n F (machOf m)
+-- m decides F, is a's machine up to the names of its states, and has at most c of them, all reached
+pub record Good (n c : ℕ) (F : Formula 2) (a : Table 2) (m : Mach) : Type 0 where
+  pub machine : MachineOf n F a (machOf m)
   pub full : Full n (m .count) (machOf m)
   pub few : m .count ≤ c
 
--- a machine of F that comes to more than c states
+-- as it is built
+abbrev pub GoodBuilt : ℕ → ℕ → Formula 2 → Mach → Type 0
+GoodBuilt n c F m = Good n c F (constructed n F) m
+
+-- and as it is kept
+abbrev pub GoodJoined : ℕ → ℕ → Formula 2 → Mach → Type 0
+GoodJoined n c F m = Good n c F (joinedTable n F) m
+
+-- a construction of F that comes to more than c states
 pub record Large (n c : ℕ) (F : Formula 2) : Type 0 where
   pub large : Machine 2 ℕ
-  pub machine : MachineOf n F large
+  pub machine : ConstructedOf n F large
   pub reached : (cs : List ℕ) × Codes (Reached large (below (2 ^ n))) cs × (length cs ≡ suc c)
 
--- a machine of F's has as many states as document 01's
-pub good-few : {n c : ℕ} {F : Formula 2} {m : Mach} → Valid n F → Good n c F m → (table n F) .count ≤ c
+-- what is built has as many states as refusal 14 counts
+pub good-few : {n c : ℕ} {F : Formula 2} {m : Mach} → Valid n F → GoodBuilt n c F m → (constructed n F) .count ≤ c
 good-few {n} {F = F} {m = m} v g = omega (arith, g .few, states-any n F v (machOf m) (g .machine) (m .count) (g .full))
 
-pub large-many : {n c : ℕ} {F : Formula 2} → Valid n F → Large n c F → c < (table n F) .count
+pub large-many : {n c : ℕ} {F : Formula 2} → Valid n F → Large n c F → c < (constructed n F) .count
 large-many {n} {c} {F} v w =
     let z = w .reached in
     let long = z .2 in
@@ -59,7 +73,7 @@ large-many {n} {c} {F} v w =
 -- what the builder makes of a record of formula F
 abbrev pub Makes : ℕ → ℕ → Formula 2 → Option Mach → Type 0
 Makes n c F none = Large n c F
-Makes n c F (some m) = Good n c F m
+Makes n c F (some m) = GoodBuilt n c F m
 
 -- z stands for two states, of a and of b states
 record Pair (a b z : ℕ) (s : ℕ × ℕ) : Type 0 where
@@ -72,7 +86,7 @@ module _ (n c : ℕ) (sh : Shaped (shapeOf n c)) where
   Comes M q = Reached M (below (2 ^ n)) q
 
   -- ---- exploration
-  module _ (x : Decoded) (f g : Mach) {F : Formula 2} (o : MachineOf n F (codeMachine (x .kind) f g (x .wx) (x .wy))) where
+  module _ (x : Decoded) (f g : Mach) {F : Formula 2} (o : ConstructedOf n F (codeMachine (x .kind) f g (x .wx) (x .wy))) where
     abbrev C : Machine 2 ℕ
     C = codeMachine (x .kind) f g (x .wx) (x .wy)
 
@@ -103,7 +117,7 @@ module _ (n c : ℕ) (sh : Shaped (shapeOf n c)) where
             sym (word-mem 64 q (λ (s : ℕ). ltb s (length cs) && C .accepting (getD cs s 0)) (omega (arith, found .few)) ∙ rw (lt-ltb q (length cs) h));
       }
 
-      good : Good n c F (machFrom x f g cs)
+      good : GoodBuilt n c F (machFrom x f g cs)
       good =
           let full = full-numbered n C cs listed in
           let m = machOf (machFrom x f g cs) in
@@ -135,7 +149,7 @@ module _ (n c : ℕ) (sh : Shaped (shapeOf n c)) where
         sym (word-mem 64 q (λ (s : ℕ). ltb s (f .count) && not (mem s (f .accept))) (omega arith) ∙ rw (lt-ltb q (f .count) h));
   }
 
-  pub complemented : {F : Formula 2} {f : Mach} → Good n c F f → Good n c (negation F) (complementOf f)
+  pub complemented : {F : Formula 2} {f : Mach} → GoodJoined n c F f → GoodBuilt n c (negation F) (complementOf f)
   complemented {F} {f} p = record {
     machine =
         of-agrees n (f .count) (complement (machOf f)) (machOf (complementOf f)) (p .full .0) (others-agree f (p .few)) (negation F)
@@ -145,7 +159,7 @@ module _ (n c : ℕ) (sh : Shaped (shapeOf n c)) where
   }
 
   -- ---- "or" and "and": the pair of states q and r is q * 64 + r
-  module _ {f g : Mach} {F G : Formula 2} (p : Good n c F f) (q : Good n c G g) (vf : Valid n F) (vg : Valid n G) where
+  module _ {f g : Mach} {F G : Formula 2} (p : GoodJoined n c F f) (q : GoodJoined n c G g) (vf : Valid n F) (vg : Valid n G) where
     abbrev Both : ℕ → ℕ × ℕ → Type 0
     Both z s = Pair (f .count) (g .count) z s
 
@@ -174,20 +188,37 @@ module _ (n c : ℕ) (sh : Shaped (shapeOf n c)) where
       at-end = h;
     }
 
-    pub either-pair : (wx wy : ℕ) → MachineOf n (disjunction F G) (codeMachine Or f g wx wy)
+    pub either-pair : (wx wy : ℕ) → ConstructedOf n (disjunction F G) (codeMachine Or f g wx wy)
     unfolding startCode kindCode
     either-pair wx wy =
         of-disjunction n F G vf vg (machOf f) (machOf g) (p .machine) (q .machine) (codeMachine Or f g wx wy) Both one-pair
         (pairs _||_ (acceptBy Or (f .accept) (g .accept)) (λ z s u. let i = parts z s u in rw (i .0, i .1)))
 
-    pub both-pair : (wx wy : ℕ) → MachineOf n (conjunction F G) (codeMachine And f g wx wy)
+    pub both-pair : (wx wy : ℕ) → ConstructedOf n (conjunction F G) (codeMachine And f g wx wy)
     unfolding startCode kindCode
     both-pair wx wy =
         of-conjunction n F G vf vg (machOf f) (machOf g) (p .machine) (q .machine) (codeMachine And f g wx wy) Both one-pair
         (pairs _&&_ (acceptBy And (f .accept) (g .accept)) (λ z s u. let i = parts z s u in rw (i .0, i .1)))
 
   -- ---- "exists"
-  pub some-set : {f : Mach} {F : Formula 2} → Good n c F f → Valid n F → (g : Mach) (x wy : ℕ) → x < n
-      → MachineOf n (someF x F) (codeMachine Exists f g (bitWeight n x) wy)
+  pub some-set : {f : Mach} {F : Formula 2} → GoodJoined n c F f → Valid n F → (g : Mach) (x wy : ℕ) → x < n
+      → ConstructedOf n (someF x F) (codeMachine Exists f g (bitWeight n x) wy)
   unfolding startCode kindCode
   some-set {f} {F} p vf g x wy hx = of-sets n x (f .count) hx (f .step) (f .accept) (omega arith) (p .full .0) F vf (p .machine)
+
+  -- ---- joined
+  pub joined : {F : Formula 2} {m : Mach} → Valid n F → GoodBuilt n c F m → GoodJoined n c F (joinedOf (shapeOf n c) m)
+  joined {F} {m} v g =
+      let few : m .count ≤ 64 = omega (arith, g .few, sh .ceiling) in
+      let s = shapeOf n c in
+      let a : Table 2 = record { count = m .count; machine = machOf m } in
+      let count : (join n a) .count ≡ joinedOf s m .count = join-count s m (g .full .0) few in
+      let full : Full n (joinedOf s m .count) ((join n a) .machine) =
+      subst (λ (q : ℕ). Full n q ((join n a) .machine)) count (full-join n F v (machOf m) (g .machine) (m .count) (g .full)) in
+      let agrees = join-agrees s m (g .full .0) few in
+      record {
+        machine = of-agrees n (joinedOf s m .count) ((join n a) .machine) (machOf (joinedOf s m)) (full .0) agrees F
+            (of-join n F v (machOf m) (g .machine) (m .count) (g .full));
+        full = full-agrees n (joinedOf s m .count) ((join n a) .machine) (machOf (joinedOf s m)) (full .0) agrees (full .1);
+        few = omega (arith, g .few, joined-fewer n a (g .full), count);
+      }

@@ -6,7 +6,7 @@ use Rattle.layout.proofs.Places.{two-of, pair-of}
 use Rattle.logic.specs.Meaning.{Branch, Formula, exists, Valid}
 use Rattle.logic.specs.Machine.{Machine, withBit, Blank, none, grown, Projects, Bounded}
 use Rattle.logic.specs.Reach.{elem, successors, add, closure, reach}
-use Rattle.logic.specs.Alike.{MachineOf}
+use Rattle.logic.specs.Alike.{ConstructedOf, JoinedOf}
 use Rattle.logic.specs.Two.{one, two, pairOf, branching}
 use Rattle.logic.proofs.Bits.{put-lt}
 use Rattle.logic.proofs.Places.{T→true, true→T}
@@ -216,5 +216,5 @@ module _ (n x m : ℕ) (hx : x < n) (f : Step) (a : ℕ) (top : m ≤ 64) (B : B
       (λ e. ((h q) .0 (o .below q l e, e)) .1) (λ e. ((h q) .1 (o′ .below q l e, e)) .1))
       ∙ sym (word-ext 64 s′ (λ (q : ℕ). mem q s′) (o′ .word) (λ q l. refl))
 
-  pub of-sets : (F : Formula 2) → Valid n F → MachineOf n F M → MachineOf n (exists x F) E
+  pub of-sets : (F : Formula 2) → Valid n F → JoinedOf n F M → ConstructedOf n (exists x F) E
   of-sets F vf o = of-exists n x hx F vf M E o Ok Has projects same-set

@@ -17,10 +17,11 @@ use Rattle.logic.proofs.Rules.{record-valid, record-formula, good-here, rule-ea
 use Rattle.table.specs.Succ.{startCode, kindCode}
 use Rattle.records.specs.Rule.{Mach, noMach, machineOf, noDecoded}
 use Rattle.records.specs.declared.Decoded.{Decoded}
+use Rattle.joining.specs.Joining.{joinedOf}
 use Rattle.building.specs.Named.{namedOf as decodedNames, namedIn as decodedNamesIn, usedIn}
 use Rattle.building.specs.Build.{Progress, built, over, more, after, passed, upto}
 use Rattle.refinement.proofs.Atoms.{atom-subset, atom-single, atom-root, atom-first, atom-second}
-use Rattle.refinement.proofs.Records.{Good, Makes, good-few, large-many, explored, complemented, either-pair, both-pair, some-set}
+use Rattle.refinement.proofs.Records.{GoodJoined, Makes, good-few, large-many, explored, complemented, either-pair, both-pair, some-set, joined}
 
 both-of : (a b : Bool) → T (a && b) → T a × T b
 both-of a b = (and-iff a b (λ t. t, λ t. t) (λ t. t, λ t. t)) .0
@@ -58,7 +59,7 @@ names-decoded n (suc (suc (suc (suc (suc (suc (suc (suc (suc op))))))))) a b = r
 module _ (n c : ℕ) (sh : Shaped (shapeOf n c)) (rs : List Record) (acc : Accepted 2 n rs) (xs : List Decoded)
     (decoded : (r : ℕ) → r < length rs → getD xs r noDecoded ≡ decodedOf n (getD rs r noRecord)) where
   abbrev GoodAt : ℕ → Mach → Type 0
-  GoodAt j m = Good n c (formulaAt rs j) m
+  GoodAt j m = GoodJoined n c (formulaAt rs j) m
 
   -- which records are reached, as the builder has it, and as the rule has it
   abbrev used : ℕ → Bool
@@ -118,24 +119,28 @@ module _ (n c : ℕ) (sh : Shaped (shapeOf n c)) (rs : List Record) (acc : Accep
         let e : Record = getD rs r noRecord in
         rw (decoded r hr, record-formula 2 n rs (acc .1) r hr) (by-op (e .op) (e .first) (e .second) (good-here 2 n rs r (acc .1) hr) parts)
 
+  -- record r has room, and its machine is kept joined
+  abbrev pub KeptAt : ℕ → Mach → Type 0
+  KeptAt r m = GoodAt r m × (statesAt 2 n rs r ≤ c)
+
   -- what the outcome for the first m records says
   unfoldable pub Linked : ℕ → Progress → Type 0
-  Linked m (built ms) = (length ms ≡ m) × ((r : ℕ) → r < m → T (used r) → GoodAt r (getD ms r noMach))
+  Linked m (built ms) = (length ms ≡ m) × ((r : ℕ) → r < m → T (used r) → KeptAt r (getD ms r noMach))
   Linked m (over k) = FirstOver 2 n rs c k
 
-  few-states : (m : ℕ) (ns : List Mach) → m ≤ length rs → ((r : ℕ) → r < m → T (used r) → GoodAt r (getD ns r noMach))
+  few-states : (m : ℕ) (ns : List Mach) → ((r : ℕ) → r < m → T (used r) → KeptAt r (getD ns r noMach))
       → (i : ℕ) → i < m → ReachedRecord rs i → statesAt 2 n rs i ≤ c
-  few-states m ns hm h i l u = good-few (record-valid 2 n rs (acc .1) i (omega arith)) (h i l ((used-iff i) .1 u))
+  few-states m ns h i l u = (h i l ((used-iff i) .1 u)) .1
 
   module _ (m : ℕ) (hm : suc m ≤ length rs) (ns : List Mach) (h : Linked m (built ns)) where
     -- one record more, with this machine
-    longer : (mach : Mach) → (T (used m) → GoodAt m mach) → Linked (suc m) (built (ns ++ (mach ∷ [])))
+    longer : (mach : Mach) → (T (used m) → KeptAt m mach) → Linked (suc m) (built (ns ++ (mach ∷ [])))
     unfolding Linked
     longer mach w =
         let e = h .0 in
         let d = length-append ns (mach ∷ []) in (
           d ∙ omega arith,
-          λ r l. getD-snoc (λ (j : ℕ) (x : Mach). T (used j) → GoodAt j x) noMach ns mach (λ j q. h .1 j (omega arith)) (rw e w) r (omega arith),
+          λ r l. getD-snoc (λ (j : ℕ) (x : Mach). T (used j) → KeptAt j x) noMach ns mach (λ j q. h .1 j (omega arith)) (rw e w) r (omega arith),
         )
 
     -- a record that is reached
@@ -148,11 +153,14 @@ module _ (n c : ℕ) (sh : Shaped (shapeOf n c)) (rs : List Record) (acc : Accep
 
         -- what it names is reached, and comes before it
         parts : (j : ℕ) → T (elem j (namesIn rs m)) → GoodAt j (getD ns j noMach)
-        parts j e = h .1 j (rule-earlier 2 n rs (acc .1) m hm j e) ((used-iff j) .1 (named m j ((used-iff m) .0 here) e))
+        parts j e = (h .1 j (rule-earlier 2 n rs (acc .1) m hm j e) ((used-iff j) .1 (named m j ((used-iff m) .0 here) e))) .0
 
-        go : (o : Option Mach) → Makes n c (formulaAt rs m) o → Linked (suc m) (more m ns o)
-        go none w = ((used-iff m) .0 here, large-many (record-valid 2 n rs (acc .1) m hm) w, few-states m ns (omega arith) (h .1))
-        go (some mach) w = longer mach (λ u. w)
+        ok : Valid {k = 2} n (formulaAt rs m)
+        ok = record-valid 2 n rs (acc .1) m hm
+
+        go : (o : Option Mach) → Makes n c (formulaAt rs m) o → Linked (suc m) (more (shapeOf n c) m ns o)
+        go none w = ((used-iff m) .0 here, large-many ok w, few-states m ns (h .1))
+        go (some mach) w = longer (joinedOf (shapeOf n c) mach) (λ u. (joined n c sh ok w, good-few ok w))
 
     -- a leftover
     passed-linked : (T (used m) → ⊥) → Linked (suc m) (passed (built ns))
@@ -179,12 +187,12 @@ module _ (n c : ℕ) (sh : Shaped (shapeOf n c)) (rs : List Record) (acc : Accep
 
   -- and else every record that is reached has its machine
   module _ (ms : List Mach) (e : upto xs used (shapeOf n c) (length rs) ≡ built ms) where
-    all-used : (r : ℕ) → r < length rs → T (used r) → GoodAt r (getD ms r noMach)
+    all-used : (r : ℕ) → r < length rs → T (used r) → KeptAt r (getD ms r noMach)
     unfolding Linked
     all-used = subst (Linked (length rs)) e (linked (length rs) (omega arith)) .1
 
     pub all-good : (r : ℕ) → ReachedRecord rs r → GoodAt r (getD ms r noMach)
-    all-good r u = all-used r (reached-within 2 n rs acc r u) ((used-iff r) .1 u)
+    all-good r u = (all-used r (reached-within 2 n rs acc r u) ((used-iff r) .1 u)) .0
 
     pub roomy : Roomy 2 n rs c
-    roomy r u = few-states (length rs) ms (omega arith) all-used r (reached-within 2 n rs acc r u) u
+    roomy r u = few-states (length rs) ms all-used r (reached-within 2 n rs acc r u) u
