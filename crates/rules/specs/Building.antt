@@ -8,7 +8,7 @@ use Rattle.logic.specs.Meaning.{Formula}
 use Rattle.logic.specs.Rule.{formulaAt, lastOf}
 use Rattle.logic.specs.ReachedRecords.{ReachedRecord}
 use Rattle.logic.specs.Tree.{Tree}
-use Rattle.logic.specs.Alike.{MachineOf, Full}
+use Rattle.logic.specs.Alike.{JoinedOf, Full}
 use Rattle.logic.specs.Claims.{FirstOver, Roomy}
 use Rattle.logic.specs.Decide.{report, decideOf, say, judgeOf}
 use Rattle.layout.specs.Shape.{shapeOf}
@@ -31,11 +31,11 @@ use Rattle.rules.specs.declared.build.Built.the-variants.{Over, Ready}
 abbrev pub ruleShape : List ℕ → ℕ → Shape
 ruleShape rule c = shapeOf (variablesOf rule) c
 
--- the machine that k is kept of stands in the share of number r, is document 01's machine of the formula f up to the names of its states, and
+-- the machine that k is kept of stands in the share of number r, is the joined machine of the formula f up to the names of its states, and
 -- comes to each of them
 pub record MachineFor (rule : List ℕ) (c : ℕ) (ws : List ℕ) (r : ℕ) (k : Summary) (f : Formula 2) : Type 0 where
   pub readable : HasMachine ws (ruleShape rule c) r k
-  pub decides : MachineOf (variablesOf rule) f (machOf (readable .machine))
+  pub decides : JoinedOf (variablesOf rule) f (machOf (readable .machine))
   pub full : Full (variablesOf rule) (readable .machine .count) (machOf (readable .machine))
 
 -- the machines of the records that are reached stand in their shares, and es is what is kept of them

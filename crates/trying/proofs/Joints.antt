@@ -9,7 +9,8 @@ use Rattle.layout.proofs.Places.{share-next}
 use Rattle.logic.specs.Meaning.{Formula, conjunction, Valid}
 use Rattle.logic.specs.Rule.{formulaAt}
 use Rattle.logic.specs.ReachedRecords.{ReachedRecord}
-use Rattle.logic.specs.Table.{table}
+use Rattle.logic.specs.Table.{tableBy}
+use Rattle.logic.specs.Joined.{constructed, joinedTable}
 use Rattle.logic.proofs.Numbered.{getD-elem}
 use Rattle.logic.proofs.Rules.{record-valid, reached-within}
 use Rattle.parts.specs.Parts.{partsOf}
@@ -142,21 +143,21 @@ module _ {rule : List ℕ} {c room : ℕ} (t : Triable rule c room) where
 
     module _ {ws′ : List ℕ} {number : ℕ} {f k : Summary} (z : Conjoins rule c ws number f q (es q) ws′ r k) where
       many : c < k .count → JoinsPart rule c ws r (Made number f) q ws′ (Over q)
-      unfolding joinOne table
+      unfolding joinOne joinedTable constructed tableBy
       many l x e =
           let G = formulaAt (recordsOf rule) q in
           let w = z (e .formula) G (e .valid) (valid-record q u) (e .machine) (b q u) in
-          rw (e .joined, lt-ltb c ((table (variablesOf rule) (conjunction (e .formula) G)) .count) (w .many l)) refl
+          rw (e .joined, lt-ltb c ((constructed (variablesOf rule) (conjunction (e .formula) G)) .count) (w .many l)) refl
 
       few : k .count ≤ c → JoinsPart rule c ws r (Made number f) q ws′ (Made r k)
-      unfolding joinOne table Valid
+      unfolding joinOne joinedTable constructed tableBy Valid
       few l x e =
           let G = formulaAt (recordsOf rule) q in
           let w = z (e .formula) G (e .valid) (valid-record q u) (e .machine) (b q u) .few l in
           record {
             formula = conjunction (e .formula) G;
             valid = (e .valid, valid-record q u);
-            joined = rw (e .joined, le-ltb c ((table (variablesOf rule) (conjunction (e .formula) G)) .count) (w .0)) refl;
+            joined = rw (e .joined, le-ltb c ((constructed (variablesOf rule) (conjunction (e .formula) G)) .count) (w .0)) refl;
             before = omega arith;
             behind = omega arith;
             machine = w .1;

@@ -1,15 +1,17 @@
--- Two machines joined by the builder: the machine of the conjunction, or it has more than c states. Assumes nothing.
+-- Two machines joined by the builder: the joined machine of the conjunction, or more than c states are built. Assumes nothing.
 use Rattle.words.proofs.Vocabulary.{ℕ, _≤_, _<_, _+_, _≡_, refl, ap, List, none, some, length, arith}
 use Rattle.layout.specs.Shape.{shareAt, shareOf}
 use Rattle.layout.proofs.Places.{share-next}
 use Rattle.logic.specs.Meaning.{Formula, conjunction, Valid}
-use Rattle.logic.specs.Table.{table}
+use Rattle.logic.specs.Joined.{constructed}
 use Rattle.table.specs.declared.plan.Kind.the-variants.{And}
 use Rattle.table.proofs.Labels.{bit-of}
-use Rattle.records.specs.Rule.{Mach, machineOf, Fits, SomeParts, Adds}
+use Rattle.records.specs.Rule.{Mach, machineOf, Fits, SomeParts}
 use Rattle.records.specs.declared.Decoded.{Decoded}
 use Rattle.records.specs.declared.Summary.{Summary}
-use Rattle.refinement.proofs.Records.{Good, Makes, good-few, large-many, explored, both-pair}
+use Rattle.refinement.proofs.Records.{GoodJoined, Makes, good-few, large-many, explored, both-pair, joined}
+use Rattle.joining.specs.Joining.{joinedOf}
+use Rattle.joining.specs.Record.{AddsJoined}
 use Rattle.rule_strip.specs.RuleStrip.{variablesOf, countOf}
 use Rattle.rules.specs.Building.{ruleShape, MachineFor}
 use Rattle.rules.proofs.Rooms.{room-shares}
@@ -50,10 +52,10 @@ module _ {rule : List ℕ} {c room : ℕ} (t : Triable rule c room) where
   pair-parts p = let u = p .2 .readable in let v = p .3 .readable in (u .machine, v .machine, (u .stored, v .stored))
 
   -- a machine that is read is good
-  good : {ws : List ℕ} {a : ℕ} {f : Summary} {F : Formula 2} (u : MachineFor rule c ws a f F) → Good n c F (u .readable .machine)
+  good : {ws : List ℕ} {a : ℕ} {f : Summary} {F : Formula 2} (u : MachineFor rule c ws a f F) → GoodJoined n c F (u .readable .machine)
   good u = record { machine = u .decides; full = u .full; few = u .readable .stored .few }
 
-  module _ {F G : Formula 2} (vf : Valid n F) (vg : Valid n G) {f g : Mach} (p : Good n c F f) (q : Good n c G g) where
+  module _ {F G : Formula 2} (vf : Valid n F) (vg : Valid n G) {f g : Mach} (p : GoodJoined n c F f) (q : GoodJoined n c G g) where
     makes : (a b : ℕ) → Makes n c (conjunction F G) (machineOf (ruleShape rule c) (andOf a b) f g)
     unfolding machineOf
     makes a b =
@@ -63,16 +65,16 @@ module _ {rule : List ℕ} {c room : ℕ} (t : Triable rule c room) where
     unfolding Valid
     valid = (vf, vg)
 
-    many : (a b : ℕ) → machineOf (ruleShape rule c) (andOf a b) f g ≡ none → c < (table n (conjunction F G)) .count
+    many : (a b : ℕ) → machineOf (ruleShape rule c) (andOf a b) f g ≡ none → c < (constructed n (conjunction F G)) .count
     many a b e = large-many valid (rw e at (makes a b))
 
     few : (a b : ℕ) (m : Mach) → machineOf (ruleShape rule c) (andOf a b) f g ≡ some m
-        → Good n c (conjunction F G) m × ((table n (conjunction F G)) .count ≤ c)
-    few a b m e = let w = rw e at (makes a b) in (w, good-few valid w)
+        → GoodJoined n c (conjunction F G) (joinedOf (ruleShape rule c) m) × ((constructed n (conjunction F G)) .count ≤ c)
+    few a b m e = let w = rw e at (makes a b) in (joined n c (rule-shaped (t .work)) valid w, good-few valid w)
 
-  -- what `build_next` says of it
+  -- what `build_joined` says of it
   pub conjoined : {ws ws′ : List ℕ} {a b r : ℕ} {f g k : Summary} → length ws′ ≡ room → r < countOf rule + 15
-      → Adds (andOf a b) (ruleShape rule c) r f g k ws ws′ → Conjoins rule c ws a f b g ws′ r k
+      → AddsJoined (andOf a b) (ruleShape rule c) r f g k ws ws′ → Conjoins rule c ws a f b g ws′ r k
   conjoined {a = a} {b = b} {r = r} e hr adds F G vf vg u v =
       let z = rule-sizes (t .work) in
       let added = adds (u .readable .machine) (v .readable .machine) (u .readable .stored, v .readable .stored) in
@@ -87,7 +89,7 @@ module _ {rule : List ℕ} {c room : ℕ} (t : Triable rule c room) where
                   shape = rule-shaped (t .work);
                   number = omega arith;
                   share = omega (arith, pair-share r hr);
-                  machine = m .0;
+                  machine = joinedOf (ruleShape rule c) (m .0);
                   stored = m .2 .stored;
                 };
                 decides = w .0 .machine;

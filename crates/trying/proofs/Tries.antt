@@ -3,9 +3,9 @@ use Rattle.words.proofs.Vocabulary.{ℕ, _≤_, _<_, _+_, _-_, suc, Bool, true,
 use Rattle.words.proofs.Vocabulary.{length, getD, take, drop, set, length-set, length-append, take-suc-set, drop-set-lt, add-one, arith}
 use lib.ListN.{drop-of-length-le}
 use Rattle.logic.specs.Meaning.{Assignment, Formula, Valid, Holds}
-use Rattle.logic.specs.Table.{table}
+use Rattle.logic.specs.Joined.{joinedTable}
 use Rattle.logic.proofs.Places.{T-ext}
-use Rattle.logic.proofs.Tables.{table-right}
+use Rattle.logic.proofs.Joined.{joined-right}
 use Rattle.records.specs.declared.Summary.{Summary}
 use Rattle.records.proofs.Shares.{drop-later}
 use Rattle.reading.specs.Reading.{machTable, Satisfiable}
@@ -36,12 +36,12 @@ satisfiable-built {rule} {F = F} u {b} s =
 
 -- so it is with the definition's machine
 pub satisfiable-same : {rule : List ℕ} {c : ℕ} {ws : List ℕ} {r : ℕ} {k : Summary} {F : Formula 2} → Valid (variablesOf rule) F → MachineFor rule c ws r k F
-    → {b : Bool} → Satisfiable k b → b ≡ accepts (table (variablesOf rule) F)
+    → {b : Bool} → Satisfiable k b → b ≡ accepts (joinedTable (variablesOf rule) F)
 satisfiable-same {rule} {F = F} v u {b} s =
     let n = variablesOf rule in
     let i = satisfiable-built u s in
-    let j = accepts-iff n F (table n F) (table-right n F v) in
-    T-ext b (accepts (table n F)) (λ t. j .1 (i .0 t)) (λ t. i .1 (j .0 t))
+    let j = accepts-iff n F (joinedTable n F) (joined-right n F v) in
+    T-ext b (accepts (joinedTable n F)) (λ t. j .1 (i .0 t)) (λ t. i .1 (j .0 t))
 
 -- what is joined before one share is joined before a later one
 joint-later : (rule : List ℕ) (c : ℕ) (ws : List ℕ) (end later : ℕ) → end ≤ later → (j : Joint) (x : Conjunct 2) → JointOf rule c ws end j x

@@ -4,14 +4,14 @@ use mathlib.Core.Path.{_≡_}
 use mathlib.Core.List.{List}
 use lib.ListN.{length, getD, drop}
 use Rattle.logic.specs.Meaning.{Formula, conjunction, Valid}
-use Rattle.logic.specs.Table.{table}
+use Rattle.logic.specs.Joined.{constructed, joinedTable}
 use Rattle.records.specs.declared.Summary.{Summary}
 use Rattle.rule_strip.specs.RuleStrip.{variablesOf, countOf, recordsOf}
 use Rattle.rules.specs.Room.{roomFor, Workable}
 use Rattle.rules.specs.Building.{ruleShape, MachineFor}
 use Rattle.layout.specs.Shape.{shareAt}
 use Rattle.parts.specs.Parts.{partsOf}
-use Rattle.trials.specs.Joins.{Joint as Conjunct, noJoint, jointBy, jointOver, Joiner, plainJoiner, joinOne, joinFrom}
+use Rattle.trials.specs.Joins.{Joint as Conjunct, noJoint, jointBy, jointOver, Joiner, ruleJoiner, joinOne, joinFrom}
 use Rattle.trying.specs.declared.joint.Joint.{Joint}
 use Rattle.trying.specs.declared.joint.Joint.the-variants.{Empty, Made, Over}
 
@@ -24,10 +24,10 @@ pub record Triable (rule : List ℕ) (c room : ℕ) : Type 0 where
 abbrev pub SomePair : List ℕ → ℕ → List ℕ → ℕ → Summary → ℕ → Summary → Type 0
 SomePair rule c ws a f b g = (F G : Formula 2) × MachineFor rule c ws a f F × MachineFor rule c ws b g G
 
--- the machine of a formula, of which k is kept, stands in the share of number r; or it has more than c states
+-- the joined machine of a formula, of which k is kept, stands in the share of number r; or more than c states are built
 pub record MachineMade (rule : List ℕ) (c : ℕ) (ws : List ℕ) (r : ℕ) (k : Summary) (F : Formula 2) : Type 0 where
-  pub many : c < k .count → c < (table (variablesOf rule) F) .count
-  pub few : k .count ≤ c → ((table (variablesOf rule) F) .count ≤ c) × MachineFor rule c ws r k F
+  pub many : c < k .count → c < (constructed (variablesOf rule) F) .count
+  pub few : k .count ≤ c → ((constructed (variablesOf rule) F) .count ≤ c) × MachineFor rule c ws r k F
 
 -- whatever formulas the machines are of: what is made is their conjunction's
 abbrev pub Conjoins : List ℕ → ℕ → List ℕ → ℕ → Summary → ℕ → Summary → List ℕ → ℕ → Summary → Type 0
@@ -37,13 +37,13 @@ Conjoins rule c ws a f b g ws′ r k =
 
 -- the machines of the rule's records, and how two are joined
 abbrev pub joinerOf : List ℕ → Joiner 2
-joinerOf rule = plainJoiner 2 (variablesOf rule) (recordsOf rule)
+joinerOf rule = ruleJoiner 2 (variablesOf rule) (recordsOf rule)
 
 -- the machine of the conjunct x, of which k is kept, stands in the share of a number before `end`
 pub record JointMade (rule : List ℕ) (c : ℕ) (ws : List ℕ) (end number : ℕ) (k : Summary) (x : Conjunct 2) : Type 0 where
   pub formula : Formula 2
   pub valid : Valid (variablesOf rule) formula
-  pub joined : x ≡ jointBy (table (variablesOf rule) formula)
+  pub joined : x ≡ jointBy (joinedTable (variablesOf rule) formula)
   pub before : number < end
   pub behind : countOf rule ≤ end
   pub machine : MachineFor rule c ws number k formula

@@ -10,6 +10,7 @@ ghost use Rattle.records.specs.Rule.{Spared};
 ghost use Rattle.building.specs.OneRecord.{keptIn};
 ghost use Rattle.rules.specs.Building.{ruleShape, ReachedBuilt};
 ghost use Rattle.trying.specs.Trying.{Triable, SomePair, Conjoins, SomeJoint, Confined, JoinsPart, JoinsRest};
+use joining::record::build_joined;
 use records::Decoded;
 use records::Summary;
 use table::plan::Kind;
@@ -22,8 +23,8 @@ pub enum Joint {
     Over(usize),
 }
 
-// The machine of the conjunction of two machines that stand in the shares of numbers a and b, into the share of number r. Its count is above
-// c where it has too many states.
+// The machine of the conjunction of two machines that stand in the shares of numbers a and b, with its states joined, into the share of number
+// r. Its count is above c where too many are built.
 pub fn join_pair(
     rule: &[u8],
     c: usize,
@@ -48,7 +49,7 @@ pub fn join_pair(
         wx: 1,
         wy: 1,
     };
-    records::build_next(ws, x, f, g, r, s)
+    build_joined(ws, x, f, g, r, s)
 }
 
 // Record q joined to what is joined so far, which stands before the share of number r, into that share. Of the first one nothing is made.

@@ -5,8 +5,8 @@ use Rattle.trying.proofs.Pairs.{pair-fits, pair-parts, conjoined}
 use Rattle.trying.proofs.joint.join_pair.Statement.{statement}
 use Rattle.trying.proofs.joint.join_pair.Tie as tie
 
-build-next-requires : tie.Need-build-next-requires
-build-next-requires c κs =
+build-joined-requires : tie.Need-build-joined-requires
+build-joined-requires c κs =
     let s = c .before .before .before .before .before in
     let p = s .pre in
     rw (c .before .shape-for .ensures, c .before .before .variables-of .ensures)
@@ -17,8 +17,8 @@ returns c =
     let b = c .before .before in
     let d = b .before .before in
     let s = d .before .before .before .before in
-    let v = rw (d .shape-for .ensures, d .before .variables-of .ensures) at (b .build-next .ensures) in
-    (conjoined (s .pre .0) (b .build-next .kept .0) (s .pre .1 .0 .2) (v .0), v .1)
+    let v = rw (d .shape-for .ensures, d .before .variables-of .ensures) at (b .build-joined .ensures) in
+    (conjoined (s .pre .0) (b .build-joined .kept .0) (s .pre .1 .0 .2) (v .0), v .1)
 
 -- both numbers are small
 small : (s : tie.Start) → (s .args .a < 256) × (s .args .b < 256)
@@ -28,4 +28,4 @@ pub join-pair-spec : {M : Type 1} → statement M
 join-pair-spec =
     tie.close
     (tie.spec (λ c κs. rule-sizes (c .before .before .pre .0 .work) .0) (λ c κs. search needs) (λ c. omega (arith, small (c .before .before .before .before)))
-    (λ c. omega (arith, small (c .before .before .before .before))) build-next-requires (λ c. search needs) returns)
+    (λ c. omega (arith, small (c .before .before .before .before))) build-joined-requires (λ c. search needs) returns)
