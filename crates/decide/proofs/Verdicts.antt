@@ -2,6 +2,8 @@
 use Rattle.words.proofs.Vocabulary.{ℕ, _≤_, _≡_, refl, sym, _∙_, ⊎-elim, List, arith, length, take, drop}
 use lib.Seq.{take-append-seam}
 use Rattle.logic.specs.Tree.{Tree}
+use Rattle.logic.specs.Rule.{formulaAt, lastOf}
+use Rattle.logic.specs.Joined.{joinedTable}
 use Rattle.logic.specs.Claims.{Outcome, refused14, shown, none, larger}
 use Rattle.logic.proofs.Answers.{decide-answers}
 use Rattle.bits.specs.declared.Fault.the-variants.{At}
@@ -88,6 +90,7 @@ module _ (rule : List ℕ) (c P : ℕ) (ws out : List ℕ) where
   claim ex eo = record {
     decided = λ e. record {
       outcome = decidedOf rule c P;
+      states = (joinedTable {k = 2} (variablesOf rule) (formulaAt (recordsOf rule) (lastOf (recordsOf rule)))) .count;
       answers = decide-answers 2 (variablesOf rule) (recordsOf rule) c P (rule-accepted rule (early-free e .0 .sound) .records-accepted);
       told = ex ∙ rw e;
       shows = strip-first eo e;

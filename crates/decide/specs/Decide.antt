@@ -3,9 +3,8 @@ use Prim.Native.Nat.{ℕ, _≤_}
 use mathlib.Core.Path.{_≡_}
 use mathlib.Core.List.{List, _++_}
 use lib.ListN.{length, take, drop}
-use Rattle.logic.specs.Rule.{lastOf}
 use Rattle.logic.specs.Tree.{Tree, positions}
-use Rattle.logic.specs.Claims.{Outcome, refused14, shown, none, larger, statesAt, Answers, Shallow}
+use Rattle.logic.specs.Claims.{Outcome, refused14, shown, none, larger, Answers, Shallow}
 use Rattle.logic.specs.Decide.{decideOf}
 use Rattle.rule_strip.specs.RuleStrip.{variablesOf, countOf, recordsOf, ruleFault}
 use Rattle.rule_strip.specs.RulePlaces.{RuleOffends}
@@ -61,15 +60,17 @@ outOf rule c P room out =
 unfoldable pub workspaceOf : List ℕ → ℕ → ℕ → List ℕ → ℕ → List ℕ
 workspaceOf rule c P ws outRoom = unlessRefused (decideRefusal rule c P (length ws) outRoom) (cleared (roomOf rule c) ws) ws
 
--- v and the bytes that out holds at the end tell an outcome that answers the rule
+-- v and the bytes that out holds at the end tell an outcome that answers the rule, and reports the least number of states of a machine that
+-- decides it
 pub record DecidedRule (rule : List ℕ) (c P : ℕ) (v : Verdict) (out : List ℕ) : Type 0 where
   pub outcome : Outcome 2
-  pub answers : Answers (variablesOf rule) (recordsOf rule) c P (statesAt 2 (variablesOf rule) (recordsOf rule) (lastOf (recordsOf rule))) outcome
+  pub states : ℕ
+  pub answers : Answers (variablesOf rule) (recordsOf rule) c P states outcome
   pub told : v ≡ outcomeVerdict (variablesOf rule) outcome
   pub shows : (places states : ℕ) (t : Tree 2) → outcome ≡ shown places states t
       → take (length (treeStrip (variablesOf rule) t)) out ≡ treeStrip (variablesOf rule) t
 
--- DEMANDS 2 AND 3, of decide's result v and the bytes that out holds at the end, where no refusal before the build applies; and A1, "Say at
+-- DEMANDS 2 AND 3 and A8's claim about states, of decide's result v and the bytes that out holds at the end, where no refusal before the build applies; and A1, "Say at
 -- which bit": a place that v names is one where the strip offends
 pub record DecideClaim (rule : List ℕ) (c P room outRoom : ℕ) (v : Verdict) (out : List ℕ) : Type 0 where
   pub decided : decideRefusal rule c P room outRoom ≡ Nothing → DecidedRule rule c P v out
