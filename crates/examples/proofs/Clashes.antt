@@ -10,7 +10,9 @@ use Rattle.logic.specs.Rule.{successorAt}
 use Rattle.logic.specs.Machine.{setLow, withBit, allOf, anyOf}
 use Rattle.logic.specs.Reach.{elem, below, flat, select, outcomes, successors, add, closure, reach, position, numbered, wordOf, members, projection}
 use Rattle.logic.specs.ReachedRecords.{namesOf, namedAfter, mark, marks, isReached}
-use Rattle.logic.specs.Table.{table, codedProduct, build, productTable, projectionTable, complementTable, tableOf, admit, buildAll, kindOf}
+use Rattle.logic.specs.Joined.{pairs, seeds, splitsAt, splits, spread, apartPairs, numbers, first, classOf, merged, classes, joinBy, join, constructed}
+use Rattle.logic.specs.Joined.{joinedTable}
+use Rattle.logic.specs.Table.{tableBy, codedProduct, build, productTable, projectionTable, complementTable, tableOf, admit, buildAll, kindOf}
 use Rattle.logic.specs.Search.{anyBelow}
 use Rattle.bits.specs.Bits.{digits, bits, anySet, firstSet, bitLength}
 use Rattle.rule_strip.specs.RuleStrip.{recordAt, recordsFrom, recordsOf, firstUse, secondUse, recordFault, recordsFault, headFault, ruleFault}
@@ -36,7 +38,9 @@ unfoldable pub told : Request → ClashList
 unfolding digits bits anySet firstSet bitLength recordAt recordsFrom recordsOf firstUse secondUse recordFault recordsFault headFault ruleFault
     ceilingRefusal workspaceRefusal workRefusal partsRefusal clashRefusal clashingList clashListOf clashOf afterBuilt trialsAnswer trials trialSays
     joinFrom joinOne accepts partsOf fresh walk isAnd low bit downFrom allOf anyOf sumOf successorAt kindOf setLow withBit elem below flat select
-    outcomes successors add closure reach position numbered wordOf members projection table codedProduct build productTable projectionTable
+    outcomes successors add closure reach position numbered wordOf members projection
+    joinedTable constructed join joinBy classes merged classOf first numbers apartPairs spread splits splitsAt seeds pairs
+    tableBy codedProduct build productTable projectionTable
     complementTable tableOf admit namesOf namedAfter mark marks isReached buildAll anyBelow decLt
 told q = clashListOf (q .strip) (q .c) (q .room)
 
@@ -45,7 +49,7 @@ abbrev circle : List ℕ
 circle =
     0x13 ∷ 0x08 ∷ 0x00 ∷ 0x00 ∷ 0x40 ∷ 0x08 ∷ 0x27 ∷ 0x00 ∷ 0x04 ∷ 0x01 ∷ 0x00 ∷ 0x70 ∷ 0x40 ∷ 0xC0 ∷ 0x00 ∷ 0x25 ∷ 0x0A ∷ 0x01 ∷ 0xC2 ∷ 0x06 ∷ []
 
--- example i of document 01: n = 2, X0 = ε and X0 = X1 1, whose states are 6
+-- example i of document 01: n = 2, X0 = ε and X0 = X1 1, of which 6 states are built
 abbrev never : List ℕ
 never = 0x12 ∷ 0x03 ∷ 0x40 ∷ 0x00 ∷ 0x08 ∷ 0x00 ∷ 0x17 ∷ 0x00 ∷ 0x04 ∷ []
 

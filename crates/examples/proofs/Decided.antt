@@ -1,5 +1,5 @@
--- The twelve examples of document 01 ("Examples to be shown of the definitions"), a to l, by computation on the definitions: from the
--- bytes of a rule strip, through the records read, to decide's answer and the bytes in out. Assumes nothing.
+-- The twelve examples of document 01 ("Examples to be shown of the definitions"), a to l, with the states that A8 leaves to e, i and j, by
+-- computation on the definitions: from the bytes of a rule strip, through the records read, to decide's answer and the bytes in out. Assumes nothing.
 use Prim.Native.Nat.{ℕ}
 use mathlib.Core.Path.{_≡_, refl}
 use mathlib.Core.List.{List, [], _∷_, map}
@@ -10,7 +10,9 @@ use Rattle.logic.specs.Rule.{Record, successorAt}
 use Rattle.logic.specs.Machine.{setLow, withBit, run, allOf, anyOf}
 use Rattle.logic.specs.Reach.{elem, below, flat, select, outcomes, successors, add, closure, reach, position, numbered, wordOf, members, projection}
 use Rattle.logic.specs.ReachedRecords.{namesOf, namedAfter, mark, marks, isReached}
-use Rattle.logic.specs.Table.{table, codedProduct, build, productTable, projectionTable, complementTable, tableOf, admit, buildAll, kindOf}
+use Rattle.logic.specs.Joined.{pairs, seeds, splitsAt, splits, spread, apartPairs, numbers, first, classOf, merged, classes, joinBy, join, constructed}
+use Rattle.logic.specs.Joined.{joinedTable}
+use Rattle.logic.specs.Table.{tableBy, codedProduct, build, productTable, projectionTable, complementTable, tableOf, admit, buildAll, kindOf}
 use Rattle.logic.specs.Search.{settled, view, lighter, choose, consider, loop, tuples, pick, verdict, next, rounds, anyBelow, begin, search}
 use Rattle.logic.specs.Decide.{report, conclude, decideOf}
 use Rattle.bits.specs.Bits.{digits, bits, anySet, firstSet, bitLength, pack}
@@ -47,7 +49,9 @@ unfoldable pub answer : Question → Answer
 unfolding bits anySet firstSet bitLength recordAt recordsFrom recordsOf firstUse secondUse recordFault recordsFault
     headFault ruleFault ceilingRefusal placesRefusal workspaceRefusal workRefusal outRefusal roomRefusal decideRefusal outcomeVerdict outAfter verdictOf outOf
     low bit downFrom allOf anyOf sumOf positions successorAt kindOf setLow
-    withBit run elem below flat select outcomes successors add closure reach position numbered wordOf members projection table codedProduct build
+    withBit run elem below flat select outcomes successors add closure reach position numbered wordOf members projection
+    joinedTable constructed join joinBy classes merged classOf first numbers apartPairs spread splits splitsAt seeds pairs
+    tableBy codedProduct build
     productTable projectionTable complementTable tableOf admit namesOf namedAfter mark marks isReached buildAll settled view lighter choose consider
     loop tuples pick verdict next rounds anyBelow begin search report conclude decideOf digits pack treeBits treeStrip decLt
 answer q =
@@ -97,12 +101,12 @@ expected =
     ∷ is 1 (rec 1 0 0 ∷ rec 8 0 0 ∷ []) (Shown 0 1 2) (0x11 ∷ 0x00 ∷ [])
     ∷ is 1 (rec 1 0 0 ∷ rec 8 0 0 ∷ rec 5 1 0 ∷ []) (None 1) []
     ∷ is 1 (rec 0 0 0 ∷ []) (Shown 0 1 2) (0x11 ∷ 0x00 ∷ [])
-    ∷ is 1 (rec 2 0 0 ∷ []) (None 2) []
+    ∷ is 1 (rec 2 0 0 ∷ []) (None 1) []
     ∷ is 2 (rec 2 0 1 ∷ []) (Shown 2 4 3) (0x12 ∷ 0xB8 ∷ 0x00 ∷ [])
     ∷ is 2 (rec 3 0 1 ∷ []) (Shown 2 4 3) (0x12 ∷ 0xAC ∷ 0x00 ∷ [])
     ∷ is 2 (rec 2 0 1 ∷ rec 8 1 0 ∷ []) (Shown 2 4 3) (0x12 ∷ 0x98 ∷ 0x00 ∷ [])
-    ∷ is 2 (rec 4 0 0 ∷ rec 2 0 1 ∷ rec 7 0 1 ∷ []) (None 6) []
-    ∷ is 2 (rec 0 0 1 ∷ rec 5 0 0 ∷ rec 0 1 0 ∷ rec 5 2 0 ∷ rec 6 1 3 ∷ []) (Shown 1 4 2) (0x12 ∷ 0xA0 ∷ [])
+    ∷ is 2 (rec 4 0 0 ∷ rec 2 0 1 ∷ rec 7 0 1 ∷ []) (None 1) []
+    ∷ is 2 (rec 0 0 1 ∷ rec 5 0 0 ∷ rec 0 1 0 ∷ rec 5 2 0 ∷ rec 6 1 3 ∷ []) (Shown 1 2 2) (0x12 ∷ 0xA0 ∷ [])
     ∷ is 1 (rec 1 0 0 ∷ []) (Refused (TooManyStates 0)) []
     ∷ is 1 (rec 1 0 0 ∷ []) (Shown 1 3 2) (0x11 ∷ 0xC0 ∷ [])
     ∷ is 1 (rec 1 0 0 ∷ []) (Larger 3) []

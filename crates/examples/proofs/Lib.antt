@@ -5,3 +5,5 @@ pub mod Printed
 pub mod Places
 pub mod Clashes
 pub mod Joined
+pub mod Drawn
+pub mod Smaller
