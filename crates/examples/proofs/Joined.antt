@@ -111,8 +111,8 @@ questions = with 64 255 (joinedStrip root inside) ∷ with 64 255 (joinedStrip s
 
 pub verdicts : List Answer
 verdicts =
-    is 2 (rec 4 0 0 ∷ rec 2 0 1 ∷ rec 7 0 1 ∷ []) (None 6) []
-    ∷ is 2 (rec 1 0 0 ∷ rec 2 0 1 ∷ rec 7 0 1 ∷ []) (Shown 2 6 3) (0x12 ∷ 0xB8 ∷ 0x00 ∷ [])
+    is 2 (rec 4 0 0 ∷ rec 2 0 1 ∷ rec 7 0 1 ∷ []) (None 1) []
+    ∷ is 2 (rec 1 0 0 ∷ rec 2 0 1 ∷ rec 7 0 1 ∷ []) (Shown 2 4 3) (0x12 ∷ 0xB8 ∷ 0x00 ∷ [])
     ∷ []
 
 pub joined-decided : map answer questions ≡ verdicts
