@@ -296,8 +296,8 @@ static uint64_t start(const struct build *b, const struct record *r)
     return 0;
 }
 
-/* Finds all states of an atom's, a pair's or a set's machine and fills its
- * table; false if there are more than c. */
+/* Finds all states of an atom's, a pair's or a set's machine, and their entries at the
+ * labels of its mask; false if there are more than c. */
 static bool explore(const struct build *b, const struct record *r, struct machine *m)
 {
     struct found f = { .ceiling = b->c };
@@ -329,13 +329,222 @@ static bool explore(const struct build *b, const struct record *r, struct machin
     for (unsigned s = 0; s < f.count; s++)
         if (accepts(b, r, f.value[s]))
             m->accepting |= BIT(s);
+    return true;
+}
+
+/* ---- States that behave alike ---- */
+
+/* A hash of some bytes, after others with this one. */
+static uint64_t hash_on(uint64_t hash, const uint8_t *at, size_t length)
+{
+    uint64_t word = 0;
+    for (; length >= sizeof word; at += sizeof word, length -= sizeof word) {
+        memcpy(&word, at, sizeof word);
+        hash = (hash + word) * UINT64_C(0x9E3779B97F4A7C15);
+        hash ^= hash >> 32;
+    }
+    for (word = 0; length; length--)
+        word = word << 8 | *at++;
+    hash = (hash + word) * UINT64_C(0x9E3779B97F4A7C15);
+    return hash ^ hash >> 32;
+}
+
+/* Whether two labels lead all states to the same ones. */
+static bool alike(const struct build *b, const struct machine *m, unsigned one, unsigned two)
+{
+    unsigned s = 0;
+    while (s < m->states && memcmp(row(b, m, one, s), row(b, m, two, s), m->states) == 0)
+        s++;
+    return s == m->states;
+}
+
+/* Lists the labels of the mask, one of all that are alike. */
+static unsigned list_labels(const struct build *b, const struct machine *m, unsigned *listed)
+{
+    uint64_t hash[256];
+    unsigned count = 0;
+    for (unsigned label = 0; label < b->labels; label++) {
+        unsigned i = 0;
+        if (label & ~m->mask)
+            continue;
+        hash[count] = 0;
+        for (unsigned s = 0; s < m->states; s++)
+            hash[count] = hash_on(hash[count], row(b, m, label, s), m->states);
+        while (i < count && (hash[i] != hash[count] || !alike(b, m, listed[i], label)))
+            i++;
+        if (i == count)
+            listed[count++] = label;
+    }
+    return count;
+}
+
+/* What a node of some label with some state in one branch makes of the state in its
+ * other branch. States are told apart by where these lead. */
+struct column {
+    uint8_t to[MOST_STATES];
+    uint64_t hash, range; /* the set of states that it leads to */
+};
+
+enum { MOST_COLUMNS = 2 * 256 * MOST_STATES };
+
+/* The columns of a machine, each once. They are no part of a call's frame, for their size. */
+static struct {
+    unsigned count;
+    struct column column[MOST_COLUMNS];
+    uint16_t slot[2 * MOST_COLUMNS]; /* one more than the number of a column, by its hash */
+} columns;
+
+/* Adds the column of this number, if it is not there before. */
+static void add_column(const struct machine *m, size_t slots)
+{
+    struct column *new = &columns.column[columns.count];
+    size_t at;
+    new->hash = hash_on(0, new->to, m->states);
+    for (at = new->hash & (slots - 1); columns.slot[at]; at = (at + 1) & (slots - 1)) {
+        const struct column *old = &columns.column[columns.slot[at] - 1];
+        if (old->hash == new->hash && memcmp(old->to, new->to, m->states) == 0)
+            return;
+    }
+    columns.slot[at] = (uint16_t)++columns.count;
+    new->range = 0;
+    for (unsigned p = 0; p < m->states; p++)
+        new->range |= BIT(new->to[p]);
+}
+
+static void find_columns(const struct build *b, const struct machine *m)
+{
+    unsigned listed[256], labels = list_labels(b, m, listed);
+    size_t slots = 4;
+    while (slots < 4 * (size_t)labels * m->states)
+        slots *= 2;
+    memset(columns.slot, 0, slots * sizeof columns.slot[0]);
+    columns.count = 0;
+    for (unsigned i = 0; i < labels; i++)
+        for (unsigned s = 0; s < m->states; s++) {
+            memcpy(columns.column[columns.count].to, row(b, m, listed[i], s), m->states);
+            add_column(m, slots);
+            for (unsigned p = 0; p < m->states; p++)
+                columns.column[columns.count].to[p] = row(b, m, listed[i], p)[s];
+            add_column(m, slots);
+        }
+}
+
+/* Which states are told apart from each, and which of these pairs are still to be
+ * followed back to those that lead to them. */
+struct pairs {
+    uint64_t apart[MOST_STATES], fresh[MOST_STATES];
+};
+
+/* Tells each state of one set apart from each of another. */
+static void tell_apart(struct pairs *t, uint64_t some, uint64_t others)
+{
+    EACH(p, some) {
+        t->fresh[p] |= others & ~t->apart[p];
+        t->apart[p] |= others;
+    }
+    EACH(q, others) {
+        t->fresh[q] |= some & ~t->apart[q];
+        t->apart[q] |= some;
+    }
+}
+
+/* Follows all pairs of one set and another back. */
+static void follow_back(const struct machine *m, struct pairs *t, uint64_t some, uint64_t others)
+{
+    for (const struct column *f = columns.column; f < columns.column + columns.count; f++) {
+        uint64_t to_some = 0, to_others = 0;
+        if (!(f->range & some) || !(f->range & others))
+            continue;
+        for (unsigned p = 0; p < m->states; p++) {
+            to_some |= (some >> f->to[p] & 1) << p;
+            to_others |= (others >> f->to[p] & 1) << p;
+        }
+        tell_apart(t, to_some, to_others);
+    }
+}
+
+/* Takes up one state that is fresh from some others, with all that are fresh from these
+ * too; false if there is none, or nothing left to be told apart. */
+static bool take_fresh(const struct machine *m, struct pairs *t, uint64_t all, uint64_t *some, uint64_t *others)
+{
+    unsigned p = 0, lone = 0;
+    while (lone < m->states && t->apart[lone] == (all & ~BIT(lone)))
+        lone++;
+    while (p < m->states && !t->fresh[p])
+        p++;
+    if (lone == m->states || p == m->states)
+        return false;
+    *some = 0;
+    *others = t->fresh[p];
+    for (; p < m->states; p++)
+        if (!(*others & ~t->fresh[p]))
+            *some |= BIT(p);
+    EACH(q, *some)
+        t->fresh[q] &= ~*others;
+    EACH(q, *others)
+        t->fresh[q] &= ~*some;
+    return true;
+}
+
+/* Tells apart the states of which one accepts and the other does not, and from then on
+ * those that some column leads to states told apart. */
+static void tell_states_apart(const struct build *b, const struct machine *m, struct pairs *t)
+{
+    uint64_t all = ~UINT64_C(0) >> (MOST_STATES - m->states), some = m->accepting, others = all & ~some;
+    tell_apart(t, some, others);
+    if (some && others && m->states > 2)
+        find_columns(b, m);
+    while (take_fresh(m, t, all, &some, &others))
+        follow_back(m, t, some, others);
+}
+
+/* Makes one state of all that are not told apart, with the number that the first of
+ * them has among such; the empty tree's stays 0. */
+static void join_states(const struct build *b, struct machine *m)
+{
+    struct pairs t = { .apart = { 0 } };
+    unsigned joined[MOST_STATES], first[MOST_STATES], count = 0;
+    uint64_t accepting = 0;
+    tell_states_apart(b, m, &t);
+    for (unsigned p = 0; p < m->states; p++) {
+        unsigned like = (unsigned)__builtin_ctzll(~t.apart[p]); /* itself, if no earlier one is */
+        joined[p] = like < p ? joined[like] : count;
+        if (like == p)
+            first[count++] = p;
+    }
+    for (unsigned i = 0; i < count; i++)
+        accepting |= (m->accepting >> first[i] & 1) << i;
+    /* entries move towards the front alone, so none is written over before it is read */
+    for (unsigned label = 0; label < b->labels && count < m->states; label++)
+        for (unsigned i = 0; i < count && !(label & ~m->mask); i++)
+            for (unsigned j = 0; j < count; j++)
+                m->table[((size_t)label * b->c + i) * b->c + j] = (uint8_t)joined[row(b, m, label, first[i])[first[j]]];
+    m->states = count;
+    m->accepting = accepting;
+}
+
+/* Copies the entries of the labels of the mask to all others. */
+static void fill_labels(const struct build *b, struct machine *m)
+{
     for (unsigned label = 0; label < b->labels; label++)
         if (label & ~m->mask)
             memcpy(m->table + (size_t)label * b->c * b->c,
                    m->table + (size_t)(label & m->mask) * b->c * b->c,
-                   (size_t)f.count * b->c);
+                   (size_t)m->states * b->c);
+}
+
+/* Builds a machine of as few states as can be; false if there are more than c before
+ * those that behave alike are joined. */
+static bool build_machine(const struct build *b, const struct record *r, struct machine *m)
+{
+    if (!explore(b, r, m))
+        return false;
+    join_states(b, m);
+    fill_labels(b, m);
     return true;
 }
+
+/* ---- Reached records ---- */
 
 /* Marks a record and all that it stands on. Each is gone into once, and names
  * earlier ones alone, so this goes no deeper than there are records. */
@@ -369,7 +578,7 @@ static unsigned build_reached(struct build *b, uint8_t *workspace)
             m->states = part->states;
             m->mask = part->mask;
             m->accepting = part->accepting ^ (~UINT64_C(0) >> (MOST_STATES - part->states));
-        } else if (!explore(b, r, m)) {
+        } else if (!build_machine(b, r, m)) {
             return i;
         }
     }
@@ -674,7 +883,7 @@ static bool join(struct build *b, uint8_t *workspace, unsigned *before, unsigned
     }
     m->table = workspace + (b->rule.records + share) * b->share;
     *before = MOST_RECORDS + share;
-    return explore(b, &both, m);
+    return build_machine(b, &both, m);
 }
 
 static ws2s_clash_list refuse_to_list(unsigned refusal, uint64_t record, uint64_t place)
