@@ -7,10 +7,8 @@
  * answer this checks what each call leaves in the buffers, that a rule strip that
  * was imported or joined is one, that a fault is told of the strip that has it where
  * two are joined, and that the parts of a rule that are said to clash do, and
- * any of them left out, do not. A line of a text that is decided or judged is skipped
- * where a record has more than 64 states, which is no part of the answer it states.
- * A file without lines fails, and so does one that is mostly skipped. It prints what
- * fails and a count, and ends with status 1 if anything did. */
+ * any of them left out, do not. A file without lines fails. It prints what fails and a
+ * count, and ends with status 1 if anything did. */
 #define _DEFAULT_SOURCE
 #include "lent.h"
 
@@ -18,7 +16,6 @@ enum { MOST_SECONDS = 600, SMALL_WORKSPACE = 1 << 20 };
 
 static struct lent lent[ARGUMENTS];
 static char fault[160], answer[2 * MOST_LINE];
-static bool skipped; /* the line at hand */
 
 static bool fails(const char *what)
 {
@@ -151,8 +148,7 @@ static bool run_call(const struct request *r, enum lent_place place, union resul
         answer[tell_bytes(answer, lent[OUT].at, result->written.length)] = 0;
     if (r->then) /* by meaning: states are no part of the answer */
         leave_out_states(answer);
-    skipped = r->then && refusal_of(r->operation, result) == 14;
-    if (r->expected && !skipped && strcmp(answer, r->expected) != 0)
+    if (r->expected && strcmp(answer, r->expected) != 0)
         return fails("another answer");
     if (!idle)
         return fails("a field that does not apply is not 0");
@@ -203,7 +199,6 @@ static bool run_line(char *line)
 {
     struct request r;
     fault[0] = answer[0] = 0;
-    skipped = false;
     if (!read_request(line, &r))
         return fails("not a line of this form");
     if (r.program && r.number[RULE] > VERDICT_INPUT)
@@ -217,12 +212,12 @@ static bool run_line(char *line)
 int main(int argc, char **argv)
 {
     static char line[MOST_LINE], copy[MOST_LINE];
-    unsigned long passed = 0, failed = 0, skips = 0;
+    unsigned long passed = 0, failed = 0;
     lent_watch();
     lent_open_all(lent, MOST_LINE, WS2S_MAX_CLASH_WORKSPACE);
     for (int i = 1; i < argc; i++) {
         FILE *file = fopen(argv[i], "r");
-        unsigned long number = 0, skips_before = skips;
+        unsigned long number = 0;
         if (!file) {
             perror(argv[i]);
             return 2;
@@ -234,18 +229,18 @@ int main(int argc, char **argv)
             snprintf(lent_doing, sizeof lent_doing, "%s:%lu", argv[i], number);
             alarm(MOST_SECONDS);
             if (run_line(line)) {
-                skipped ? skips++ : passed++;
+                passed++;
                 continue;
             }
             failed++;
             printf("%s:%lu: %s\n  line   %s\n  answer %s\n", argv[i], number, fault, copy, answer);
         }
         fclose(file);
-        if (2 * (skips - skips_before) >= number) {
+        if (number == 0) {
             failed++;
-            printf("%s: %s\n", argv[i], number == 0 ? "no lines" : "half of the lines skipped");
+            printf("%s: no lines\n", argv[i]);
         }
     }
-    printf("%lu passed, %lu failed, %lu skipped for more than 64 states\n", passed, failed, skips);
+    printf("%lu passed, %lu failed\n", passed, failed);
     return failed || !passed;
 }
