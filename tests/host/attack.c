@@ -5,7 +5,10 @@
  * Strips are made from valid records and trees or from bytes, and damaged, cut
  * and extended; rules at times get records that the last one does not reach;
  * ceilings are in and out of range; buffers fit, are a byte short, have room to
- * spare or are not there. Both get the same buffers, with the same bytes in and
+ * spare or are not there. Rules with many states that behave alike are made too, and
+ * asked with ceilings around the number of states that refusal 14 compares, which is
+ * found by trying; clash is asked of some of which only a trial has more states than
+ * the ceiling. Both get the same buffers, with the same bytes in and
  * around them; their results and all these bytes must agree after the call, and
  * whatever is shown must check, be walked with a stack of as many bytes as states
  * are told, and be judged as satisfying the rule; of parts that are said to clash the
@@ -20,7 +23,8 @@
  * lines; the status is then 1. How often each answer came is printed too, and at how
  * many places a strip or text was refused; of many calls none of them may be missing,
  * nor may texts be accepted seldom, or none that reaches a limit, nor may records of
- * more than c states be missing that the last one does not reach, nor lists of three
+ * more than c states be missing that the last one does not reach, nor rules with just as
+ * many states as the ceiling and with one more, nor trials with more, nor lists of three
  * parts and more, of fewer parts than there are, and of a rule with sixteen, nor, of two
  * rules joined, any fault in either, or anything else that is counted of them. */
 #define _DEFAULT_SOURCE
@@ -49,7 +53,7 @@ static struct {
 static struct {
     bool there;
     struct strip rule, tree;
-    uint64_t c, states;
+    uint64_t c;
 } kept;
 
 /* The last rule that was imported. */
@@ -83,6 +87,42 @@ static uint64_t some_states(enum operation o, const struct strip *rule, bool acc
     if (once_in(30))
         return once_in(3) ? 0 : once_in(2) ? 65 + below(3) : huge(c);
     return c;
+}
+
+/* Whether the oracle refuses a rule for more than c states. */
+static bool refuses_states(enum operation o, const struct strip *rule, uint64_t c)
+{
+    static uint8_t space[MIDDLE_SPACE];
+    const uint8_t tree[] = { rule->byte[0], 0 }; /* the empty one */
+    size_t asked = space_asked(o, rule->byte, c);
+    return asked <= sizeof space
+        && (o == OP_clash ? oracle_clash(rule->byte, rule->length, c, space, asked).refusal
+                          : oracle_judge(rule->byte, rule->length, c, space, asked, tree, sizeof tree).refusal) == 14;
+}
+
+/* The fewest states with which it does not, of an accepted rule; 64 if there are none. */
+static uint64_t least_states(enum operation o, const struct strip *rule)
+{
+    uint64_t over = 0, least = 4;
+    while (least < WS2S_MAX_STATES && refuses_states(o, rule, least)) {
+        over = least;
+        least *= 2;
+    }
+    while (over + 1 < least) {
+        uint64_t between = (over + least) / 2;
+        if (refuses_states(o, rule, between))
+            over = between;
+        else
+            least = between;
+    }
+    return least;
+}
+
+/* That number, one less or one more. */
+static uint64_t near_least(enum operation o, const struct strip *rule)
+{
+    uint64_t c = least_states(o, rule) + below(3);
+    return c < 2 ? 1 : c > WS2S_MAX_STATES ? WS2S_MAX_STATES : c - 1;
 }
 
 static uint64_t some_places(void)
@@ -143,10 +183,14 @@ static void make_text_request(struct request *r)
 }
 
 /* A rule, or one that is damaged, or bytes; a new one, if it is not there again. */
-static void make_some_rule(struct strip *s, bool again, bool clashing)
+static void make_some_rule(struct strip *s, bool again, bool alike, bool clashing)
 {
     if (again)
         *s = kept.rule;
+    else if (alike && clashing && !once_in(4))
+        make_broad_trials(s);
+    else if (alike)
+        make_alike_rule(s);
     else if (imported.length && once_in(20))
         *s = imported;
     else if (once_in(12))
@@ -165,10 +209,10 @@ static void make_some_rule(struct strip *s, bool again, bool clashing)
 
 static void make_rule_and_tree(struct request *r)
 {
-    bool again = kept.there && once_in(4);
-    make_some_rule(&made.rule, again, r->operation == OP_clash);
-    bool accepted = is_rule(&made.rule);
-    r->number[C] = again && !once_in(4) ? (once_in(3) ? kept.states - below(2) : kept.c)
+    bool again = kept.there && once_in(4), alike = once_in(8);
+    make_some_rule(&made.rule, again, alike, r->operation == OP_clash);
+    bool accepted = is_rule(&made.rule), near = accepted && (again ? once_in(4) : alike && !once_in(4));
+    r->number[C] = near ? near_least(r->operation, &made.rule) : again && !once_in(3) ? kept.c
                  : some_states(r->operation, &made.rule, accepted, once_in(2000) ? LARGE_SPACE : once_in(20) ? MIDDLE_SPACE : SMALL_SPACE);
     r->number[P] = some_places();
     bool sized = accepted && r->number[C] <= 64;
@@ -218,7 +262,7 @@ static size_t make_nested(struct strip *s, size_t *from)
 static void make_overlapping(void)
 {
     size_t length, from = 0;
-    make_some_rule(&made.both, false, false);
+    make_some_rule(&made.both, false, once_in(8), false);
     length = made.both.length;
     if (once_in(12)) {
         length = make_nested(&made.both, &from);
@@ -254,8 +298,8 @@ static void make_pair_request(struct request *r)
     if (once_in(12)) {
         make_long_pair();
     } else {
-        make_some_rule(&made.rule, kept.there && once_in(4), once_in(4));
-        make_some_rule(&made.second, kept.there && once_in(8), once_in(4));
+        make_some_rule(&made.rule, kept.there && once_in(4), once_in(8), once_in(4));
+        make_some_rule(&made.second, kept.there && once_in(8), once_in(8), once_in(4));
     }
     if (once_in(16))
         damage(once_in(2) ? &made.rule : &made.second, 4);
@@ -342,7 +386,6 @@ static const char *shown_wrong(const struct request *r, const ws2s_verdict *v)
     kept.there = true;
     kept.rule = made.rule;
     kept.c = r->number[C];
-    kept.states = v->states;
     kept.tree.length = v->length;
     memcpy(kept.tree.byte, ours[OUT].at, v->length);
     ws2s_tree t = ws2s_check_tree(kept.tree.byte, kept.tree.length);
@@ -633,10 +676,14 @@ static void count_list(const ws2s_clash_list *list)
 
 /* Rules with records of more than c states: how often a record left over had more
  * and the rule was answered; how often one did before the record that 14 named; how
- * often a later record that is reached did, and the first was named. */
+ * often a later record that is reached did, and the first was named; how often a rule
+ * had one state more than c before they were joined, how often just as many, and how
+ * often fewer were told of such; and how often 14 named a part in a trial, and one
+ * that is not the second field of the last "and". */
 static struct {
-    unsigned long answered, passed_over, first_named;
+    unsigned long answered, passed_over, first_named, one_more, as_many, fewer_told;
 } over[KINDS];
+static unsigned long trials_over, trials_over_before;
 
 /* Whether a rule is refused for more than the request's c states, and for which record. */
 static bool is_over(const struct request *r, const struct strip *rule, uint64_t *record)
@@ -659,6 +706,18 @@ static bool is_over_at(const struct request *r, unsigned last, uint64_t *record)
     return is_over(r, &front, record);
 }
 
+/* The ceiling against the fewest states with which there is an answer. */
+static void count_near(const struct request *r, const union result *o, bool answered)
+{
+    uint64_t c = r->number[C];
+    if (!once_in(4) || (answered ? c > 1 && !refuses_states(r->operation, &made.rule, c - 1)
+                                 : c == WS2S_MAX_STATES || refuses_states(r->operation, &made.rule, c + 1)))
+        return;
+    over[r->operation].one_more += !answered;
+    over[r->operation].as_many += answered;
+    over[r->operation].fewer_told += answered && r->operation == OP_decide && o->verdict.states < c;
+}
+
 static void count_over(const struct request *r, const union result *o)
 {
     uint64_t other, again;
@@ -668,6 +727,12 @@ static void count_over(const struct request *r, const union result *o)
         return;
     /* none that is reached has more if there is an answer, nor before the one named */
     bool answered = refusal != 14;
+    if (r->operation == OP_clash && !answered && !is_over(r, &made.rule, &other)) {
+        trials_over++;
+        trials_over_before += bits_at(&made.rule, record_at(records(&made.rule) - 1) + 11, 7) != o->clash_list.record;
+        return;
+    }
+    count_near(r, o, answered);
     unsigned named = (unsigned)number_at(o, operations[r->operation].answer->record), end = answered ? records(&made.rule) : named;
     for (unsigned i = 0; i < end && !left_over; i++)
         left_over = is_over_at(r, i, &other);
@@ -724,8 +789,11 @@ static void say_answers(void)
     printf("\n");
     for (enum operation o = 1; o < KINDS; o++)
         if (has(o, WORKSPACE))
-            printf("%s with records of more than c states: %lu answered, as they are left over, %lu refused after such, %lu refused for the first of several reached\n",
-                   operations[o].name, over[o].answered, over[o].passed_over, over[o].first_named);
+            printf("%s with records of more than c states: %lu answered, as they are left over, %lu refused after such, %lu refused for the first of several reached; "
+                   "one state more than c: %lu, as many: %lu\n",
+                   operations[o].name, over[o].answered, over[o].passed_over, over[o].first_named, over[o].one_more, over[o].as_many);
+    printf("as many states as c, and fewer told: %lu; trials with more than c states: %lu, for a part before the last: %lu\n", over[OP_decide].fewer_told,
+           trials_over, trials_over_before);
     printf("lists: %lu of three parts and more, %lu of fewer than there are, %lu of %d parts\n", lists.long_ones, lists.some_dropped,
            lists.of_most, WS2S_MAX_PARTS);
     say_joins();
@@ -750,9 +818,17 @@ static bool all_met(void)
         printf("no list of three parts, of fewer parts than there are, or of as many parts as there may be\n");
         all = false;
     }
+    if (!over[OP_decide].fewer_told || !trials_over || !trials_over_before) {
+        printf("no rule of as many states as c that told fewer, or no trial with more than c states, or none for a part before the last\n");
+        all = false;
+    }
     for (enum operation o = 1; o < KINDS; o++) {
         if (has(o, WORKSPACE) && (!over[o].answered || !over[o].passed_over || !over[o].first_named)) {
             printf("%s met no records of more than c states left over, or no several reached\n", operations[o].name);
+            all = false;
+        }
+        if (has(o, WORKSPACE) && (!over[o].one_more || !over[o].as_many)) {
+            printf("%s met no rule of as many states as c before they are joined, or of one more\n", operations[o].name);
             all = false;
         }
         unsigned long asked = 0;

@@ -189,6 +189,83 @@ static inline void make_broad_rule(struct strip *s)
             put_record(s, &at, 8, below(n), i - 1);
 }
 
+/* One of the first records, which are atoms, or its "not". */
+static inline unsigned put_literal(struct strip *s, size_t *at, unsigned atoms, unsigned *number)
+{
+    unsigned literal = below(atoms);
+    if (once_in(2))
+        return literal;
+    put_record(s, at, 5, literal, 0);
+    return (*number)++;
+}
+
+/* A rule strip whose states are many and behave alike: a few atoms over few variables, and
+ * then, over and over, the record before twice negated, below "exists", with itself, with
+ * one of the atoms or its "not", with two of these joined by "or", or with any before it. */
+static inline void make_alike_rule(struct strip *s)
+{
+    size_t at;
+    unsigned n = once_in(6) ? 4 : 1 + below(3), atoms = 2 + below(3), number = atoms, last = 0;
+    put_heading(s, &at, n, 0);
+    for (unsigned i = 0; i < atoms; i++) {
+        unsigned op = below(5);
+        put_record(s, &at, op, below(n), names_second_variable(op) ? below(n) : 0);
+    }
+    for (unsigned steps = 1 + below(9); steps; steps--) {
+        unsigned op = 6 + below(2), other = last;
+        switch (below(8)) {
+        case 0:
+            put_record(s, &at, 5, last, 0);
+            put_record(s, &at, 5, number++, 0);
+            last = number++;
+            continue;
+        case 1:
+            put_record(s, &at, 8, below(n), last);
+            last = number++;
+            continue;
+        case 2:
+            break;
+        case 3:
+            other = below(number);
+            break;
+        case 4:
+        case 5:
+            other = put_literal(s, &at, atoms, &number);
+            break;
+        default: {
+            unsigned one = put_literal(s, &at, atoms, &number), two = put_literal(s, &at, atoms, &number);
+            put_record(s, &at, 6, one, two);
+            op = 7;
+            other = number++;
+        }
+        }
+        bool before = once_in(2);
+        put_record(s, &at, op, before ? other : last, before ? last : other);
+        last = number++;
+    }
+    s->byte[1] = (uint8_t)number;
+}
+
+/* A rule strip of an atom and its "not", and parts that are joined to these two: it has few
+ * states, for nothing is left after the first two, but without one of them it may have many. */
+static inline void make_broad_trials(struct strip *s)
+{
+    size_t at;
+    unsigned n = 2 + below(2), parts = 2 + below(3), number = 0;
+    put_heading(s, &at, n, 0);
+    for (unsigned i = 0; i <= parts; i++, number++) {
+        unsigned op = below(5);
+        put_record(s, &at, op, below(n), names_second_variable(op) ? below(n) : 0);
+    }
+    bool atom_first = once_in(2);
+    put_record(s, &at, 5, 0, 0);
+    put_record(s, &at, 7, atom_first ? 0 : number, atom_first ? number : 0);
+    number += 2;
+    for (unsigned i = 1; i <= parts; i++, number++)
+        put_record(s, &at, 7, number - 1, i);
+    s->byte[1] = (uint8_t)number;
+}
+
 /* What the parts of a rule that may clash are made of: at most three atoms, mostly
  * inclusions, each with its "not", from record 0 on. */
 struct literals {

@@ -100,8 +100,9 @@ static bool join_right(const struct request *r, uint8_t *const *at, const ws2s_w
     return written_right(at, w);
 }
 
-/* Decides the conjunction of the parts listed, one left out if it is among them. It has
- * no more states than the trials had, and no more records than 12 has room for. */
+/* Decides the conjunction of the parts listed, one left out if it is among them; false if
+ * it is refused. It has no more records than 12 has room for, but may have more states
+ * than c in a record that no trial built. */
 static bool is_none(const struct request *r, const uint64_t *part, unsigned count, unsigned without, bool *none)
 {
     static struct strip rule, conjunction;
