@@ -60,7 +60,7 @@ restate q (shown places states t) = shown places q t
 restate q (none states) = none q
 restate q (larger states) = larger q
 
-plain-right : {k : ℕ} (n : ℕ) (f : Formula k) → Valid n f → Right n f (plainTable n f)
+pub plain-right : {k : ℕ} (n : ℕ) (f : Formula k) → Valid n f → Right n f (plainTable n f)
 plain-right n f v = table-right n (λ a. a) (λ g a r. r) f v
 
 -- ---- fewer states

@@ -108,6 +108,14 @@ tried = r 1 0 0 ∷ r 4 0 0 ∷ r 0 0 1 ∷ r 5 0 0 ∷ r 7 2 0 ∷ r 7 1 3 ∷ 
 circle : List Record
 circle = r 0 0 1 ∷ r 0 1 2 ∷ r 7 0 1 ∷ r 0 2 0 ∷ r 7 2 3 ∷ r 0 0 2 ∷ r 5 5 0 ∷ r 7 4 6 ∷ []
 
+-- X0 = X0 1, Sing(X0), X0 = ε: with c = 3 the rule has room, but the join of the last two has not, though 3 states would be left of it
+tight : List Record
+tight = r 2 0 0 ∷ r 1 0 0 ∷ r 4 0 0 ∷ r 7 0 1 ∷ r 7 3 2 ∷ []
+
+-- X0 = X0 2, Sing(X0), X0 = X0 1, not X0 = ε: with c = 3 a third part can be joined only because one state is left of the first two
+shrinking : List Record
+shrinking = r 3 0 0 ∷ r 1 0 0 ∷ r 2 0 0 ∷ r 4 0 0 ∷ r 5 3 0 ∷ r 7 1 2 ∷ r 7 5 4 ∷ r 7 0 6 ∷ []
+
 examples : List Example
 examples =
     plain 2 never
@@ -117,6 +125,9 @@ examples =
     ∷ plain 2 tried
     ∷ plain 3 circle
     ∷ plain 1 (many 16 14)
+    ∷ (record { vars = 1; rule = tight; ceiling = 3 })
+    ∷ plain 1 tight
+    ∷ (record { vars = 1; rule = shrinking; ceiling = 3 })
     ∷ []
 
 expected : List ClashAnswer
@@ -128,10 +139,13 @@ expected =
     ∷ clashing (1 ∷ 3 ∷ [])
     ∷ clashing (0 ∷ 1 ∷ 6 ∷ [])
     ∷ satisfiable
+    ∷ refusedFor 2
+    ∷ clashing (0 ∷ [])
+    ∷ clashing (2 ∷ [])
     ∷ []
 
 answers-right : answers examples ≡ expected
-unfolding answers examples expected never tried circle many again chain r clashOf afterBuilt trialsAnswer trials trialSays joinFrom joinOne accepts
+unfolding answers examples expected never tried circle tight shrinking many again chain r clashOf afterBuilt trialsAnswer trials trialSays joinFrom joinOne accepts
     partsOf fresh walk isAnd joinedTable constructed join joinBy classes merged classOf first numbers apartPairs spread splits splitsAt seeds pairs
     tableBy tableOf admit kindOf buildAll successorAt decLt isReached marks mark namedAfter namesOf build productTable
     projectionTable complementTable codedProduct reach closure add successors flat outcomes below elem position numbered bit low sumOf downFrom

@@ -21,6 +21,7 @@ use Rattle.logic.proofs.Places.{T→true, true→T, not-T}
 use Rattle.logic.proofs.Numbered.{reached-bound}
 use Rattle.logic.proofs.Tables.{Right, pair-right}
 use Rattle.logic.proofs.Joined.{join-right, joined-right}
+use Rattle.logic.proofs.Unjoined.{plainTable, plain-right}
 use Rattle.logic.proofs.Satisfiable.{satisfiable-iff}
 use Rattle.logic.proofs.Settle.{some-true, some-false}
 use Rattle.logic.proofs.Rules.{snoc-length, record-valid}
@@ -30,7 +31,7 @@ use Rattle.trials.specs.Clash.{NoneHold, SomeHold, Tells, TrialsKeep, al
 use Rattle.trials.specs.Joins.{joinedTo, conjunctionOf, Joiner, ruleJoiner, accepts, noneBy, Joint, noJoint, jointBy, jointOver}
 use Rattle.trials.specs.Joins.{joinOne, joinFrom, joinAll, Trialled, over14, keptList, trialSays, trials, trialsFrom}
 use Rattle.trials.specs.Joins.{FirstJoinOver, JoinsFit, Stops, goes-over, dropped-then, stays-then}
-use Rattle.trials.proofs.Clash.{between, kept-more, some-empty, keeps-clash}
+use Rattle.trials.proofs.Clash.{between, kept-more, some-empty, keeps-clash, clash-one}
 
 -- ---- the conjunction
 
@@ -390,3 +391,20 @@ module _ (k n : ℕ) (rs : List Record) (J : Joiner k) (c : ℕ) (S : Sound n rs
       goes-on p kept rest h true f z (λ w. z (w .0) (w .1)) ∙ stop-only (λ x m. h x ((between x kept rest p) .1 (inr m))) u
   stop-only h (stays-then {kept = kept} {rest = rest} {p = p} f w u) =
       goes-on p kept rest h false f w (λ z. z (w .0) (w .1)) ∙ stop-only (λ x m. h x (subst (λ (L : List ℕ). T (elem x L)) (kept-more kept rest p) m)) u
+
+-- WHATEVER MACHINES ARE JOINED, and with whatever ceilings: where no trial is refused, the same list is kept. So A8 left the lists as they were
+pub same-list : (k n : ℕ) (rs : List Record) (I J : Joiner k) (b c : ℕ) → Sound n rs I → Sound n rs J → (ps K L : List ℕ)
+    → ((x : ℕ) → T (elem x ps) → x < length rs) → NoneHold k rs ps → trials I b [] ps ≡ keptList K → trials J c [] ps ≡ keptList L → K ≡ L
+same-list k n rs I J b c S R ps K L h z e f =
+    clash-one k rs ps K L (trials-clash k n rs I b S ps K h z e) (trials-clash k n rs J c R ps L h z f)
+
+-- such were the machines before A8: pairs, none of whose states were joined
+pub unjoined-sound : (k n : ℕ) (rs : List Record) → Accepted k n rs → Sound n rs (record {
+  at = λ p. plainTable {k = k} n (formulaAt rs p);
+  states = λ a b. (productTable n _&&_ a b) .count;
+  join = λ a b. productTable n _&&_ a b;
+})
+unjoined-sound k n rs ok = record {
+  at-right = λ p h. plain-right n (formulaAt rs p) (record-valid k n rs (ok .1) p h);
+  join-right = λ f g a b. both-right n f g a b;
+}
