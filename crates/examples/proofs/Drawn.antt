@@ -120,6 +120,9 @@ module _ (n : ℕ) where
       pair-right n _&&_ (conjunction f g) a b (r .0) (q .0) (decides-conjunction n (a .machine) f (r .1) (b .machine) g (q .1))
   drawn-right (exists x f) v = projection-right n x f (short (drawn f)) (v .0) (short-right f (drawn f) (drawn-right f (v .1)))
 
+  pub short-drawn-right : (f : Formula 2) → Valid n f → Right n f (short (drawn f))
+  short-drawn-right f v = short-right f (drawn f) (drawn-right f v)
+
   -- the least number, computed
   pub drawn-least : (f : Formula 2) → Valid n f → (q : ℕ) → (short (drawn f)) .count ≡ q → LeastBelow n f q
   drawn-least f v q e = subst (LeastBelow n f) (sym (short-count f v (drawn f) (drawn-right f v)) ∙ e) (least-below n f v)

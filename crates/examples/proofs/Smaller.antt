@@ -1,16 +1,31 @@
 -- A8, "Smaller machines", by computation on the definitions, from the bytes of rule strips. Assumes nothing.
-use Prim.Native.Nat.{ℕ}
-use mathlib.Core.Path.{_≡_, refl, sym, subst}
+use Prim.Native.Nat.{ℕ, _/_, _%_, _<_}
+use mathlib.Core.Path.{_≡_, refl, sym, ap, ap₂, subst, _∙_}
+use mathlib.Core.Logic.{_↔_, _⊎_, inl, inr, ⊎-elim}
+use mathlib.Core.Bool.{Bool, true, false, cond, not, _&&_, _||_, Bool·beq, true≢false}
 use mathlib.Core.List.{List, [], _∷_, map}
+use native.Mathlib.Omega.{arith}
 use native.Mathlib.Decide.{decLt}
-use lib.Dec.{T, lit<}
-use Rattle.logic.specs.Tree.{downFrom, sumOf, low, bit}
+use lib.Dec.{T, T-not, eqb, eqb→eq, lit<}
+use Rattle.logic.specs.Meaning.{Assignment, Formula, Holds}
+use Rattle.logic.specs.Tree.{Tree, empty, node, Proper, TreeOf, downFrom, sumOf, low, bit}
+use Rattle.logic.specs.Trim.{isEmpty, bare, Trimmed}
 use Rattle.logic.specs.Rule.{Record, successorAt, formulaOf, extend, formulaAt, lastOf, good, goodFrom}
-use Rattle.logic.specs.Machine.{allOf, anyOf, setLow, withBit}
+use Rattle.logic.specs.Machine.{Machine, Bounded, run, allOf, anyOf, setLow, withBit}
 use Rattle.logic.specs.Reach.{elem, below, flat, select, outcomes, successors, add, closure, reach, position, numbered, wordOf, members, projection}
 use Rattle.logic.specs.Table.{tableBy, codedProduct, build, productTable, projectionTable, complementTable}
 use Rattle.logic.specs.Joined.{pairs, seeds, splitsAt, splits, spread, apartPairs, numbers, first, classOf, merged, classes, joinBy, join, constructed}
+use Rattle.logic.specs.Two.{one, two, pairOf, branching}
+use Rattle.logic.specs.Least.{DecidesAssigned}
+use Rattle.logic.specs.Table.{Table}
 use Rattle.logic.specs.Claims.{LeastForRule}
+use Rattle.logic.proofs.Places.{T→true, true→T}
+use Rattle.logic.proofs.Branches.{all-iff}
+use Rattle.logic.proofs.Connectives.{and-iff, or-iff}
+use Rattle.logic.proofs.Reach.{elem-below}
+use Rattle.logic.proofs.Two.{each, all-elem}
+use Rattle.logic.proofs.Settle.{run-below}
+use Rattle.logic.proofs.Assignments.{tree-of-trimmed}
 use Rattle.logic.proofs.Rules.{record-valid}
 use Rattle.bits.specs.Bits.{digits, bits}
 use Rattle.rule_strip.specs.RuleStrip.{recordAt, recordsFrom, recordsOf}
@@ -18,7 +33,7 @@ use Rattle.decide.specs.declared.Verdict.{Verdict}
 use Rattle.decide.specs.declared.Verdict.the-variants.{None, Refused}
 use Rattle.refusals.specs.declared.Refusal.the-variants.{TooManyStates}
 use Rattle.examples.proofs.Decided.{Question, answer, with, rec}
-use Rattle.examples.proofs.Drawn.{listed, grid, picked, written, short, drawn, drawn-least}
+use Rattle.examples.proofs.Drawn.{listed, grid, picked, written, short, drawn, drawn-least, short-drawn-right}
 
 -- "Refusal 14 now compares c with the reachable states of the construction": e, n = 1, X0 = X0 1, of which 2 are built and 1 is left; i, n = 2,
 -- X0 = ε and X0 = X1 1, of which 6 are built and 1 is left
@@ -37,38 +52,94 @@ pub smaller-told : map (λ q. answer q .verdict) questions ≡ verdicts
 unfolding answer questions verdicts
 smaller-told = refl
 
--- "those with label 0 above two empty branches included": of X0 has every prefix of its members, the least number is 3, where two states would
--- do for the trees of assignments alone. n = 3, 0: X1 = X2 1; 1: X1 = X2 2; 2: 0 or 1; 3: X1 ⊆ X0; 4: 2 and 3; 5: X2 ⊆ X0; 6: not 5; 7: 4 and 6;
--- 8: exists X1: 7; 9: exists X2: 8; 10: not 9
+-- "those with label 0 above two empty branches included": the records of X0 has every prefix of its members. 0: X1 = X2 1; 1: X1 = X2 2; 2: 0 or 1;
+-- 3: X1 ⊆ X0; 4: 2 and 3; 5: X2 ⊆ X0; 6: not 5; 7: 4 and 6; 8: exists X1: 7; 9: exists X2: 8; 10: not 9; its strip; and the strip of the same with
+-- X1 ⊆ X0 and X2 ⊆ X0, n = 3
 unfoldable pub prefixes : List ℕ
 prefixes =
     0x13 ∷ 0x0B ∷ 0x20 ∷ 0x20 ∷ 0x8C ∷ 0x08 ∷ 0x26 ∷ 0x00 ∷ 0x04 ∷ 0x00 ∷ 0x80 ∷ 0x70 ∷ 0x40 ∷ 0xC0 ∷ 0x10 ∷ 0x05 ∷ 0x0A ∷ 0x01 ∷ 0xC2 ∷ 0x06 ∷ 0x80
     ∷ 0x21 ∷ 0xE0 ∷ 0x10 ∷ 0x85 ∷ 0x12 ∷ 0x00 ∷ []
 
-unfoldable pub prefixRecords : List Record
-prefixRecords =
-    rec 2 1 2 ∷ rec 3 1 2 ∷ rec 6 0 1 ∷ rec 0 1 0 ∷ rec 7 2 3 ∷ rec 0 2 0 ∷ rec 5 5 0 ∷ rec 7 4 6 ∷ rec 8 1 7 ∷ rec 8 2 8 ∷ rec 5 9 0 ∷ []
+unfoldable pub within : List ℕ
+within =
+    0x13 ∷ 0x0D ∷ 0x20 ∷ 0x20 ∷ 0x8C ∷ 0x08 ∷ 0x26 ∷ 0x00 ∷ 0x04 ∷ 0x00 ∷ 0x80 ∷ 0x70 ∷ 0x40 ∷ 0xC0 ∷ 0x10 ∷ 0x05 ∷ 0x0A ∷ 0x01 ∷ 0xC2 ∷ 0x06 ∷ 0x80
+    ∷ 0x21 ∷ 0xE0 ∷ 0x10 ∷ 0x85 ∷ 0x12 ∷ 0x01 ∷ 0xC5 ∷ 0x03 ∷ 0x71 ∷ 0x61 ∷ 0x40 ∷ []
 
-read : recordsOf prefixes ≡ prefixRecords
+unfoldable pub prefixRecords : List Record → List Record
+prefixRecords rest =
+    rec 2 1 2 ∷ rec 3 1 2 ∷ rec 6 0 1 ∷ rec 0 1 0 ∷ rec 7 2 3 ∷ rec 0 2 0 ∷ rec 5 5 0 ∷ rec 7 4 6 ∷ rec 8 1 7 ∷ rec 8 2 8 ∷ rec 5 9 0 ∷ rest
+
+abbrev pub insideRecords : List Record
+insideRecords = rec 7 10 3 ∷ rec 7 11 5 ∷ []
+
+prefixes-read : recordsOf prefixes ≡ prefixRecords []
 unfolding prefixes prefixRecords recordsOf recordsFrom recordAt bits digits
-read = refl
+prefixes-read = refl
 
-three : (short 3 (drawn 3 (formulaAt prefixRecords (lastOf prefixRecords)))) .count ≡ 3
+within-read : recordsOf within ≡ prefixRecords insideRecords
+unfolding within prefixRecords recordsOf recordsFrom recordAt bits digits
+within-read = refl
+
+abbrev lastIn : List Record → Formula 2
+lastIn rs = formulaAt rs (lastOf rs)
+
+-- the joined machine, written out
+abbrev M : List Record → Table 2
+M rs = short 3 (drawn 3 (lastIn rs))
+
+three : ((M (prefixRecords [])) .count ≡ 3) × ((M (prefixRecords insideRecords)) .count ≡ 3)
 unfolding prefixRecords formulaAt extend formulaOf successorAt decLt listed grid picked written short drawn constructed tableBy join joinBy classes
     merged classOf first numbers apartPairs spread splits splitsAt seeds pairs build productTable projectionTable complementTable codedProduct reach
     closure add successors flat outcomes below elem position numbered bit low sumOf downFrom projection withBit setLow wordOf members select anyOf
     allOf
-three = refl
+three = (refl, refl)
 
-records-good : T (goodFrom 2 3 0 prefixRecords)
+records-good : T (goodFrom 2 3 0 (prefixRecords [])) × T (goodFrom 2 3 0 (prefixRecords insideRecords))
 unfolding prefixRecords goodFrom good
-records-good = tt
+records-good = (tt, tt)
 
-records-least : LeastForRule 2 3 prefixRecords 3
+records-least : LeastForRule 2 3 (prefixRecords []) 3
 unfolding prefixRecords
 records-least =
-    drawn-least 3 (formulaAt prefixRecords (lastOf prefixRecords)) (record-valid 2 3 prefixRecords records-good (lastOf prefixRecords) (lit< tt)) 3 three
+    let rs = prefixRecords [] in drawn-least 3 (lastIn rs) (record-valid 2 3 rs (records-good .0) (lastOf rs) (lit< tt)) 3 (three .0)
 
--- THE LEAST NUMBER of states for the strip's rule is 3
+inside-least : LeastForRule 2 3 (prefixRecords insideRecords) 3
+unfolding prefixRecords
+inside-least =
+    let rs = prefixRecords insideRecords in drawn-least 3 (lastIn rs) (record-valid 2 3 rs (records-good .1) (lastOf rs) (lit< tt)) 3 (three .1)
+
+-- THE LEAST NUMBER of states for each strip's rule is 3
 pub prefix-least : LeastForRule 2 3 (recordsOf prefixes) 3
-prefix-least = subst (λ (rs : List Record). LeastForRule 2 3 rs 3) (sym read) records-least
+prefix-least = subst (λ (rs : List Record). LeastForRule 2 3 rs 3) (sym prefixes-read) records-least
+
+pub within-least : LeastForRule 2 3 (recordsOf within) 3
+within-least = subst (λ (rs : List Record). LeastForRule 2 3 rs 3) (sym within-read) inside-least
+
+-- ---- of the trees of assignments alone, two states would do for the second: a node that is not in X0 is bad, for it has label 0 only above others
+abbrev inFirst : ℕ → Bool
+inFirst l = eqb (l / 4 % 2) 1
+
+twoStates : Machine 2 ℕ
+twoStates = branching 0 (λ l is. cond (inFirst l && allOf (λ q. eqb q 0) is) 0 1) (λ q. eqb q 0)
+
+abbrev N : Machine 2 ℕ
+N = M (prefixRecords insideRecords) .machine
+
+-- but for label 0 above two empty trees, the three states do as the two: they accept alike, and are the empty tree's no more
+fits : ℕ → ℕ → ℕ → Bool
+fits l i j =
+    let q = N .step l (pairOf i j) in
+    (eqb l 0 && (eqb i 0 && eqb j 0)) || (not (eqb q 0) && Bool·beq (N .accepting q) (inFirst l && (N .accepting i && (N .accepting j && true))))
+
+all-fit : T (allOf (λ l. allOf (λ i. allOf (fits l i) (below 3)) (below 3)) (below 8))
+unfolding fits prefixRecords formulaAt extend formulaOf successorAt decLt listed grid picked written short drawn constructed tableBy join joinBy
+    classes merged classOf first numbers apartPairs spread splits splitsAt seeds pairs build productTable projectionTable complementTable codedProduct
+    reach closure add successors flat outcomes below elem position numbered bit low sumOf downFrom projection withBit setLow wordOf members select
+    anyOf allOf
+all-fit = tt
+
+fit : (l i j : ℕ) → l < 8 → i < 3 → j < 3 → T (fits l i j)
+fit l i j hl hi hj =
+    all-elem (fits l i) (below 3) (all-elem (λ i. allOf (fits l i) (below 3)) (below 3)
+    (all-elem (λ l. allOf (λ i. allOf (fits l i) (below 3)) (below 3)) (below 8) all-fit l ((elem-below l 8) .1 hl)) i ((elem-below i 3) .1 hi)) j
+    ((elem-below j 3) .1 hj)
