@@ -7,8 +7,8 @@ use mathlib.Core.List.{List, [], _∷_, map}
 use native.Mathlib.Omega.{arith}
 use native.Mathlib.Decide.{decLt}
 use lib.Dec.{T, T-not, eqb, eqb→eq, lit<}
-use Rattle.logic.specs.Meaning.{Assignment, Formula, Holds}
-use Rattle.logic.specs.Tree.{Tree, empty, node, Proper, TreeOf, downFrom, sumOf, low, bit}
+use Rattle.logic.specs.Meaning.{Branch, Assignment, Formula, Holds}
+use Rattle.logic.specs.Tree.{Tree, empty, node, Proper, branches, downFrom, sumOf, low, bit}
 use Rattle.logic.specs.Trim.{isEmpty, bare, Trimmed}
 use Rattle.logic.specs.Rule.{Record, successorAt, formulaOf, extend, formulaAt, lastOf, good, goodFrom}
 use Rattle.logic.specs.Machine.{Machine, Bounded, run, allOf, anyOf, setLow, withBit}
@@ -23,7 +23,9 @@ use Rattle.logic.proofs.Places.{T→true, true→T}
 use Rattle.logic.proofs.Branches.{all-iff}
 use Rattle.logic.proofs.Connectives.{and-iff, or-iff}
 use Rattle.logic.proofs.Reach.{elem-below}
-use Rattle.logic.proofs.Two.{each, all-elem}
+use Rattle.logic.proofs.Two.{each, two-branches, all-elem}
+use Rattle.logic.specs.Alike.{Full}
+use Rattle.logic.proofs.Tables.{Right}
 use Rattle.logic.proofs.Settle.{run-below}
 use Rattle.logic.proofs.Assignments.{tree-of-trimmed}
 use Rattle.logic.proofs.Rules.{record-valid}
@@ -119,7 +121,7 @@ within-least = subst (λ (rs : List Record). LeastForRule 2 3 rs 3) (sym within-
 abbrev inFirst : ℕ → Bool
 inFirst l = eqb (l / 4 % 2) 1
 
-twoStates : Machine 2 ℕ
+unfoldable pub twoStates : Machine 2 ℕ
 twoStates = branching 0 (λ l is. cond (inFirst l && allOf (λ q. eqb q 0) is) 0 1) (λ q. eqb q 0)
 
 abbrev N : Machine 2 ℕ
@@ -143,3 +145,97 @@ fit l i j hl hi hj =
     all-elem (fits l i) (below 3) (all-elem (λ i. allOf (fits l i) (below 3)) (below 3)
     (all-elem (λ l. allOf (λ i. allOf (fits l i) (below 3)) (below 3)) (below 8) all-fit l ((elem-below l 8) .1 hl)) i ((elem-below i 3) .1 hi)) j
     ((elem-below j 3) .1 hj)
+
+starts : (N .start ≡ 0) × (N .accepting 0 ≡ true)
+unfolding prefixRecords formulaAt extend formulaOf successorAt decLt listed grid picked written short drawn constructed tableBy join joinBy classes
+    merged classOf first numbers apartPairs spread splits splitsAt seeds pairs build productTable projectionTable complementTable codedProduct reach
+    closure add successors flat outcomes below elem position numbered bit low sumOf downFrom projection withBit setLow wordOf members select anyOf
+    allOf
+starts = (refl, refl)
+
+right : Right 3 (lastIn (prefixRecords insideRecords)) (M (prefixRecords insideRecords))
+unfolding prefixRecords
+right =
+    let rs = prefixRecords insideRecords in short-drawn-right 3 (lastIn rs) (record-valid 2 3 rs (records-good .1) (lastOf rs) (lit< tt))
+
+full : Full 3 3 N
+full = subst (λ (c : ℕ). Full 3 c N) (three .1) (right .0, right .2)
+
+both-of : (a b : Bool) → T (a && b) → T a × T b
+both-of a b = (and-iff a b (λ t. t, λ t. t) (λ t. t, λ t. t)) .0
+
+either-of : (a b : Bool) → T (a || b) → T a ⊎ T b
+either-of true b t = inl tt
+either-of false b t = inr t
+
+equal : (a b : Bool) → T (Bool·beq a b) → a ≡ b
+equal true true t = refl
+equal true false t = absurd t
+equal false true t = absurd t
+equal false false t = refl
+
+chosen : (v : Bool) → eqb (cond v 0 1) 0 ≡ v
+chosen true = refl
+chosen false = refl
+
+-- what is not empty has another state than the empty tree
+abbrev Told : Tree 2 → Type 0
+Told t = (N .accepting (run N t) ≡ eqb (run twoStates t) 0) × (T (not (isEmpty t)) → run N t ≡ 0 → ⊥)
+
+empty-of : (t : Tree 2) → Told t → run N t ≡ 0 → T (isEmpty t)
+empty-of t w e = go (isEmpty t) refl
+  where
+    go : (v : Bool) → isEmpty t ≡ v → T v
+    go true d = tt
+    go false d = absurd (w .1 (subst (λ (v : Bool). T (not v)) (sym d) tt) e)
+
+node-told : (l : ℕ) (f : Branch 2 → Tree 2) → Trimmed (node l f) → Proper 3 (node l f) → Told (f one) → Told (f two) → Told (node l f)
+unfolding run Trimmed Proper twoStates allOf fits
+node-told l f r o first-told second-told =
+    ⊎-elim
+    (λ w.
+        let a = both-of (eqb l 0) (eqb i 0 && eqb j 0) w in
+        let b = both-of (eqb i 0) (eqb j 0) (a .1) in
+        absurd (T-not (bare l f) (r .0) ((and-iff (eqb l 0) (allOf (λ b. isEmpty (f b)) (branches 2)) (λ t. t, λ t. t) (λ t. t, λ t. t)) .1
+        (a .0, (all-iff (λ b. isEmpty (f b))) .1 (each (λ b. T (isEmpty (f b)))
+        (empty-of (f one) first-told (eqb→eq i 0 (b .0))) (empty-of (f two) second-told (eqb→eq j 0 (b .1))))))))
+    (λ w.
+        let a = both-of (not (eqb q 0)) (Bool·beq (N .accepting q) (inFirst l && (N .accepting i && (N .accepting j && true)))) w in (
+          ap (N .accepting) step ∙ equal (N .accepting q) _ (a .1)
+              ∙ ap₂ (λ (u v : Bool). inFirst l && (u && (v && true))) (first-told .0) (second-told .0) ∙ sym (chosen _),
+          λ u e. T-not (eqb q 0) (a .0) (subst (λ (z : ℕ). T (eqb z 0)) (sym (sym step ∙ e)) tt),
+        ))
+    (either-of (eqb l 0 && (eqb i 0 && eqb j 0))
+    (not (eqb q 0) && Bool·beq (N .accepting q) (inFirst l && (N .accepting i && (N .accepting j && true)))) (fit l i j (o .0) (run-below 3 3 N full (f one) (o .1 one)) (run-below 3 3 N full (f two) (o .1 two))))
+  where
+    i : ℕ
+    i = run N (f one)
+
+    j : ℕ
+    j = run N (f two)
+
+    q : ℕ
+    q = N .step l (pairOf i j)
+
+    step : N .step l (λ b. run N (f b)) ≡ q
+    step = ap (N .step l) (sym (two-branches (λ b. run N (f b))))
+
+told : (t : Tree 2) → Trimmed t → Proper 3 t → Told t
+unfolding run Trimmed Proper twoStates
+told empty r o = (ap (N .accepting) (starts .0) ∙ starts .1, λ u e. u)
+told (node l f) r o = node-told l f r o (told (f one) (r .1 one) (o .1 one)) (told (f two) (r .1 two) (o .1 two))
+
+-- TWO STATES WOULD DO for the trees of assignments alone
+pub two-would-do : Bounded 3 2 twoStates × DecidesAssigned 3 twoStates (formulaAt (recordsOf within) (lastOf (recordsOf within)))
+unfolding twoStates
+two-would-do = (
+  ((omega arith), λ l h s u. small (inFirst l && allOf (λ q. eqb q 0) (s one ∷ s two ∷ []))),
+  λ t A o.
+      subst (λ (rs : List Record). T (eqb (run twoStates t) 0) ↔ Holds (lastIn rs) A) (sym within-read)
+      (subst (λ (v : Bool). T v ↔ Holds (lastIn (prefixRecords insideRecords)) A) (told t (tree-of-trimmed 3 A t o) (o .proper) .0)
+      (right .1 t (o .proper) A (o .bits))),
+)
+  where
+    small : (v : Bool) → cond v 0 1 < 2
+    small true = omega arith
+    small false = omega arith
