@@ -194,17 +194,19 @@ unfolding run Trimmed Proper twoStates allOf fits
 node-told l f r o first-told second-told =
     ⊎-elim
     (λ w.
-        let a = both-of (eqb l 0) (eqb i 0 && eqb j 0) w in
-        let b = both-of (eqb i 0) (eqb j 0) (a .1) in
-        absurd (T-not (bare l f) (r .0) ((and-iff (eqb l 0) (allOf (λ b. isEmpty (f b)) (branches 2)) (λ t. t, λ t. t) (λ t. t, λ t. t)) .1
-        (a .0, (all-iff (λ b. isEmpty (f b))) .1 (each (λ b. T (isEmpty (f b)))
-        (empty-of (f one) first-told (eqb→eq i 0 (b .0))) (empty-of (f two) second-told (eqb→eq j 0 (b .1))))))))
+    let a = both-of (eqb l 0) (eqb i 0 && eqb j 0) w in
+    let b = both-of (eqb i 0) (eqb j 0) (a .1) in
+    absurd (T-not (bare l f) (r .0) ((and-iff (eqb l 0) (allOf (λ b. isEmpty (f b)) (branches 2)) (λ t. t, λ t. t) (λ t. t, λ t. t)) .1 (
+      a .0,
+      (all-iff (λ b. isEmpty (f b))) .1 (each (λ b. T (isEmpty (f b)))
+          (empty-of (f one) first-told (eqb→eq i 0 (b .0))) (empty-of (f two) second-told (eqb→eq j 0 (b .1)))),
+    ))))
     (λ w.
-        let a = both-of (not (eqb q 0)) (Bool·beq (N .accepting q) (inFirst l && (N .accepting i && (N .accepting j && true)))) w in (
-          ap (N .accepting) step ∙ equal (N .accepting q) _ (a .1)
-              ∙ ap₂ (λ (u v : Bool). inFirst l && (u && (v && true))) (first-told .0) (second-told .0) ∙ sym (chosen _),
-          λ u e. T-not (eqb q 0) (a .0) (subst (λ (z : ℕ). T (eqb z 0)) (sym (sym step ∙ e)) tt),
-        ))
+    let a = both-of (not (eqb q 0)) (Bool·beq (N .accepting q) (inFirst l && (N .accepting i && (N .accepting j && true)))) w in (
+      ap (N .accepting) step ∙ equal (N .accepting q) _ (a .1)
+          ∙ ap₂ (λ (u v : Bool). inFirst l && (u && (v && true))) (first-told .0) (second-told .0) ∙ sym (chosen _),
+      λ u e. T-not (eqb q 0) (a .0) (subst (λ (z : ℕ). T (eqb z 0)) (sym (sym step ∙ e)) tt),
+    ))
     (either-of (eqb l 0 && (eqb i 0 && eqb j 0))
     (not (eqb q 0) && Bool·beq (N .accepting q) (inFirst l && (N .accepting i && (N .accepting j && true)))) (fit l i j (o .0) (run-below 3 3 N full (f one) (o .1 one)) (run-below 3 3 N full (f two) (o .1 two))))
   where

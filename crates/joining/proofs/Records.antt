@@ -20,13 +20,17 @@ module _ {x : Decoded} {s : Shape} {r : ℕ} {kf kg k : Summary} {ws built : Lis
       let v = j m (w .2 .stored) in
       record {
         many = λ l. absurd (let e = v .stored .count in let b = v .stored .few in omega arith);
-        few = λ l. (m, w .1, record {
-          stored = v .stored;
-          bytes = λ zero q hq.
-              let e = v .looks in
-              v .bytes q hq (w .2 .bytes q hq ∙ ap (shareByte s (k .looks) (m .count) (m .step) q) (zero q hq))
-              ∙ rw (zero q hq, e);
-        });
+        few = λ l. (
+          m,
+          w .1,
+          record {
+            stored = v .stored;
+            bytes = λ zero q hq.
+                let e = v .looks in
+                v .bytes q hq (w .2 .bytes q hq ∙ ap (shareByte s (k .looks) (m .count) (m .step) q) (zero q hq))
+                ∙ rw (zero q hq, e);
+          },
+        );
         looks = λ l. v .looks ∙ (a f g u) .looks h;
       }
 

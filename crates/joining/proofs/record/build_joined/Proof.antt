@@ -23,8 +23,7 @@ returns c =
 returns-2 : tie.Need-returns-2
 returns-2 c =
     let j = c .before .before in
-    let b = j .before .before .before .before .before .before in
-    (
+    let b = j .before .before .before .before .before .before in (
       adds-joined (b .build-next .ensures .0) (b .build-next .ensures .1) (j .before .before .if1 .left) (j .join-states .ensures .0),
       spared-both (b .build-next .ensures .0) (b .build-next .ensures .1) (j .join-states .ensures .1),
     )
