@@ -1,37 +1,40 @@
 -- THE JOINED MACHINE IS STORED: a table joined in place holds the joined machine. Assumes nothing.
 use Rattle.words.proofs.Vocabulary.{ℕ, _≤_, _<_, _+_, _-_, _%_, _^_, suc, zero, Bool, true, false, _&&_, _≡_, _∙_, refl, sym, ap, ap₂, subst, ⊎-elim, inl, inr, _⊎_}
 use Rattle.words.proofs.Vocabulary.{List, [], _∷_, _++_, map, length, getD, take, drop, length-take-le, List·getD-append, getD-take, getD-drop, T, eqb, ltb, ltb-true, eqb-true, eqb-false, arith}
+use Rattle.words.proofs.Vocabulary.{length-drop, length-append, length-map, append-assoc, drop-drop, leb, cond, leb-true, and-false, decLt, getD-append-seam, eq-or-lt-of-le}
 use native.Mathlib.Nat.{mod-eq-of-lt}
 use mathlib.Core.Bool.{true≢false}
 use lib.Seq.{getD-append-add, drop-append-seam}
-use Rattle.words.proofs.Vocabulary.{length-drop, length-append, append-assoc, drop-drop}
 use Rattle.words.specs.Word.{mem, wordWhere}
-use Rattle.words.proofs.Any.{and-cong}
+use Rattle.words.proofs.Any.{and-both, and-cong}
 use Rattle.words.proofs.WordLaws.{word-cong}
-use Rattle.layout.specs.Shape.{Shaped, labelsIn, shareOf, shareAt, placeIn, labelAt, tupleAt, Tuple}
+use Rattle.layout.specs.Shape.{Shaped, labelsIn, shareOf, shareAt, placeIn, labelAt, tupleAt, Each, nil, cons, Tuple}
 use Rattle.layout.specs.declared.Shape.{Shape}
-use Rattle.layout.proofs.Places.{each-imp, pair-in, pairs-of, place-in, place-at, states-at, label-at, tuple-up}
+use Rattle.layout.proofs.Places.{each-imp, each-map, pair-in, pair-of, place-in, place-at, states-at, label-at, tuple-up}
 use Rattle.table.specs.Entry.{Step, seen, entry, through}
 use Rattle.table.proofs.Masks.{seen-le, seen-seen}
+use Rattle.logic.specs.Meaning.{Branch}
 use Rattle.logic.specs.Machine.{Machine, Bounded}
 use Rattle.logic.specs.Two.{one, two, pairOf}
 use Rattle.logic.specs.Reach.{elem, select, position}
-use Rattle.logic.proofs.Numbered.{position-lt}
+use Rattle.logic.proofs.Two.{each}
+use Rattle.logic.proofs.Numbered.{position-lt, getD-elem}
+use Rattle.logic.proofs.Counts.{position-getD}
 use Rattle.records.specs.Machine.{TableHolds, shareByte}
-use Rattle.words.proofs.Vocabulary.{leb, cond, leb-true, and-false}
-use Rattle.exploring.specs.Explore.{areBelow}
-use Rattle.exploring.proofs.Grow.{are-below, each-below}
 use Rattle.records.specs.Rule.{Mach, machOf, Stored, Spared}
 use Rattle.records.specs.declared.Summary.{Summary}
+use Rattle.exploring.specs.Explore.{areBelow}
+use Rattle.exploring.proofs.Grow.{are-below, each-below}
 use Rattle.logic.specs.Joined.{classes, numbers}
 use Rattle.joining.specs.Classes.{classIn}
-use Rattle.joining.specs.Parting.{stateIn, Settled}
-use Rattle.joining.specs.Numbering.{leadersOf, acceptIn, Whole}
-use Rattle.joining.specs.Rewriting.{joinedEntry, joinedByte}
+use Rattle.logic.proofs.Classes.{numbers-distinct}
+use Rattle.joining.specs.Parting.{stateIn, Whole, Settled}
+use Rattle.joining.specs.Numbering.{leadersOf, acceptIn}
+use Rattle.joining.specs.Rewriting.{joinedEntry, joinedByte, Rewritten}
 use Rattle.joining.specs.Joining.{firstLike, firstMembers, joinedOf, JoinedTable, Joins}
-use Rattle.joining.proofs.Alike.{settled-is, settled-whole}
-use Rattle.joining.proofs.Leads.{leader-more, leader-same, leader-iff, leaders-rise, named-few}
-use Rattle.joining.proofs.Rewrites.{joined-in, byte-at}
+use Rattle.joining.proofs.Alike.{Listing, settled-is}
+use Rattle.joining.proofs.Leads.{leader-more, leader-same, leader-iff, leaders-rise, named-few, named-leaders}
+use Rattle.joining.proofs.Rewrites.{byte-at}
 
 -- the same classes: the same first members
 classes-same : (g h : ℕ → ℕ) (n : ℕ) → ((q : ℕ) → q < n → g q ≡ h q) → classes n g ≡ classes n h
@@ -50,6 +53,49 @@ accept-same a b m k F L e d h =
     rw (← e, ← d) (word-cong (λ i. ltb i m && mem (getD F i 0) a) (λ i. ltb i m && mem (getD L i 0) a) 64
     (λ i. and-cong (ltb i m) (mem (getD F i 0) a) (mem (getD L i 0) a) (λ t. ap (λ (x : ℕ). mem x a) (h i (ltb-true i m t)))))
 
+-- as many classes as states: each state is the first member of its own
+all-lead : (g : ℕ → ℕ) (n : ℕ) → n ≤ length (classes n g) → classes n g ≡ numbers n
+unfolding classes numbers select
+all-lead g zero h = refl
+all-lead g (suc n) h = go (eqb (g n) n) refl (all-lead g n)
+  where
+    go : (v : Bool) → eqb (g n) n ≡ v → (n ≤ length (classes n g) → classes n g ≡ numbers n) → classes (suc n) g ≡ numbers n ++ (n ∷ [])
+    go true e ih =
+        let z = leader-more g n (eqb-true (g n) n e) in
+        z ∙ ap (λ (L : List ℕ). L ++ (n ∷ [])) (ih (let y = ap length z in omega (arith, length-append (classes n g) (n ∷ []))))
+    go false e ih = absurd (let z = ap length (leader-same g n (eqb-false (g n) n e)) in omega (arith, (leaders-rise g n) .0))
+
+numbers-long : (n : ℕ) → length (numbers n) ≡ n
+unfolding numbers
+numbers-long zero = refl
+numbers-long (suc n) = length-append (numbers n) (n ∷ []) ∙ (let e = numbers-long n in omega arith)
+
+number-at : (n i : ℕ) → i < n → getD (numbers n) i 0 ≡ i
+unfolding numbers
+number-at zero i h = absurd (omega arith)
+number-at (suc n) i h = ⊎-elim
+    (λ (e : i ≡ n). ap (λ (k : ℕ). getD (numbers n ++ (n ∷ [])) k 0) (e ∙ sym (numbers-long n)) ∙ getD-append-seam (numbers n) n [] 0 ∙ sym e)
+    (λ (l : i < n). List·getD-append (numbers n) (n ∷ []) 0 i (omega (arith, numbers-long n)) ∙ number-at n i l) (eq-or-lt-of-le (omega arith))
+
+-- lists of the same states
+map-same : (f g : ℕ → ℕ) (n : ℕ) {is : List ℕ} → ((i : ℕ) → i < n → f i ≡ g i) → Each (λ (i : ℕ). i < n) is → map f is ≡ map g is
+map-same f g n h nil = refl
+map-same f g n h (cons {x} p e) = let a = h x p in let b = map-same f g n h e in cc
+
+map-self : (f : ℕ → ℕ) (n : ℕ) {is : List ℕ} → ((i : ℕ) → i < n → f i ≡ i) → Each (λ (i : ℕ). i < n) is → map f is ≡ is
+map-self f n h nil = refl
+map-self f n h (cons {x} p e) = let a = h x p in let b = map-self f n h e in cc
+
+-- ---- two branches as a list
+pub pairs-list : (s : Shape) → Shaped s → Listing 2 (λ (x : Branch 2 → ℕ). x one ∷ x two ∷ [])
+pairs-list s h = record {
+  tuple = λ n x u. record { long = refl; below = cons (u one) (cons (u two) nil) };
+  maps = λ g x. refl;
+  onto = λ n is u. pair-of (λ js. (x : Branch 2 → ℕ) × ((d : Branch 2) → x d < n) × ((x one ∷ x two ∷ []) ≡ js))
+      (λ i j hi hj. (pairOf i j, each (λ d. pairOf i j d < n) hi hj, refl)) is u;
+  one = λ x y e. each (λ d. x d ≡ y d) (cc) (cc);
+}
+
 module _ (s : Shape) (shape : Shaped s) (base : ℕ) (m : Mach) (k r : Summary) (ws ws′ t t′ : List ℕ) (old : Stored s base m k ws)
     (from : (q : ℕ) → q < shareOf s → getD t q 0 ≡ getD ws (base + q) 0) (into : (q : ℕ) → q < shareOf s → getD ws′ (base + q) 0 ≡ getD t′ q 0)
     (J : JoinedTable s k t t′ r) where
@@ -62,39 +108,38 @@ module _ (s : Shape) (shape : Shaped s) (base : ℕ) (m : Mach) (k r : Summary) 
   abbrev f : Step
   f = stateIn s t
 
-  -- the table's entries are the machine's steps
-  stored-step : (l : ℕ) → l < labelsIn s → (i j : ℕ) → i < n → j < n → (m .step l (i ∷ j ∷ []) ≡ f (seen b l) (i ∷ j ∷ [])) × (m .step l (i ∷ j ∷ []) < n)
+  -- the table's bytes are the machine's steps
+  byte-is : (l : ℕ) → l < labelsIn s → (is : List ℕ) → Tuple (s .branches) n is → (getD t (placeIn s (seen b l) is) 0 ≡ m .step l is) × (m .step l is < n)
   unfolding entry through
-  stored-step l h i j hi hj =
-      let w = old .holds l (i ∷ j ∷ []) h (pair-in s shape hi hj) in
-      let p = place-in s (seen b l) (i ∷ j ∷ []) (omega (arith, seen-le b l)) (pair-in s shape (omega (arith, old .few)) (omega (arith, old .few))) in
-      let e : getD t (placeIn s (seen b l) (i ∷ j ∷ [])) 0 ≡ m .step l (i ∷ j ∷ []) = from (placeIn s (seen b l) (i ∷ j ∷ [])) p ∙ w .0 in
-      (sym (mod-eq-of-lt (omega (arith, w .1, old .few, shape .ceiling))) ∙ ap (λ (x : ℕ). x % 64) (sym e), w .1)
+  byte-is l h is u =
+      let w = old .holds l is h u in
+      let p = place-in s (seen b l) is (omega (arith, seen-le b l)) (tuple-up (old .few) u) in
+      (from (placeIn s (seen b l) is) p ∙ w .0, w .1)
+
+  stored-step : (l : ℕ) → l < labelsIn s → (is : List ℕ) → Tuple (s .branches) n is → m .step l is ≡ f (seen b l) is
+  stored-step l h is u =
+      let w = byte-is l h is u in
+      sym (mod-eq-of-lt (omega (arith, w .1, old .few, shape .ceiling))) ∙ ap (λ (x : ℕ). x % 64) (sym (w .0))
 
   abbrev M : Machine 2 ℕ
   M = machOf m
 
   bounded : Bounded (s .variables) n M
-  bounded = (old .some-state, λ l h x u. (stored-step l h (x one) (x two) (u one) (u two)) .1)
-
-  steps : (l : ℕ) → l < 2 ^ s .variables → (i j : ℕ) → i < n → j < n → M .step l (pairOf i j) ≡ f (seen b l) (i ∷ j ∷ [])
-  steps l h i j hi hj = (stored-step l h i j hi hj) .0
-
-  accepts : (q : ℕ) → q < n → M .accepting q ≡ mem q (k .accept)
-  accepts q h = ap (mem q) (sym (old .accept))
+  bounded = (old .some-state, λ l h x u. (byte-is l h (x one ∷ x two ∷ []) (pair-in s shape (u one) (u two))) .1)
 
   abbrev gs : List ℕ
   gs = J .parts
+
+  settled : Settled f 2 n b (labelsIn s) (k .accept) gs
+  settled = subst (λ (j : ℕ). Settled f j n b (labelsIn s) (k .accept) gs) (shape .branches)
+      (subst (λ (c : ℕ). Settled f (s .branches) c b (labelsIn s) (k .accept) gs) (old .count) (J .settled))
 
   -- the classes found are the classes
   found : (q : ℕ) → q < n → classIn gs q ≡ firstLike s m q
   unfolding firstLike
   found q h =
-      settled-is (s .variables) n b (k .accept) M f bounded steps accepts gs
-      (subst (λ (c : ℕ). Settled f c b (labelsIn s) (k .accept) gs) (old .count) (J .settled)) q h
-
-  whole : Whole n gs
-  whole = subst (λ (c : ℕ). Whole c gs) (old .count) (settled-whole f (k .count) b (labelsIn s) (k .accept) gs (J .settled))
+      settled-is (λ (x : Branch 2 → ℕ). x one ∷ x two ∷ []) (pairs-list s shape) (s .variables) n b (k .accept) M f bounded
+      (λ l h x u. stored-step l h (x one ∷ x two ∷ []) (pair-in s shape (u one) (u two))) (λ q h. ap (mem q) (sym (old .accept))) gs settled q h
 
   abbrev L : List ℕ
   L = firstMembers s m
@@ -106,13 +151,19 @@ module _ (s : Shape) (shape : Shaped s) (base : ℕ) (m : Mach) (k r : Summary) 
   abbrev mm : ℕ
   mm = J .names .count
 
+  abbrev F : List ℕ
+  F = J .names .first
+
+  abbrev N : List ℕ
+  N = J .names .number
+
   counted : mm ≡ length L
   counted = J .named .counted ∙ ap length led
 
-  firsts : (i : ℕ) → i < mm → getD (J .names .first) i 0 ≡ getD L i 0
+  firsts : (i : ℕ) → i < mm → getD F i 0 ≡ getD L i 0
   firsts i h = J .named .firsts i (omega (arith, J .named .counted)) ∙ ap (λ (K : List ℕ). getD K i 0) led
 
-  numbers-of : (q : ℕ) → q < n → getD (J .names .number) q 0 ≡ position (firstLike s m q) L
+  numbers-of : (q : ℕ) → q < n → getD N q 0 ≡ position (firstLike s m q) L
   numbers-of q h = J .named .numbers q (omega (arith, old .count)) ∙ ap₂ (λ (x : ℕ) (K : List ℕ). position x K) (found q h) led
 
   -- a state's class has a place among them
@@ -120,7 +171,7 @@ module _ (s : Shape) (shape : Shaped s) (base : ℕ) (m : Mach) (k r : Summary) 
   among q h =
       subst (λ (K : List ℕ). T (elem (firstLike s m q) K)) (ap (λ (c : ℕ). leadersOf c gs) (sym (old .count)) ∙ led)
       (subst (λ (x : ℕ). T (elem x (leadersOf n gs))) (found q h)
-      ((leader-iff (classIn gs) n (classIn gs q)) .1 (omega (arith, whole .low q h), whole .own q h)))
+      ((leader-iff (classIn gs) n (classIn gs q)) .1 (let a = J .settled .whole .low q in omega arith, J .settled .whole .own q)))
 
   few-classes : mm ≤ n
   few-classes = omega (arith, named-few (k .count) gs (J .names) (J .named), old .count)
@@ -133,33 +184,89 @@ module _ (s : Shape) (shape : Shaped s) (base : ℕ) (m : Mach) (k r : Summary) 
       omega (arith, old .count)
 
   -- an entry of the joined machine, at a label that the table has entries at
-  own-entry : (l : ℕ) → l < labelsIn s → (i j : ℕ) → i < mm → j < mm
-      → (joinedEntry s mm (J .names .first) (J .names .number) t (seen b l) (i ∷ j ∷ []) ≡ (joinedOf s m) .step l (i ∷ j ∷ [])) × ((joinedOf s m) .step l (i ∷ j ∷ []) < length L)
-  own-entry l h i j hi hj =
-      let F : List ℕ = J .names .first in
-      let N : List ℕ = J .names .number in
-      let st = stored-step l h (getD L i 0) (getD L j 0) (leader-in i hi) (leader-in j hj) in
-      let x : ℕ = m .step l (getD L i 0 ∷ getD L j 0 ∷ []) in (
-        sym (joined-in s mm F N t (seen b l) i j hi hj)
-            ∙ ap₂ (λ (y z : ℕ). getD N (f (seen b l) (y ∷ z ∷ [])) 0) (firsts i hi) (firsts j hj)
-            ∙ ap (λ (y : ℕ). getD N y 0) (sym (st .0))
-            ∙ numbers-of x (st .1),
-        position-lt (firstLike s m x) L (among x (st .1)),
+  own-entry : (l : ℕ) → l < labelsIn s → (is : List ℕ) → Tuple (s .branches) mm is
+      → (joinedEntry s mm F N t (seen b l) is ≡ (joinedOf s m) .step l is) × ((joinedOf s m) .step l is < length L)
+  own-entry l h is u =
+      let js : List ℕ = map (λ i. getD L i 0) is in
+      let v : Tuple (s .branches) n js = record { long = length-map is (λ i. getD L i 0) ∙ u .long; below = each-map (λ (i : ℕ). i < n) (λ i. getD L i 0) leader-in (u .below) } in
+      let x : ℕ = m .step l js in
+      let lt : x < n = (byte-is l h js v) .1 in (
+        rw (are-below mm (u .below)) (ap (λ (ks : List ℕ). getD N (f (seen b l) ks) 0) (map-same (λ i. getD F i 0) (λ i. getD L i 0) mm firsts (u .below))
+            ∙ ap (λ (y : ℕ). getD N y 0) (sym (stored-step l h js v)) ∙ numbers-of x lt),
+        position-lt (firstLike s m x) L (among x lt),
       )
 
-  joined-step : (l : ℕ) → l < labelsIn s → (i j : ℕ) → i < mm → j < mm
-      → (entry s ws′ base (seen b l) (i ∷ j ∷ []) ≡ (joinedOf s m) .step l (i ∷ j ∷ [])) × ((joinedOf s m) .step l (i ∷ j ∷ []) < length L)
-  unfolding entry through
-  joined-step l h i j hi hj =
+  -- ---- where no class has two states, the table is that of the joined machine already
+  module _ (all : n ≤ mm) where
+    every : L ≡ numbers n
+    unfolding firstMembers
+    every = all-lead (firstLike s m) n (omega (arith, counted))
+
+    self-first : (i : ℕ) → i < n → getD F i 0 ≡ i
+    self-first i h = firsts i (omega arith) ∙ ap (λ (K : List ℕ). getD K i 0) every ∙ number-at n i h
+
+    self-like : (q : ℕ) → q < n → firstLike s m q ≡ q
+    unfolding firstMembers
+    self-like q h =
+        ((leader-iff (firstLike s m) n q) .0 (subst (λ (K : List ℕ). T (elem q K)) (sym every)
+        (subst (λ (x : ℕ). T (elem x (numbers n))) (number-at n q h) (getD-elem (numbers n) q (omega (arith, numbers-long n)))))) .1
+
+    self-number : (q : ℕ) → q < n → getD N q 0 ≡ q
+    self-number q h =
+        numbers-of q h ∙ ap₂ (λ (x : ℕ) (K : List ℕ). position x K) (self-like q h) every
+        ∙ ap (λ (x : ℕ). position x (numbers n)) (sym (number-at n q h)) ∙ position-getD (numbers n) (numbers-distinct n) q (omega (arith, numbers-long n))
+
+    same-byte : (q : ℕ) → q < shareOf s → getD t q 0 ≡ joinedByte s b (k .count) mm F N t q
+    unfolding joinedByte
+    same-byte q h = go (leb l (seen b l) && areBelow (k .count) is) refl
+      where
+        l : ℕ
+        l = labelAt s q
+
+        is : List ℕ
+        is = tupleAt s q
+
+        go : (v : Bool) → (leb l (seen b l) && areBelow (k .count) is) ≡ v → getD t q 0 ≡ cond v (joinedEntry s mm F N t l is) (getD t q 0)
+        go false e = refl
+        go true e =
+            let w = and-both (leb l (seen b l)) (areBelow (k .count) is) e in
+            let hl = label-at s (shape .some-state) q h in
+            let o : seen b l ≡ l = omega (arith, leb-true l (seen b l) (w .0), seen-le b l) in
+            let below : Each (λ (i : ℕ). i < n) is = each-imp (λ i x. omega (arith, old .count)) (each-below (k .count) is (w .1)) in
+            let u : Tuple (s .branches) n is = record { long = (states-at s (shape .some-state) q) .long; below = below } in
+            let x : ℕ = m .step l is in
+            let y = byte-is l hl is u in
+            let here : getD t q 0 ≡ x = ap (λ (p : ℕ). getD t p 0) (sym (place-at s q) ∙ ap (λ (i : ℕ). placeIn s i is) (sym o)) ∙ y .0 in
+            here ∙ sym (rw (are-below mm (each-imp (λ i z. omega arith) below))
+            (ap (λ (js : List ℕ). getD N (f l js) 0) (map-self (λ i. getD F i 0) n self-first below) ∙ ap (λ (i : ℕ). getD N (f i is) 0) (sym o)
+            ∙ ap (λ (y : ℕ). getD N y 0) (sym (stored-step l hl is u)) ∙ self-number x (y .1)))
+
+  -- either way the bytes are those of the joined machine
+  rewritten : Rewritten (joinedByte s b (k .count) mm F N t) (shareOf s) t t′
+  rewritten = elim (decLt mm (k .count)) [
+    | yes l ↦ J .bytes l
+    | no l ↦
+        let e = J .kept (omega arith) in
+        record {
+          long = ap length e;
+          done = λ q h. ap (λ (u : List ℕ). getD u q 0) e ∙ same-byte (omega (arith, old .count)) q h;
+          rest = λ q h. ap (λ (u : List ℕ). getD u q 0) e;
+        }
+  ]
+
+  joined-step : (l : ℕ) → l < labelsIn s → (is : List ℕ) → Tuple (s .branches) mm is
+      → (entry s ws′ base (seen b l) is ≡ (joinedOf s m) .step l is) × ((joinedOf s m) .step l is < length L)
+  unfolding entry
+  joined-step l h is u =
       let few = few-classes in
       let o : ℕ = seen b l in
       let own : o ≤ seen b o = omega (arith, seen-seen b l) in
-      let p = place-in s o (i ∷ j ∷ []) (omega (arith, seen-le b l)) (pair-in s shape (omega (arith, old .few)) (omega (arith, old .few))) in
-      let e = own-entry l h i j hi hj in (
-        into (placeIn s o (i ∷ j ∷ [])) p
-            ∙ J .bytes .done (placeIn s o (i ∷ j ∷ [])) p
-            ∙ byte-at s shape b (k .count) mm (J .names .first) (J .names .number) t o i j (omega (arith, old .few, old .count)) own (omega (arith, old .count)) (omega (arith, old .count))
-            ∙ e .0,
+      let v : Tuple (s .branches) (k .count) is = tuple-up (omega (arith, old .count)) u in
+      let c : k .count ≤ s .ceiling = omega (arith, old .count, old .few) in
+      let p = place-in s o is (omega (arith, seen-le b l)) (tuple-up c v) in
+      let e = own-entry l h is u in (
+        into (placeIn s o is) p ∙ rewritten .done (placeIn s o is) p
+            ∙ byte-at s shape mm (k .count) F N (named-leaders (k .count) gs (J .names) (J .named) (J .settled .whole)) b c t o is own v ∙ e .0,
         e .1,
       )
 
@@ -168,30 +275,24 @@ module _ (s : Shape) (shape : Shaped s) (base : ℕ) (m : Mach) (k r : Summary) 
   unfolding through
   joined-stored = record {
     count = J .count ∙ counted;
-    accept = J .accept ∙ accept-same (k .accept) (m .accept) mm (length L) (J .names .first) L (old .accept) counted firsts;
-    holds = subst (λ (c : ℕ). TableHolds s ws′ base c (length L) ((joinedOf s m) .step)) (sym (J .looks)) (λ l is h u.
-        pairs-of s shape (λ is. (entry s ws′ base (seen b l) is ≡ (joinedOf s m) .step l is) × ((joinedOf s m) .step l is < length L))
-        (λ i j hi hj. joined-step l h i j (omega (arith, counted)) (omega (arith, counted))) is u);
+    accept = J .accept ∙ accept-same (k .accept) (m .accept) mm (length L) F L (old .accept) counted firsts;
+    holds = subst (λ (c : ℕ). TableHolds s ws′ base c (length L) ((joinedOf s m) .step)) (sym (J .looks))
+        (λ l is h u. joined-step l h is (subst (λ (c : ℕ). Tuple (s .branches) c is) (sym counted) u));
     some-state = omega (arith, position-lt (firstLike s m 0) L (among 0 (old .some-state)));
     few = omega (arith, counted, few-classes, old .few);
   }
 
   -- ---- the bytes, over a share that was 0 where the old machine had no entry
-  joined-byte : (q : ℕ) → q < shareOf s → getD ws (base + q) 0 ≡ shareByte s b n (m .step) q 0
+  pub joined-byte : (q : ℕ) → q < shareOf s → getD ws (base + q) 0 ≡ shareByte s b n (m .step) q 0
       → getD ws′ (base + q) 0 ≡ shareByte s b (length L) ((joinedOf s m) .step) q 0
-  unfolding joinedByte shareByte
-  joined-byte q h e =
-      into q h ∙ J .bytes .done q h
-      ∙ go (leb l (seen b l)) (areBelow (k .count) is) (areBelow mm is) refl refl refl
+  unfolding shareByte joinedByte
+  joined-byte q h e = into q h ∙ rewritten .done q h ∙ go (leb l (seen b l)) (areBelow (k .count) is) (areBelow mm is) refl refl refl
     where
       l : ℕ
       l = labelAt s q
 
       is : List ℕ
       is = tupleAt s q
-
-      here : placeIn s l is ≡ q
-      here = place-at s q
 
       was : (u v : Bool) → leb l (seen b l) ≡ u → areBelow n is ≡ v → (u && v) ≡ false → getD t q 0 ≡ 0
       was u v x y z = from q h ∙ e ∙ rw (x, y, z) refl
@@ -202,19 +303,17 @@ module _ (s : Shape) (shape : Shaped s) (base : ℕ) (m : Mach) (k r : Summary) 
       fewer : areBelow mm is ≡ true → areBelow n is ≡ true
       fewer y = are-below n (each-imp (λ i x. omega (arith, few-classes)) (each-below mm is y))
 
-      entry-here : leb l (seen b l) ≡ true → areBelow mm is ≡ true → joinedEntry s mm (J .names .first) (J .names .number) t l is ≡ (joinedOf s m) .step l is
+      entry-here : leb l (seen b l) ≡ true → areBelow mm is ≡ true → joinedEntry s mm F N t l is ≡ (joinedOf s m) .step l is
       entry-here x y =
           let o : seen b l ≡ l = omega (arith, leb-true l (seen b l) x, seen-le b l) in
-          pairs-of s shape (λ js. joinedEntry s mm (J .names .first) (J .names .number) t l js ≡ (joinedOf s m) .step l js)
-          (λ i j hi hj. subst (λ (z : ℕ). joinedEntry s mm (J .names .first) (J .names .number) t z (i ∷ j ∷ []) ≡ (joinedOf s m) .step l (i ∷ j ∷ [])) o
-          ((own-entry l (label-at s (shape .some-state) q h) i j hi hj) .0)) is
-          (record { long = (states-at s (shape .some-state) q) .long; below = each-below mm is y })
+          subst (λ (z : ℕ). joinedEntry s mm F N t z is ≡ (joinedOf s m) .step l is) o
+          ((own-entry l (label-at s (shape .some-state) q h) is (record { long = (states-at s (shape .some-state) q) .long; below = each-below mm is y })) .0)
 
       new : (w : Bool) → areBelow mm is ≡ w → areBelow (length L) is ≡ w
       new w z = ap (λ (c : ℕ). areBelow c is) (sym counted) ∙ z
 
       go : (u v w : Bool) → leb l (seen b l) ≡ u → areBelow (k .count) is ≡ v → areBelow mm is ≡ w
-          → cond (leb l (seen b l) && areBelow (k .count) is) (joinedEntry s mm (J .names .first) (J .names .number) t l is) (getD t q 0)
+          → cond (leb l (seen b l) && areBelow (k .count) is) (joinedEntry s mm F N t l is) (getD t q 0)
           ≡ cond (leb l (seen b l) && areBelow (length L) is) ((joinedOf s m) .step l is) 0
       go true true true x y z = rw (x, y, new true z) (entry-here x z)
       go true true false x y z = rw (x, y, new false z, z) refl
@@ -235,12 +334,15 @@ module _ (a k : ℕ) (xs ys : List ℕ) (h : a + k ≤ length xs) where
       ap (λ (z : ℕ). getD (take a xs ++ (ys ++ drop k (drop a xs))) (z + q) 0) (sym (length-take-le a xs (omega arith)))
       ∙ getD-append-add (take a xs) (ys ++ drop k (drop a xs)) q 0 ∙ List·getD-append ys (drop k (drop a xs)) 0 q (omega arith)
 
+joined-long : (s : Shape) (k : Summary) (t u : List ℕ) (r : Summary) → JoinedTable s k t u r → length u ≡ length t
+joined-long s k t u r J = elim (decLt (J .names .count) (k .count)) [ yes l ↦ J .bytes l .long | no l ↦ ap length (J .kept (omega arith)) ]
+
 -- record r's share is joined, and nothing else is changed
 pub states-joined : (s : Shape) → Shaped s → (r : ℕ) (k q : Summary) (ws t : List ℕ) (a e : ℕ) → a ≡ shareAt s r → e ≡ shareOf s → shareAt s r + shareOf s ≤ length ws
     → JoinedTable s k (take e (drop a ws)) t q → Joins s r k q ws (take a ws ++ (t ++ drop e (drop a ws))) × Spared s r ws (take a ws ++ (t ++ drop e (drop a ws)))
 states-joined s h r k q ws t a e ea ee room J =
     let fits : a + e ≤ length ws = omega arith in
-    let long : length t ≡ e = J .bytes .long ∙ length-take-le e (drop a ws) (omega (arith, length-drop a ws)) in
+    let long : length t ≡ e = joined-long s k (take e (drop a ws)) t q J ∙ length-take-le e (drop a ws) (omega (arith, length-drop a ws)) in
     let ws′ : List ℕ = take a ws ++ (t ++ drop e (drop a ws)) in
     let from : (x : ℕ) → x < shareOf s → getD (take e (drop a ws)) x 0 ≡ getD ws (shareAt s r + x) 0 =
     λ x b. mid-at a e ws t fits x (omega arith) ∙ ap (λ (z : ℕ). getD ws (z + x) 0) ea in

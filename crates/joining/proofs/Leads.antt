@@ -10,7 +10,8 @@ use Rattle.logic.proofs.Places.{true→T, T→true}
 use Rattle.logic.specs.Joined.{numbers, classes}
 use Rattle.joining.specs.Classes.{classIn}
 use Rattle.logic.proofs.Classes.{elem-numbers}
-use Rattle.joining.specs.Numbering.{leadersOf, Whole, Numbers}
+use Rattle.joining.specs.Parting.{Whole}
+use Rattle.joining.specs.Numbering.{leadersOf, Numbers}
 use Rattle.joining.specs.Rewriting.{Leaders}
 use Rattle.joining.specs.declared.classes.Numbered.{Numbered}
 
@@ -26,6 +27,11 @@ select-append g (q ∷ L) N = go (g q) (select-append g L N)
 append-none : (L : List ℕ) → L ++ [] ≡ L
 append-none [] = refl
 append-none (q ∷ L) = ap (λ (M : List ℕ). q ∷ M) (append-none L)
+
+pub position-some : (x : ℕ) (L : List ℕ) → T (elem x L) → 0 < length L
+unfolding elem
+position-some x [] t = absurd t
+position-some x (q ∷ L) t = omega arith
 
 -- ---- positions
 pub position-keeps : (x : ℕ) (L N : List ℕ) → T (elem x L) → position x (L ++ N) ≡ position x L
@@ -100,7 +106,7 @@ pub record CountedIn (L gs first number : List ℕ) (m q : ℕ) : Type 0 where
 abbrev pub Counted : List ℕ → List ℕ → List ℕ → ℕ → ℕ → Type 0
 Counted gs first number m q = CountedIn (classes q (classIn gs)) gs first number m q
 
-module _ (n : ℕ) (gs first number : List ℕ) (m q : ℕ) (few : n ≤ 64) (w : Whole n gs) (h : q < n) (c : Counted gs first number m q) where
+module _ (n : ℕ) (gs first number : List ℕ) (m q : ℕ) (few : n ≤ 64) (w : Whole gs) (h : q < n) (c : Counted gs first number m q) where
   abbrev g : ℕ → ℕ
   g = classIn gs
 
@@ -108,7 +114,7 @@ module _ (n : ℕ) (gs first number : List ℕ) (m q : ℕ) (few : n ≤ 64) (w 
   few-leaders = omega (arith, c .counted, (leaders-rise g q) .0)
 
   led : (r : ℕ) → r < q → T (elem (g r) (classes q g))
-  led r b = (leader-iff g q (g r)) .1 (omega (arith, w .low r (omega arith)), w .own r (omega arith))
+  led r b = (leader-iff g q (g r)) .1 (omega (arith, w .low r), w .own r)
 
   pub count-leader : g q ≡ q → Counted gs (set first m q) (set number q m) (m + 1) (suc q)
   count-leader e =
@@ -136,7 +142,7 @@ module _ (n : ℕ) (gs first number : List ℕ) (m q : ℕ) (few : n ≤ 64) (w 
       let L : List ℕ = classes q g in
       let x : classes (suc q) g ≡ L = leader-same g q d in
       let v : ℕ = getD number (g q) 0 in
-      let b : g q < q = omega (arith, w .low q h) in
+      let b : g q < q = omega (arith, w .low q) in
       subst (λ (K : List ℕ). CountedIn K gs first (set number q v) m (suc q)) (sym x) (record {
         counted = c .counted;
         room = c .room;
@@ -144,18 +150,36 @@ module _ (n : ℕ) (gs first number : List ℕ) (m q : ℕ) (few : n ≤ 64) (w 
         firsts = c .firsts;
         numbers = λ r k. ⊎-elim
             (λ (y : r ≡ q). ap (λ (z : ℕ). getD (set number q v) z 0) y ∙ getD-set-same number q v 0 (omega (arith, c .space)) ∙ c .numbers (g q) b
-            ∙ ap (λ (z : ℕ). position z L) (w .own q h ∙ sym (ap g y)))
+            ∙ ap (λ (z : ℕ). position z L) (w .own q ∙ sym (ap g y)))
             (λ (l : r < q). getD-set-other number q r v 0 (λ z. omega arith) ∙ c .numbers r l)
             (eq-or-lt-of-le (omega arith));
       })
+
+-- state 0 begins the first class
+pub leads-zero : (g : ℕ → ℕ) (n : ℕ) → g 0 ≡ 0 → getD (classes (suc n) g) 0 0 ≡ 0
+unfolding classes numbers select
+leads-zero g zero e = ap (λ (L : List ℕ). getD L 0 0) (leader-more g 0 e)
+leads-zero g (suc n) e = go (eqb (g (suc n)) (suc n)) refl (leads-zero g n e)
+  where
+    some : 0 < length (classes (suc n) g)
+    some = position-some 0 (classes (suc n) g) ((leader-iff g (suc n) 0) .1 (omega arith, e))
+
+    go : (v : Bool) → eqb (g (suc n)) (suc n) ≡ v → getD (classes (suc n) g) 0 0 ≡ 0 → getD (classes (suc (suc n)) g) 0 0 ≡ 0
+    go true x ih = ap (λ (L : List ℕ). getD L 0 0) (leader-more g (suc n) (eqb-true (g (suc n)) (suc n) x)) ∙ List·getD-append (classes (suc n) g) (suc n ∷ []) 0 0 some ∙ ih
+    go false x ih = ap (λ (L : List ℕ). getD L 0 0) (leader-same g (suc n) (eqb-false (g (suc n)) (suc n) x)) ∙ ih
 
 -- what is numbered leads
 module _ (n : ℕ) (gs : List ℕ) (r : Numbered) (w : Numbers n gs r) where
   pub named-few : r .count ≤ n
   named-few = omega (arith, w .counted, (leaders-rise (classIn gs) n) .0)
 
-  pub named-leaders : Leaders (r .count) n (r .first)
-  named-leaders = record {
+  first-zero : (c : ℕ) → c ≡ n → classIn gs 0 ≡ 0 → 0 < length (classes n (classIn gs)) → getD (classes n (classIn gs)) 0 0 ≡ 0
+  first-zero zero e z h = absurd (let l = (leaders-rise (classIn gs) n) .0 in omega arith)
+  first-zero (suc c) e z h = subst (λ (x : ℕ). getD (classes x (classIn gs)) 0 0 ≡ 0) e (leads-zero (classIn gs) c z)
+
+  pub named-leaders : Whole gs → Leaders (r .count) n (r .first)
+  named-leaders W = record {
+    begins = λ h. let b : 0 < length (leadersOf n gs) = omega (arith, w .counted) in w .firsts 0 b ∙ first-zero n refl (let z = W .low 0 in omega arith) b;
     rising = λ i h. let b : i < length (leadersOf n gs) = omega (arith, w .counted) in
         let a = ((leaders-rise (classIn gs) n) .1 i b) .0 in let e = w .firsts i b in omega arith;
     within = λ i h. let b : i < length (leadersOf n gs) = omega (arith, w .counted) in

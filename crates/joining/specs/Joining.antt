@@ -1,4 +1,5 @@
--- The joined machine of a stored one, and what joining leaves in its share. Assumes nothing.
+-- The joined machine of a stored one, and what joining leaves in its share. Document 02, A8: "After each record .. is built, join its
+-- states until no complete deterministic machine with fewer accepts the same trees". Assumes nothing.
 use Prim.Native.Nat.{ℕ, _+_, _≤_, _<_}
 use mathlib.Core.Path.{_≡_}
 use mathlib.Core.List.{List, map}
@@ -31,13 +32,14 @@ joinedOf s m = record {
   accept = acceptIn (m .accept) (length (firstMembers s m)) (firstMembers s m);
 }
 
--- the table t is joined in place to t′, and r is kept
+-- the table t is joined in place to t′, and r is kept: it is rewritten if there are fewer classes than states
 pub record JoinedTable (s : Shape) (k : Summary) (t t′ : List ℕ) (r : Summary) : Type 0 where
   pub parts : List ℕ
-  pub settled : Settled (stateIn s t) (k .count) (k .looks) (labelsIn s) (k .accept) parts
+  pub settled : Settled (stateIn s t) (s .branches) (k .count) (k .looks) (labelsIn s) (k .accept) parts
   pub names : Numbered
   pub named : Numbers (k .count) parts names
-  pub bytes : Rewritten (joinedByte s (k .looks) (k .count) (names .count) (names .first) (names .number) t) (shareOf s) t t′
+  pub bytes : names .count < k .count → Rewritten (joinedByte s (k .looks) (k .count) (names .count) (names .first) (names .number) t) (shareOf s) t t′
+  pub kept : k .count ≤ names .count → t′ ≡ t
   pub count : r .count ≡ names .count
   pub accept : r .accept ≡ acceptIn (k .accept) (names .count) (names .first)
   pub looks : r .looks ≡ k .looks

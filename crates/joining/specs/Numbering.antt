@@ -1,4 +1,5 @@
--- The classes numbered in the order of their first members, and the accepting ones among them. Assumes nothing.
+-- The classes numbered in the order of their first members, and the accepting ones among them. Document 02, A8: "join its states". Assumes
+-- nothing.
 use Prim.Native.Nat.{ℕ, _≤_, _<_}
 use mathlib.Core.Path.{_≡_}
 use mathlib.Core.Bool.{_&&_}
@@ -14,11 +15,6 @@ use Rattle.joining.specs.declared.classes.Numbered.{Numbered}
 -- the first members of the classes, in order
 abbrev pub leadersOf : ℕ → List ℕ → List ℕ
 leadersOf n gs = classes n (classIn gs)
-
--- each class by its first member, which is its own
-pub record Whole (n : ℕ) (gs : List ℕ) : Type 0 where
-  pub low : (q : ℕ) → q < n → classIn gs q ≤ q
-  pub own : (q : ℕ) → q < n → classIn gs (classIn gs q) ≡ classIn gs q
 
 -- so many classes, their first members, and the number of each state's class
 pub record Numbers (n : ℕ) (gs : List ℕ) (r : Numbered) : Type 0 where

@@ -1,19 +1,29 @@
--- Parting the states of a stored machine by what follows them, label by label. A class goes by its first member. Assumes nothing.
-use Prim.Native.Nat.{ℕ, suc, _%_, _≤_, _<_}
+-- Parting the states of a stored machine until those that are together behave alike. Document 02, A8: "join its states until no complete
+-- deterministic machine with fewer accepts the same trees". A class goes by its first member. Assumes nothing.
+use Prim.Native.Nat.{ℕ, zero, suc, _+_, _*_, _%_, _≤_, _<_}
 use mathlib.Core.Path.{_≡_}
-use mathlib.Core.Bool.{Bool, true, false, not, _&&_, _||_, Bool·beq}
-use mathlib.Core.List.{List, [], _∷_}
+use mathlib.Core.Bool.{Bool, true, false, _&&_, Bool·beq}
+use mathlib.Core.List.{List, map}
 use lib.Dec.{eqb}
 use lib.ListN.{length, getD}
-use Rattle.words.specs.Word.{any, mem}
-use Rattle.layout.specs.Shape.{Shaped, labelsIn, shareOf, placeIn}
+use Rattle.words.specs.Word.{mem}
+use Rattle.layout.specs.Shape.{Shaped, labelsIn, shareOf, placeIn, Tuple}
+use Rattle.layout.specs.Slots.{inSlots, FirstSlots}
 use Rattle.layout.specs.declared.Shape.{Shape}
 use Rattle.table.specs.Entry.{Step, seen}
 use Rattle.joining.specs.Classes.{classIn}
 
--- the state at the entry of a table; a byte is read by its last six bits, which are all that a state has
+-- the state at a place of a table; a byte is read by its last six bits, which are all that a state has
+abbrev pub stateAt : List ℕ → ℕ → ℕ
+stateAt t p = getD t p 0 % 64
+
+-- the state at an entry
 abbrev pub stateIn : Shape → List ℕ → Step
-stateIn s t l is = getD t (placeIn s l is) 0 % 64
+stateIn s t l is = stateAt t (placeIn s l is)
+
+-- the class of the state at a place
+abbrev pub classAt : List ℕ → List ℕ → ℕ → ℕ
+classAt gs t p = classIn gs (stateAt t p)
 
 -- t is a share's bytes, and n states are no more than the ceiling
 pub record Span (s : Shape) (t : List ℕ) (n : ℕ) : Type 0 where
@@ -21,27 +31,11 @@ pub record Span (s : Shape) (t : List ℕ) (n : ℕ) : Type 0 where
   pub whole : shareOf s ≤ length t
   pub few : n ≤ s .ceiling
 
--- the table has an entry for label l and the states i and j
-pub record Spot (s : Shape) (t : List ℕ) (l i j : ℕ) : Type 0 where
-  pub shape : Shaped s
-  pub whole : shareOf s ≤ length t
+-- the same with a label, and with states in the first two slots
+pub record RowSpan (s : Shape) (t : List ℕ) (n l a b : ℕ) : Type 0 where
+  pub span : Span s t n
   pub label : l < labelsIn s
-  pub first : i < s .ceiling
-  pub second : j < s .ceiling
-
--- beside the state j and under the label l, p and q are followed by different classes, at one branch or the other
-unfoldable pub differAt : Step → List ℕ → ℕ → ℕ → ℕ → ℕ → Bool
-differAt f gs l p q j =
-    not (eqb (classIn gs (f l (p ∷ j ∷ []))) (classIn gs (f l (q ∷ j ∷ []))))
-    || not (eqb (classIn gs (f l (j ∷ p ∷ []))) (classIn gs (f l (j ∷ q ∷ []))))
-
--- beside some state below n
-unfoldable pub differ : Step → List ℕ → ℕ → ℕ → ℕ → ℕ → Bool
-differ f gs n l p q = any (differAt f gs l p q) n
-
--- p and q are of one class, and label l does not part them
-unfoldable pub stay : Step → List ℕ → ℕ → ℕ → ℕ → ℕ → Bool
-stay f gs n l p q = eqb (classIn gs p) (classIn gs q) && not (differ f gs n l p q)
+  pub slots : FirstSlots (s .branches) n a b
 
 -- r is the first number that passes the test, and no later than q
 pub record FirstSuch (e : ℕ → Bool) (q r : ℕ) : Type 0 where
@@ -49,36 +43,88 @@ pub record FirstSuch (e : ℕ → Bool) (q r : ℕ) : Type 0 where
   pub passes : e r ≡ true
   pub none-before : (p : ℕ) → p < r → e p ≡ false
 
--- a class goes by a member that is no later than any
-abbrev pub Low : ℕ → List ℕ → Type 0
-Low n gs = (q : ℕ) → q < n → classIn gs q ≤ q
+-- no class goes by a later state than its members
+abbrev pub Low : List ℕ → Type 0
+Low gs = (q : ℕ) → classIn gs q ≤ q
 
--- the classes hs are the classes gs, parted by label l
-abbrev pub PartedBy : Step → ℕ → ℕ → List ℕ → List ℕ → Type 0
-PartedBy f n l gs hs = (q : ℕ) → q < n → FirstSuch (λ p. stay f gs n l p q) q (classIn hs q)
+-- a class for each state that a byte can have, by its first member, which is its own
+pub record Whole (gs : List ℕ) : Type 0 where
+  pub long : length gs ≡ 64
+  pub low : Low gs
+  pub own : (q : ℕ) → classIn gs (classIn gs q) ≡ classIn gs q
 
--- the same by the labels below l that have no bit but those given, one after another
-pub data Parted (f : Step) (n bits : ℕ) (gs : List ℕ) : ℕ → List ℕ → Type 0 where
-  begun : Parted f n bits gs 0 gs
-  passed : {l : ℕ} {hs : List ℕ} → Parted f n bits gs l hs → seen bits l < l → Parted f n bits gs (suc l) hs
-  by : {l : ℕ} {hs ks : List ℕ} → Parted f n bits gs l hs → l ≤ seen bits l → PartedBy f n l hs ks → Parted f n bits gs (suc l) ks
+-- the classes of the n states by acceptance alone; there are no others
+pub record SeenBy (accept n : ℕ) (hs : List ℕ) : Type 0 where
+  pub long : length hs ≡ 64
+  pub states : (q : ℕ) → q < n → FirstSuch (λ p. Bool·beq (mem p accept) (mem q accept)) q (classIn hs q)
+  pub beyond : (q : ℕ) → n ≤ q → classIn hs q ≡ 0
 
--- the classes by acceptance alone
-abbrev pub SeenBy : ℕ → ℕ → List ℕ → Type 0
-SeenBy accept n hs = (q : ℕ) → q < n → FirstSuch (λ p. Bool·beq (mem p accept) (mem q accept)) q (classIn hs q)
+-- is p of the class that goes by r, with the key v
+abbrev pub isSuch : (ℕ → ℕ) → List ℕ → ℕ → ℕ → ℕ → Bool
+isSuch key gs r v p = eqb (classIn gs p) r && eqb (key p) v
 
--- has one of the n states another class
-unfoldable pub changed : List ℕ → List ℕ → ℕ → Bool
-changed gs hs n = any (λ q. not (eqb (classIn gs q) (classIn hs q))) n
+-- hs is gs with the class that goes by r split: each of its states below n goes by the first of them with the same key
+pub record SplitBy (key : ℕ → ℕ) (n r : ℕ) (gs hs : List ℕ) : Type 0 where
+  pub long : length hs ≡ length gs
+  pub parted : (q : ℕ) → q < n → classIn gs q ≡ r → FirstSuch (isSuch key gs r (key q)) q (classIn hs q)
+  pub others : (q : ℕ) → (q < n → classIn gs q ≡ r → ⊥) → classIn hs q ≡ classIn gs q
 
--- the classes after any number of rounds over all labels, from acceptance on
-pub data Rounds (f : Step) (n bits labels accept : ℕ) : List ℕ → Type 0 where
-  seenBy : {gs : List ℕ} → SeenBy accept n gs → Rounds f n bits labels accept gs
-  next : {gs hs : List ℕ} → Rounds f n bits labels accept gs → Parted f n bits gs labels hs → Rounds f n bits labels accept hs
+-- names that the steps under label l respect: under it states of the same names lead to one of the same name
+pub record Respected (f : Step) (k n l : ℕ) (name : ℕ → ℕ) : Type 0 where
+  pub inside : (is : List ℕ) → Tuple k n is → f l is < n
+  pub alike : (is js : List ℕ) → Tuple k n is → Tuple k n js → map name is ≡ map name js → name (f l is) ≡ name (f l js)
 
--- the classes after rounds of which the last parted none
-pub record Settled (f : Step) (n bits labels accept : ℕ) (hs : List ℕ) : Type 0 where
-  pub before : List ℕ
-  pub rounds : Rounds f n bits labels accept before
-  pub last : Parted f n bits before labels hs
-  pub same : changed before hs n ≡ false
+-- under every label with no bit but those given
+abbrev pub RespectedBy : Step → ℕ → ℕ → ℕ → ℕ → (ℕ → ℕ) → Type 0
+RespectedBy f k n bits labels name = (l : ℕ) → l < labels → l ≤ seen bits l → Respected f k n l name
+
+-- states of the same name are together
+abbrev pub Keeps : ℕ → (ℕ → ℕ) → List ℕ → Type 0
+Keeps n name gs = (p q : ℕ) → p < n → q < n → name p ≡ name q → classIn gs p ≡ classIn gs q
+
+-- hs parts the classes gs, but not states of the same name, whichever admitted names they have. A class only moves up
+pub record Refines (Admits : (ℕ → ℕ) → Type 0) (n : ℕ) (gs hs : List ℕ) : Type 0 where
+  pub whole : Whole hs
+  pub up : (q : ℕ) → classIn gs q ≤ classIn hs q
+  pub finer : (p q : ℕ) → p < n → q < n → classIn hs p ≡ classIn hs q → classIn gs p ≡ classIn gs q
+  pub keeps : (name : ℕ → ℕ) → Admits name → Keeps n name gs → Keeps n name hs
+
+-- nothing was parted: no class of a byte's states has moved
+abbrev pub Same : List ℕ → List ℕ → Type 0
+Same gs hs = (q : ℕ) → q < 64 → classIn gs q ≡ classIn hs q
+
+-- under label l the states lead to the class to which the first members of their classes do
+abbrev pub Clean : Step → List ℕ → ℕ → List ℕ → Type 0
+Clean f gs l is = classIn gs (f l is) ≡ classIn gs (f l (map (classIn gs) is))
+
+-- all that begin with the states in the first two slots
+abbrev pub CleanRow : Step → ℕ → ℕ → List ℕ → ℕ → ℕ → ℕ → Type 0
+CleanRow f k n gs l a b = (d : ℕ) → d < n → Clean f gs l (inSlots k a b d)
+
+-- all
+abbrev pub CleanLabel : Step → ℕ → ℕ → List ℕ → ℕ → Type 0
+CleanLabel f k n gs l = (is : List ℕ) → Tuple k n is → Clean f gs l is
+
+-- under every label with no bit but those given
+abbrev pub CleanBy : Step → ℕ → ℕ → List ℕ → ℕ → ℕ → Type 0
+CleanBy f k n gs bits labels = (l : ℕ) → l < labels → l ≤ seen bits l → CleanLabel f k n gs l
+
+-- r is the first of n states with which the row leads to another class than the leading row with the state's class, or n
+pub record FirstUnlike (gs t : List ℕ) (n row lead r : ℕ) : Type 0 where
+  pub up-to : r ≤ n
+  pub before : (d : ℕ) → d < r → classAt gs t (row + d) ≡ classAt gs t (lead + classIn gs d)
+  pub there : r < n → classAt gs t (row + r) ≡ classAt gs t (lead + classIn gs r) → ⊥
+
+-- the sum of the first m classes
+unfoldable pub total : List ℕ → ℕ → ℕ
+total gs zero = 0
+total gs (suc m) = total gs m + classIn gs m
+
+-- parted as far as acceptance and the labels with no bit but those given part: what is together stays together under each of these, and
+-- states of the same name are together, whichever names these respect
+pub record Settled (f : Step) (k n bits labels accept : ℕ) (hs : List ℕ) : Type 0 where
+  pub whole : Whole hs
+  pub accepts : (p q : ℕ) → p < n → q < n → classIn hs p ≡ classIn hs q → mem p accept ≡ mem q accept
+  pub clean : CleanBy f k n hs bits labels
+  pub keeps : (name : ℕ → ℕ) → ((p q : ℕ) → p < n → q < n → name p ≡ name q → mem p accept ≡ mem q accept) → RespectedBy f k n bits labels name
+      → Keeps n name hs

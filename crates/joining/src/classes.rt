@@ -1,15 +1,12 @@
-// The classes of the states that behave alike, by parting: from acceptance on, label by label, until no label parts any.
+// Classes of states: one for each byte's state, by its first member.
 ghost use mathlib.Core.Path.{_≡_};
-ghost use mathlib.Core.List.{[], _∷_};
+ghost use mathlib.Core.Bool.{true, false, Bool·beq};
 ghost use Prim.Native.Nat.{ℕ, _≤_, _<_};
-ghost use Rattle.layout.specs.Shape.{Shaped, labelsIn};
-ghost use Rattle.joining.specs.Classes.{classIn};
-ghost use Rattle.joining.specs.Parting.{stateIn, Span, Spot, differ, stay, FirstSuch, Low, PartedBy, Parted, SeenBy, changed, Settled};
-ghost use Rattle.words.specs.Word.{mem};
-ghost use Rattle.joining.specs.Numbering.{Whole, Numbers, acceptIn};
 ghost use lib.ListN.{getD};
-ghost use mathlib.Core.Bool.{Bool·beq};
-use layout::Shape;
+ghost use Rattle.words.specs.Word.{mem};
+ghost use Rattle.joining.specs.Classes.{classIn};
+ghost use Rattle.joining.specs.Parting.{FirstSuch, SeenBy, Whole, total};
+ghost use Rattle.joining.specs.Numbering.{Numbers, acceptIn};
 use words::has;
 use words::with_member;
 
@@ -19,95 +16,11 @@ pub fn wide(x: u8) -> usize
     x as usize
 }
 
-// The class of the state at the entry for label l and the states i and j.
-pub fn class_at(s: Shape, table: &[u8], classes: &[u8; 64], l: usize, i: usize, j: usize) -> u8
-    requires { ⌜ Spot s (now table) l i j ⌝ }
-    ensures { λ r. ⌜ r ≡ classIn (now (classes .entry)) (stateIn s (now (table .entry)) l (i ∷ j ∷ [])) ⌝ }
-{
-    let q = wide(table[layout::place(s, l, i, j)]) % 64;
-    classes[q]
-}
-
-// Are p and q, under label l, followed by different classes beside some state below n, at one branch or the other?
-fn differ(
-    s: Shape,
-    table: &[u8],
-    classes: &[u8; 64],
-    n: usize,
-    l: usize,
-    p: usize,
-    q: usize,
-) -> bool
-    requires { ⌜ Span s (now table) n × (l < labelsIn s) × (p < n) × (q < n) ⌝ }
-    ensures { λ r. ⌜ r ≡ differ (stateIn s (now (table .entry))) (now (classes .entry)) n l p q ⌝ }
-{
-    let mut j = 0;
-    while j < n {
-        if class_at(s, table, classes, l, p, j) != class_at(s, table, classes, l, q, j) {
-            return true;
-        }
-        if class_at(s, table, classes, l, j, p) != class_at(s, table, classes, l, j, q) {
-            return true;
-        }
-        j += 1;
-    }
-    false
-}
-
-// The first state of q's class that label l does not part from q.
-fn leader(s: Shape, table: &[u8], classes: &[u8; 64], n: usize, l: usize, q: usize) -> usize
-    requires { ⌜ Span s (now table) n × (l < labelsIn s) × (q < n) × Low n (now classes) ⌝ }
-    ensures { λ r. ⌜ FirstSuch (λ p. stay (stateIn s (now (table .entry))) (now (classes .entry)) n l p q) q r ⌝ }
-{
-    let mine = classes[q];
-    let mut p = wide(mine);
-    while p < q {
-        if classes[p] == mine {
-            if !differ(s, table, classes, n, l, p, q) {
-                return p;
-            }
-        }
-        p += 1;
-    }
-    q
-}
-
-fn narrow(x: usize) -> u8
+pub fn narrow(x: usize) -> u8
     requires { ⌜ x < 64 ⌝ }
     ensures { λ r. ⌜ r ≡ x ⌝ }
 {
     x as u8
-}
-
-// The classes of the n states, parted by label l.
-fn part_label(s: Shape, table: &[u8], classes: &[u8; 64], n: usize, l: usize) -> [u8; 64]
-    requires { ⌜ Span s (now table) n × (l < labelsIn s) × Low n (now classes) ⌝ }
-    ensures { λ r. ⌜ PartedBy (stateIn s (now (table .entry))) n l (now (classes .entry)) r ⌝ }
-{
-    let mut parted = [0u8; 64];
-    let mut q = 0;
-    while q < n {
-        parted[q] = narrow(leader(s, table, classes, n, l, q));
-        q += 1;
-    }
-    parted
-}
-
-// A round: the classes parted by each label with no bit but those that the machine looks at. Any other has the steps of an earlier one.
-fn round(s: Shape, table: &[u8], looks: usize, classes: [u8; 64], n: usize) -> [u8; 64]
-    requires { ⌜ Span s (now table) n × Low n classes ⌝ }
-    ensures { λ r. ⌜ Parted (stateIn s (now (table .entry))) n looks classes (labelsIn s) r ⌝ }
-{
-    let labels = layout::labels(s);
-    let mut parted = classes;
-    let mut l: usize = 0;
-    while l < labels {
-        if l <= l & looks {
-            parted = part_label(s, table, &parted, n, l);
-        }
-        l += 1;
-    }
-    parted
 }
 
 // The first state that accepts if q does, and does not if q does not.
@@ -128,7 +41,7 @@ fn first_like(accept: u64, q: usize) -> usize
 }
 
 // The classes of the n states by acceptance alone.
-fn by_acceptance(accept: u64, n: usize) -> [u8; 64]
+pub fn by_acceptance(accept: u64, n: usize) -> [u8; 64]
     requires { ⌜ n ≤ 64 ⌝ }
     ensures { λ r. ⌜ SeenBy accept n r ⌝ }
 {
@@ -141,34 +54,32 @@ fn by_acceptance(accept: u64, n: usize) -> [u8; 64]
     classes
 }
 
-// Has one of the n states another class?
-fn changed(old: &[u8; 64], new: &[u8; 64], n: usize) -> bool
+// The sum of the classes. A class only moves up, so the sum tells whether one moved.
+pub fn total(classes: &[u8; 64]) -> usize
+    ensures { λ r. ⌜ r ≡ total (now (classes .entry)) 64 ⌝ }
+{
+    let mut sum: usize = 0;
+    let mut q = 0;
+    while q < 64 {
+        sum += wide(classes[q]);
+        q += 1;
+    }
+    sum
+}
+
+// Is each of the n states alone in its class, so that nothing is left to part?
+pub fn all_single(classes: &[u8; 64], n: usize) -> bool
     requires { ⌜ n ≤ 64 ⌝ }
-    ensures { λ r. ⌜ r ≡ changed (now (old .entry)) (now (new .entry)) n ⌝ }
+    ensures { λ r. ⌜ (r ≡ true → (q : ℕ) → q < n → classIn (now (classes .entry)) q ≡ q) ⌝ }
 {
     let mut q = 0;
     while q < n {
-        if old[q] != new[q] {
-            return true;
+        if wide(classes[q]) != q {
+            return false;
         }
         q += 1;
     }
-    false
-}
-
-// The classes of the n states that behave alike: rounds until one parts none.
-pub fn settled(s: Shape, table: &[u8], looks: usize, n: usize, accept: u64) -> [u8; 64]
-    requires { ⌜ Span s (now table) n ⌝ }
-    ensures { λ r. ⌜ Settled (stateIn s (now (table .entry))) n looks (labelsIn s) accept r ⌝ }
-{
-    let mut classes = by_acceptance(accept, n);
-    loop {
-        let parted = round(s, table, looks, classes, n);
-        if !changed(&classes, &parted, n) {
-            return parted;
-        }
-        classes = parted;
-    }
+    true
 }
 
 // The classes: how many, the first member of each, and the number of each state's.
@@ -180,7 +91,7 @@ pub struct Numbered {
 
 // The classes of the n states, numbered in the order of their first members.
 pub fn number_classes(classes: &[u8; 64], n: usize) -> Numbered
-    requires { ⌜ (n ≤ 64) × Whole n (now classes) ⌝ }
+    requires { ⌜ (n ≤ 64) × Whole (now classes) ⌝ }
     ensures { λ r. ⌜ Numbers n (now (classes .entry)) r ⌝ }
 {
     let mut first = [0u8; 64];

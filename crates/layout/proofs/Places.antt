@@ -68,7 +68,7 @@ pub pairs-of : (s : Shape) → Shaped s → {n : ℕ} (P : List ℕ → Type 0) 
 pairs-of s h P f is t = pair-of P f is (record { long = t .long ∙ h .branches; below = t .below })
 
 -- ---- digits
-pow-step : (c n k : ℕ) → n * c ^ suc k ≡ n * c * c ^ k
+pub pow-step : (c n k : ℕ) → n * c ^ suc k ≡ n * c * c ^ k
 pow-step c n k = rw (pow-succ', mul-assoc)
 
 digits-in : (c n l : ℕ) (is : List ℕ) → l < n → Each (λ (i : ℕ). i < c) is → digitsOf c l is < n * c ^ length is

@@ -3,6 +3,7 @@ ghost use mathlib.Core.Path.{_≡_};
 ghost use Prim.Native.Nat.{_≤_, _<_};
 ghost use mathlib.Core.List.{[], _∷_};
 ghost use Rattle.layout.specs.Shape.{Shaped, shapeOf, labelsIn, placeIn, shareOf, shareAt};
+ghost use Rattle.layout.specs.Slots.{rangeOf, Slotted, slotPlace};
 
 // What the tables of a rule have in common: the number of variables, the state ceiling, and the number of branches of a node.
 pub struct Shape {
@@ -56,4 +57,22 @@ pub fn place(s: Shape, l: usize, i: usize, j: usize) -> usize
 {
     let c = s.ceiling;
     (l * c + i) * c + j
+}
+
+// How many states below n the slot takes that has so many slots after it: state 0 alone, where there are no more than these branches.
+pub fn range(k: usize, after: usize, n: usize) -> usize
+    ensures { λ r. ⌜ r ≡ rangeOf k after n ⌝ }
+{
+    if after < k { n } else { 1 }
+}
+
+// Where the entry for label l and the states in the slots stands in a table.
+pub fn slot_place(s: Shape, l: usize, a: usize, b: usize, d: usize) -> usize
+    requires { ⌜ Shaped s ⌝ }
+    requires { ⌜ (l < 256) × Slotted (s .branches) (s .ceiling) a b d ⌝ }
+    ensures { λ r. ⌜ (r ≡ slotPlace s l a b d) × (r < 67108864) ⌝ }
+{
+    let c = s.ceiling;
+    let k = s.branches;
+    ((l * range(k, 2, c) + a) * range(k, 1, c) + b) * c + d
 }

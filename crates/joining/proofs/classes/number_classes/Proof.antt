@@ -3,13 +3,13 @@ use Rattle.words.proofs.Vocabulary.{ℕ, _≤_, _<_, _-_, suc, _≡_, _∙_, re
 use Rattle.logic.specs.Reach.{select}
 use Rattle.logic.specs.Joined.{classes, numbers}
 use Rattle.joining.specs.Classes.{classIn}
-use Rattle.joining.specs.Numbering.{Whole}
+use Rattle.joining.specs.Parting.{Whole}
 use Rattle.joining.proofs.Leads.{Counted, few-leaders, count-leader, count-other}
 use Rattle.joining.proofs.classes.number_classes.Statement.{statement}
 use Rattle.joining.proofs.classes.number_classes.Tie as tie
 
 abbrev Inv-loop : tie.InvT-loop
-Inv-loop classes n first₀ number₀ m₀ q₀ first number m q = (q ≤ n) × (n ≤ 64) × (m ≤ q) × Whole n classes × Counted classes first number m q
+Inv-loop classes n first₀ number₀ m₀ q₀ first number m q = (q ≤ n) × (n ≤ 64) × (m ≤ q) × Whole classes × Counted classes first number m q
 
 abbrev μ-loop : tie.MeasureT-loop
 μ-loop classes n first₀ number₀ m₀ q₀ first number m q = n - q
@@ -48,7 +48,7 @@ array-read-number : tie.Need-array-read-number Inv-loop μ-loop
 array-read-number c =
     let t = c .before .before .before in
     let h = t .before .loop in
-    omega (arith, c .before .wide .ensures .0, h .inv .3 .low (h .q) (t .loop-test .taken), h .inv .1)
+    omega (arith, c .before .wide .ensures .0, h .inv .3 .low (h .q), h .inv .1)
 
 returns : tie.Need-returns Inv-loop μ-loop
 returns c =
