@@ -182,15 +182,26 @@ static void make_text_request(struct request *r)
         make_typed(&made.text);
 }
 
+/* A rule with states to be joined, or, if parts are to clash, with trials that have more. */
+static void make_joined_rule(struct strip *s, bool clashing)
+{
+    if (clashing && once_in(2))
+        make_three_parts(s);
+    else if (clashing && once_in(2))
+        make_broad_trials(s);
+    else if (once_in(6))
+        make_chain_rule(s);
+    else
+        make_alike_rule(s);
+}
+
 /* A rule, or one that is damaged, or bytes; a new one, if it is not there again. */
 static void make_some_rule(struct strip *s, bool again, bool alike, bool clashing)
 {
     if (again)
         *s = kept.rule;
-    else if (alike && clashing && !once_in(4))
-        make_broad_trials(s);
     else if (alike)
-        make_alike_rule(s);
+        make_joined_rule(s, clashing);
     else if (imported.length && once_in(20))
         *s = imported;
     else if (once_in(12))
@@ -209,7 +220,7 @@ static void make_some_rule(struct strip *s, bool again, bool alike, bool clashin
 
 static void make_rule_and_tree(struct request *r)
 {
-    bool again = kept.there && once_in(4), alike = once_in(8);
+    bool again = kept.there && once_in(4), alike = once_in(6);
     make_some_rule(&made.rule, again, alike, r->operation == OP_clash);
     bool accepted = is_rule(&made.rule), near = accepted && (again ? once_in(4) : alike && !once_in(4));
     r->number[C] = near ? near_least(r->operation, &made.rule) : again && !once_in(3) ? kept.c
@@ -879,7 +890,8 @@ int main(int argc, char **argv)
             say(&r, what, &one, &two);
         }
         count_answer(&r, &two);
-        count_over(&r, &two);
+        if (once_in(3)) /* it asks the oracle again and again */
+            count_over(&r, &two);
     }
     say_answers();
     if (done >= MANY_CALLS && !all_met())

@@ -246,6 +246,48 @@ static inline void make_alike_rule(struct strip *s)
     s->byte[1] = (uint8_t)number;
 }
 
+/* A rule strip whose states are told apart one after the other: that one set has at least
+ * so many members, each a set with one more than another; or that it is so many steps below
+ * the root. */
+static inline void make_chain_rule(struct strip *s)
+{
+    size_t at;
+    bool counted = once_in(2);
+    unsigned steps = 1 + below(once_in(8) ? 20 : 6), relation[2] = { counted ? 4 : 0, counted ? 5 : 1 }, number = counted ? 6 : 3;
+    put_heading(s, &at, 2, 0);
+    for (unsigned i = 0; i < 2; i++)
+        put_record(s, &at, counted ? 0 : 2 + below(2), counted ? i : 1 - i, counted ? 1 - i : i);
+    if (!counted)
+        put_record(s, &at, 4, 0, 0);
+    for (unsigned i = 0; i < 2 && counted; i++)
+        put_record(s, &at, 5, i, 0);
+    for (unsigned i = 0; i < 2 && counted; i++)
+        put_record(s, &at, 7, i, 3 - i);
+    for (unsigned i = 0; i < steps; i++) {
+        unsigned of = relation[i % 2];
+        if (i || !counted) {
+            put_record(s, &at, 7, number - 1, of);
+            of = number++;
+        }
+        put_record(s, &at, 8, i % 2, of);
+        number++;
+    }
+    s->byte[1] = (uint8_t)number;
+}
+
+/* Three atoms joined from the right. A trial joins the first two, which the rule does not. */
+static inline void make_three_parts(struct strip *s)
+{
+    size_t at;
+    put_heading(s, &at, 3, 5);
+    for (unsigned i = 0; i < 3; i++) {
+        unsigned op = once_in(4) ? 4 : once_in(3) ? 0 : 2 + below(2), first = below(3), second = (first + 1 + below(2)) % 3;
+        put_record(s, &at, op, first, names_second_variable(op) ? second : 0);
+    }
+    put_record(s, &at, 7, 1, 2);
+    put_record(s, &at, 7, 0, 3);
+}
+
 /* A rule strip of an atom and its "not", and parts that are joined to these two: it has few
  * states, for nothing is left after the first two, but without one of them it may have many. */
 static inline void make_broad_trials(struct strip *s)
