@@ -29,21 +29,23 @@ module _ (s : Shape) (t : List ℕ) (n : ℕ) (E : Span s t n) where
 
   -- a loop over the second slot
   module _ (l a : ℕ) (ha : a < rangeOf k 2 n) {gs hs ks : List ℕ} {A : (ℕ → ℕ) → Type 0} (v : Refines A n gs hs) (w : Refines A n hs ks) where
-    pub rows-next : (b : ℕ) → b < rangeOf k 1 n → (Same gs hs → (j : ℕ) → j < b → CleanRow f k n hs l a j) → CleanRow f k n ks l a b
-        → Same gs ks → (j : ℕ) → j < b + 1 → CleanRow f k n ks l a j
-    rows-next b hb old new e j h = ⊎-elim
-        (λ (y : j ≡ b). subst (CleanRow f k n ks l a) (sym y) new)
-        (λ (y : j < b). row-same hs ks l a j (same-last v w e) (record { first = ha; second = omega arith }) (old (same-first v w e) j y))
-        (eq-or-lt-of-le (omega arith))
+    pub rows-next : (b c : ℕ) → b < rangeOf k 1 n → (Same gs hs → (j : ℕ) → c ≤ j → j < rangeOf k 1 n → CleanRow f k n hs l a j) → CleanRow f k n ks l a b → c ≡ b + 1
+        → Same gs ks → (j : ℕ) → b ≤ j → j < rangeOf k 1 n → CleanRow f k n ks l a j
+    rows-next b c hb old new d e j h m = ⊎-elim
+        (λ (y : b ≡ j). subst (CleanRow f k n ks l a) y new)
+        (λ (y : b < j). row-same hs ks l a j (same-last v w e) (record { first = ha; second = m }) (old (same-first v w e) j (omega arith) m))
+        (eq-or-lt-of-le h)
 
   -- a loop over the first slot
   module _ (l : ℕ) {gs hs ks : List ℕ} {A : (ℕ → ℕ) → Type 0} (v : Refines A n gs hs) (w : Refines A n hs ks) where
-    pub planes-next : (a : ℕ) → a < rangeOf k 2 n → (Same gs hs → (i : ℕ) → i < a → (j : ℕ) → j < rangeOf k 1 n → CleanRow f k n hs l i j)
-        → (Same hs ks → (j : ℕ) → j < rangeOf k 1 n → CleanRow f k n ks l a j) → Same gs ks → (i : ℕ) → i < a + 1 → (j : ℕ) → j < rangeOf k 1 n → CleanRow f k n ks l i j
-    planes-next a ha old new e i h j hj = ⊎-elim
-        (λ (y : i ≡ a). subst (λ (z : ℕ). CleanRow f k n ks l z j) (sym y) (new (same-last v w e) j hj))
-        (λ (y : i < a). row-same hs ks l i j (same-last v w e) (record { first = omega arith; second = hj }) (old (same-first v w e) i y j hj))
-        (eq-or-lt-of-le (omega arith))
+    pub planes-next : (a c : ℕ) → a < rangeOf k 2 n
+        → (Same gs hs → (i : ℕ) → c ≤ i → i < rangeOf k 2 n → (j : ℕ) → j < rangeOf k 1 n → CleanRow f k n hs l i j)
+        → (Same hs ks → (j : ℕ) → j < rangeOf k 1 n → CleanRow f k n ks l a j) → c ≡ a + 1
+        → Same gs ks → (i : ℕ) → a ≤ i → i < rangeOf k 2 n → (j : ℕ) → j < rangeOf k 1 n → CleanRow f k n ks l i j
+    planes-next a c ha old new d e i h m j hj = ⊎-elim
+        (λ (y : a ≡ i). subst (λ (z : ℕ). CleanRow f k n ks l z j) y (new (same-last v w e) j hj))
+        (λ (y : a < i). row-same hs ks l i j (same-last v w e) (record { first = m; second = hj }) (old (same-first v w e) i (omega arith) m j hj))
+        (eq-or-lt-of-le h)
 
   -- all rows of a label
   pub label-clean : (gs : List ℕ) (l : ℕ) → ((i : ℕ) → i < rangeOf k 2 n → (j : ℕ) → j < rangeOf k 1 n → CleanRow f k n gs l i j) → CleanLabel f k n gs l

@@ -118,22 +118,23 @@ fn part_row(classes: &mut [u8; 64], table: &[u8], s: Shape, n: usize, l: usize, 
         if d == n {
             return;
         }
-        part_at(classes, table, s, n, l, a, b, d);
+        // The remainder is d: with it nothing that depends on d is reckoned in the loop that finds d.
+        part_at(classes, table, s, n, l, a, b, d % n);
     }
 }
 
-// The same for each state in the second slot, once.
+// The same for each state in the second slot, once. The last comes first: states found later often follow those found earlier, and tell them
+// apart.
 fn part_plane(classes: &mut [u8; 64], table: &[u8], s: Shape, n: usize, l: usize, a: usize)
     requires { ⌜ Span s (now table) n × (l < labelsIn s) × (a < rangeOf (s .branches) 2 n) × Whole (now classes) ⌝ }
     ensures { λ _. ⌜ Refines (Respected (stateIn s (now (table .entry))) (s .branches) n l) n (now (classes .entry)) (now (classes .exit)) ⌝ }
     ensures { λ _. ⌜ (Same (now (classes .entry)) (now (classes .exit)) → (b : ℕ) → b < rangeOf (s .branches) 1 n
         → CleanRow (stateIn s (now (table .entry))) (s .branches) n (now (classes .exit)) l a b) ⌝ }
 {
-    let most = layout::range(s.branches, 1, n);
-    let mut b = 0;
-    while b < most {
+    let mut b = layout::range(s.branches, 1, n);
+    while b > 0 {
+        b -= 1;
         part_row(classes, table, s, n, l, a, b);
-        b += 1;
     }
 }
 
@@ -144,11 +145,10 @@ fn sweep_label(classes: &mut [u8; 64], table: &[u8], s: Shape, n: usize, l: usiz
     ensures { λ _. ⌜ (Same (now (classes .entry)) (now (classes .exit))
         → CleanLabel (stateIn s (now (table .entry))) (s .branches) n (now (classes .exit)) l) ⌝ }
 {
-    let most = layout::range(s.branches, 2, n);
-    let mut a = 0;
-    while a < most {
+    let mut a = layout::range(s.branches, 2, n);
+    while a > 0 {
+        a -= 1;
         part_plane(classes, table, s, n, l, a);
-        a += 1;
     }
 }
 

@@ -1,5 +1,6 @@
 -- `part_row` meets its contract. The invariant: the classes part those at the start. Assumes nothing.
-use Rattle.words.proofs.Vocabulary.{ℕ, _≤_, _<_, _-_, _≡_, _∙_, sym, ap₂, getD, needs, arith}
+use Rattle.words.proofs.Vocabulary.{ℕ, _≤_, _<_, _-_, _%_, _≡_, _∙_, sym, ap₂, getD, needs, arith}
+use native.Mathlib.Nat.{mod-eq-of-lt}
 use Rattle.layout.specs.Slots.{slotPlace}
 use Rattle.joining.specs.Parting.{stateIn, Respected, Refines, total}
 use Rattle.joining.proofs.Parts.{refines-self, refines-on, room-less}
@@ -66,9 +67,12 @@ part-at-requires c κs =
     let a = c .before .before .before .before .before .before .before .before .before .before .before .before .args in
     let h = c .before .before .before .before .before .before .before .before .before .loop in
     let u = c .before .before .unlike .ensures in
-    let b : c .before .before .unlike .result < a .n = omega (arith, u .up-to, c .before .if1 .left) in (
+    let d = c .before .before .unlike .result in
+    let b : d < a .n = omega (arith, u .up-to, c .before .if1 .left) in
+    let z : d % a .n ≡ d = mod-eq-of-lt b in
+    rw z (
       (e, b, h .inv .1 .whole),
-      λ z. u .there b (clean-to (a .s) (a .table .now) (h .classes) (a .n) (a .l) (e .span) (e .label) (h .inv .1 .whole) (a .a) (a .b) _ _ (e .slots) (h .inv .0) (lead-is (c .before .before .before .before)) _ b z),
+      λ z. u .there b (clean-to (a .s) (a .table .now) (h .classes) (a .n) (a .l) (e .span) (e .label) (h .inv .1 .whole) (a .a) (a .b) _ _ (e .slots) (h .inv .0) (lead-is (c .before .before .before .before)) d b z),
     )
 
 loop-less : tie.Need-loop-less Inv-loop μ-loop
@@ -81,5 +85,5 @@ part-row-spec =
     (λ c. let e = c .before .before .before .pre .0 in let a = c .before .before .before .args in omega (arith, slots-small (a .s) (a .table .now) (a .n) (a .l) (e .span) (e .label) (e .slots)))
     (λ c κs. search needs)
     (λ c. let e = c .before .before .before .before .before .pre .0 in let a = c .before .before .before .before .before .args in omega (arith, slots-small (a .s) (a .table .now) (a .n) (a .l) (e .span) (e .label) (e .slots)))
-    (λ c κs. search needs) slot-place-requires-2 unlike-requires returns part-at-requires loop-less
+    (λ c κs. search needs) slot-place-requires-2 unlike-requires returns (λ c. omega (arith, c .before .before .unlike .ensures .up-to, c .before .if1 .left)) part-at-requires loop-less
     (λ c. (c .before .before .before .before .before .before .before .before .before .before .loop .inv .0, refines-on (c .before .before .before .before .before .before .before .before .before .before .loop .inv .1) (c .part-at .ensures .0))))
