@@ -369,6 +369,7 @@ static void put_found(FILE *to, const struct refusal *r, const struct strip *str
         put_numbered(to, strip, record_at(r->place), part_at(r->place), names);
         break;
     case WS2S_REFUSED_STATES:
+        fputs(r->in_trial ? "in a trial, joining " : "", to);
         put_numbered(to, strip, (unsigned)r->record, "", names);
         break;
     case WS2S_REFUSED_TREE_LEFT_OVER: /* padding never starts a byte */

@@ -37,9 +37,10 @@ struct strip {
 };
 
 /* What a strip is refused for: the number, with 14 the record, and where the
- * number has one the place. */
+ * number has one the place; of 14 also whether it came of a trial. */
 struct refusal {
     uint64_t number, record, place;
+    bool in_trial;
 };
 
 /* The variables that a rule written for a text binds, without names, in the order

@@ -445,7 +445,7 @@ static enum status decide(const struct arguments *a)
                 plural(a->p));
         return LARGER;
     default:
-        return refuse(a->operand[0], (struct refusal){ v.refusal, v.record, v.place }, &rule, &names);
+        return refuse(a->operand[0], (struct refusal){ v.refusal, v.record, v.place, false }, &rule, &names);
     }
 }
 
@@ -462,9 +462,12 @@ static enum status clash(const struct arguments *a)
     if (!workspace)
         return trouble("workspace");
     ws2s_clash_list l = ws2s_clash(rule.byte, rule.length, a->c, workspace, size);
+    uint8_t out[WS2S_MAX_TREE_BYTES]; /* 14 is a trial's if the rule itself is not refused so */
+    bool in_trial = l.refusal == WS2S_REFUSED_STATES
+                 && ws2s_decide(rule.byte, rule.length, a->c, 0, workspace, size, out, sizeof out).refusal == 0;
     free(workspace);
     if (l.kind == WS2S_REFUSED)
-        return refuse(a->operand[0], (struct refusal){ l.refusal, l.record, l.place }, &rule, &names);
+        return refuse(a->operand[0], (struct refusal){ l.refusal, l.record, l.place, in_trial }, &rule, &names);
     for (unsigned i = 0; i < l.count && i < WS2S_MAX_PARTS; i++) {
         printf("%u: ", (unsigned)l.parts[i]);
         put_sense(stdout, &rule, (unsigned)l.parts[i], &names);
@@ -504,7 +507,7 @@ static enum status judge(const struct arguments *a)
         printf("no: the tree does not satisfy the rule\n");
         return BAD;
     default:
-        return refuse(a->operand[of_tree], (struct refusal){ j.refusal, j.record, j.place }, of_tree ? &report : &rule,
+        return refuse(a->operand[of_tree], (struct refusal){ j.refusal, j.record, j.place, false }, of_tree ? &report : &rule,
                       &names);
     }
 }
@@ -513,7 +516,7 @@ static enum status check(const struct arguments *a)
 {
     static const struct names names;
     struct strip strip;
-    struct refusal refusal = { 0, 0, 0 };
+    struct refusal refusal = { 0, 0, 0, false };
     enum status status;
     if (strcmp(a->operand[0], "rule") == 0) {
         if ((status = read_strip_of_rule(a->operand[1], &strip)))
@@ -545,7 +548,7 @@ static enum status print(const struct arguments *a)
     enum status status;
     if ((status = read_named_rule(a, &rule, &names, &checked)))
         return status;
-    struct refusal refusal = { checked.refusal, 0, checked.place };
+    struct refusal refusal = { checked.refusal, 0, checked.place, false };
     put_rule(stdout, &rule, &refusal, &names);
     fflush(stdout); /* the records come before the sentence where both go to one file; main tells if this fails */
     return refusal.number == 0 ? GOOD : refuse(a->operand[0], refusal, &rule, &names);
@@ -560,7 +563,7 @@ static enum status tree(const struct arguments *a)
         return status;
     ws2s_tree checked = ws2s_check_tree(strip.byte, strip.length);
     if (checked.refusal != 0)
-        return refuse(a->operand[0], (struct refusal){ checked.refusal, 0, checked.place }, &strip, &names);
+        return refuse(a->operand[0], (struct refusal){ checked.refusal, 0, checked.place, false }, &strip, &names);
     if ((status = too_many_names(&names, checked.variables)))
         return status;
     put_tree(&(struct tree){ strip.byte, strip.length, WS2S_MAX_POSITIONS }, a->form, &names);
@@ -621,7 +624,7 @@ static enum status read_accepted_rule(struct source *source, const char *file, s
         return status;
     ws2s_rule checked = ws2s_check_rule(source->rule.byte, source->rule.length);
     return checked.refusal == 0 ? GOOD
-                                : refuse(file, (struct refusal){ checked.refusal, 0, checked.place }, &source->rule, names);
+                                : refuse(file, (struct refusal){ checked.refusal, 0, checked.place, false }, &source->rule, names);
 }
 
 /* What two accepted rules are refused for together: their records. */

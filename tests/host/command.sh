@@ -90,12 +90,12 @@ expect 0 'shown: 0 places, 1 state
 expect 0 'shown: 2 places, 4 states
 (no kind)
   X0' '' decide --outline $samples/inside_something.rul
-expect 0 'shown: 4 places, 49 states
+expect 0 'shown: 4 places, 6 states
 report
   seat
     belt
   airbag' '' decide $samples/crash_report.rul report seat belt airbag
-expect 0 'shown: 1 place, 10 states
+expect 0 'shown: 1 place, 3 states
 this + that' '' decide $samples/same_kinds.rul this that
 expect 0 12B800 '' decide --hex $samples/first_inside.rul
 expect 0 1100 '' decide --hex $samples/hidden_part.rul
@@ -110,8 +110,8 @@ expect 2 'larger: finite sets satisfy the rule, but all of them take more than 1
 expect 2 '' 'larger: finite sets satisfy the rule, but all of them take more than 1 place' decide -p 1 --hex $samples/first_inside.rul
 expect 3 '' 'ws2s: samples/cut_short.rul: refused 5 at bit 32: the rule'\''s length does not fit its records (1 record takes 5 bytes, and there are 4); it was cut, or has bytes left over' \
     decide $samples/cut_short.rul
-expect 3 '' 'ws2s: samples/belt_in_every_seat.rul: refused 14: a record needs more than c states (record 7: exists other: 6); raise c, at most to 64, or simplify that record' \
-    decide -c 16 $samples/belt_in_every_seat.rul seat belt other
+expect 3 '' 'ws2s: samples/full_report.rul: refused 14: a record needs more than c states (record 16: exists other: 15); raise c, at most to 64, or simplify that record' \
+    decide -c 15 $samples/full_report.rul part other
 expect 3 '' 'ws2s: samples/first_inside.rul: refused 11: a ceiling is out of range; c from 1 to 64, P at most 255' decide -c 65 $samples/first_inside.rul
 refuses 3 'refused 11' decide -c 0 $samples/first_inside.rul
 refuses 3 'refused 11' decide -p 256 $samples/first_inside.rul
@@ -565,13 +565,13 @@ expect 0 'n=1
 0: X ⊆ X' '' print "$room/fault.mona"
 
 # ---- texts: their names
-expect 0 'shown: 2 places, 11 states
+expect 0 'shown: 2 places, 4 states
 seat
   belt' '' decide "$room/inside.mona"
-expect 0 'shown: 2 places, 11 states
+expect 0 'shown: 2 places, 4 states
 Sitz
   belt' '' decide "$room/inside.mona" belt Sitz
-expect 0 'shown: 2 places, 11 states
+expect 0 'shown: 2 places, 4 states
 seat
   Gurt' '' decide "$room/inside.mona" Gurt
 refuses 64 'there are more names than variables' decide "$room/inside.mona" a b c
@@ -585,7 +585,7 @@ expect 0 'digraph tree {
 expect 0 "$("$command" decide --svg "$room/inside" belt seat)" '' decide --svg "$room/inside.mona"
 expect 0 12B800 '' decide --hex "$room/inside.mona"
 input=$room/inside.mona
-expect 0 'shown: 2 places, 11 states
+expect 0 'shown: 2 places, 4 states
 seat
   belt' '' decide -
 expect 0 'yes: the tree satisfies the rule' '' judge - "$room/fits"
@@ -675,14 +675,13 @@ verdict $right 'names that begin as other words do'
 
 # 14 names the record as the text does
 many='a record needs more than c states' simplify='; raise c, at most to 64, or simplify that record'
-expect 3 '' "ws2s: $room/inside.mona: refused 14: $many (record 4: 3 and 2)$simplify" decide -c 10 "$room/inside.mona"
+expect 3 '' "ws2s: $room/inside.mona: refused 14: $many (record 2: 1 and 0)$simplify" decide -c 5 "$room/inside.mona"
 expect 3 '' "ws2s: $room/inside.mona: refused 14: $many (record 0: belt = seat 1)$simplify" decide -c 3 "$room/inside.mona"
 expect 3 '' "ws2s: $room/inside.mona: refused 14: $many (record 0: belt = seat 1)$simplify" \
     judge -c 3 "$room/inside.mona" "$room/fits"
 expect 3 '' "ws2s: $room/inside.mona: refused 14: $many (record 0: a = seat 1)$simplify" decide -c 3 "$room/inside.mona" a
 expect 3 '' "ws2s: $room/inside.mona: refused 11: a ceiling is out of range; c from 1 to 64, P at most 255" decide -c 65 "$room/inside.mona"
-text fault.mona 'ws2s; var2 A, B, C, D, E, F; ex1 p: p in A & p in B & p in C & p in D & p in E & (ex1 q: q = p.0 & q in F) & (ex1 q: q = p.1 & ~(q in F));'
-refuses 3 "$room/fault.mona: refused 14: $many (record " decide "$room/fault.mona"
+expect 3 '' "ws2s: samples/one_of_a_kind.mona: refused 14: $many (record 58: 43 or 57)$simplify" decide $samples/one_of_a_kind.mona
 
 # ---- texts and strips are told apart
 taken() { # NUMBER FILE: the refusal by which it is told, of decide, judge and print
@@ -825,7 +824,7 @@ expect 0 '0: X0 ⊆ X1
 6: not (X0 ⊆ X2)' '' clash $samples/kinds_in_a_circle.rul
 expect 0 '0: belt ⊆ strap
 1: strap ⊆ X2
-6: not (belt ⊆ X2)' '' clash $samples/kinds_in_a_circle.rul belt -c 14 strap
+6: not (belt ⊆ X2)' '' clash $samples/kinds_in_a_circle.rul belt -c 4 strap
 expect 0 '0: Belt ⊆ Strap
 1: Strap ⊆ other
 6: not (Belt ⊆ other)' '' clash $samples/kinds_in_a_circle.mona Belt Strap other
@@ -838,7 +837,15 @@ satisfied='the rule can be satisfied, so no requirements clash; decide it, to be
 expect 3 '' "ws2s: samples/first_inside.rul: refused 29: $satisfied" clash $samples/first_inside.rul
 expect 3 '' "ws2s: samples/first_inside.mona: refused 29: $satisfied" clash $samples/first_inside.mona
 expect 3 '' 'ws2s: samples/first_inside.rul: refused 11: a ceiling is out of range; c from 1 to 64, P at most 255' clash -c 0 $samples/first_inside.rul
-refuses 3 'samples/kinds_in_a_circle.rul: refused 14: a record needs more than c states (record 7: 4 and 6); raise c' clash -c 13 $samples/kinds_in_a_circle.rul
+refuses 3 'samples/kinds_in_a_circle.rul: refused 14: a record needs more than c states (record 2: 0 and 1); raise c' clash -c 3 $samples/kinds_in_a_circle.rul
+# X1 = X0 1, X0 = X2 1, X1 sub X2: without the third the first two have more states than the rule
+printf '\023\005\040\040\010\000\040\002\011\300\202\160\000\300' >"$room/trial.rul"
+expect 0 '0: belt = seat 1
+1: seat = X2 1
+2: belt ⊆ X2' '' clash -c 11 "$room/trial.rul" seat belt
+expect 3 '' "ws2s: $room/trial.rul: refused 14: $many (in a trial, joining record 1: seat = X2 1)$simplify" clash -c 9 "$room/trial.rul" seat belt
+expect 1 "$none" "$asks -c 9 $room/trial.rul" decide -c 9 "$room/trial.rul"
+refuses 3 "$room/trial.rul: refused 14: $many (record 3: 1 and 2); raise c" clash -c 6 "$room/trial.rul"
 refuses 3 'refused 5 at bit 32: the rule'\''s length does not fit its records (1 record takes 5 bytes, and there are 4)' clash $samples/cut_short.rul
 refuses 3 'refused 9 at bit 38: a record names itself or a later record (record 1, first field: not 2)' clash $samples/out_of_order.rul
 "$command" decide $samples/out_of_order.mona >"$room/out" 2>"$room/fault"
@@ -943,7 +950,7 @@ for one in rul mona; do
 done
 "$command" join "$room/belt.rul" "$room/seat.mona" | "$command" decide - Belt Seat Report >"$room/out" 2>"$room/err"
 status=$?
-[ $status -eq 0 ] && [ "$(cat "$room/out")" = 'shown: 1 place, 18 states
+[ $status -eq 0 ] && [ "$(cat "$room/out")" = 'shown: 1 place, 3 states
 Seat + Report' ] && [ ! -s "$room/err" ] && right=yes || right=no
 verdict $right 'decide of what is joined'
 cat "$room/belt.mona" | "$command" join - "$room/seat.rul" >"$room/out" 2>"$room/err"
