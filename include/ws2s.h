@@ -77,7 +77,7 @@
 extern "C" {
 #endif
 
-#define WS2S_VERSION "2.5.0"
+#define WS2S_VERSION "2.6.0"
 
 /* Limits. Buffers of these sizes serve every rule and every tree. */
 #define WS2S_MAX_VARIABLES 8
@@ -134,9 +134,10 @@ enum {
                                           ws2s_clash_workspace_size */
     WS2S_REFUSED_OUT = 13,             /* out buffer shorter than ws2s_out_size */
     WS2S_REFUSED_STATES = 14,          /* a record that the last one reaches, or that one itself, has
-                                          more than c states; "record" is its number, the lowest if
-                                          there are several. Of ws2s_clash also: a trial's join has
-                                          more; "record" is the part that was being joined */
+                                          more than c states when it is built, before those that behave
+                                          alike are joined; "record" is its number, the lowest if there
+                                          are several. Of ws2s_clash also: a trial's join has more;
+                                          "record" is the part that was being joined */
     WS2S_REFUSED_TREE_SHORT = 15,      /* tree strip of no bytes [the bit length] */
     WS2S_REFUSED_TREE_VERSION = 16,    /* tree strip of a version other than 1 [0] */
     WS2S_REFUSED_TREE_VARIABLES = 17,  /* tree strip with n not 1 to 8 [4] */
@@ -238,9 +239,16 @@ ws2s_judgement ws2s_judge(const uint8_t *rule, size_t rule_len, uint64_t c,
  *   none    no finite sets satisfy the rule.
  *   larger  some do, but every tree that does has more than P positions.
  *
- * "states" counts the states of the last record's machine, at most c. No downward
- * path of a shown tree has as many nodes as that, so a stack of "states" entries is
- * enough to walk it, whatever P is.
+ * "states" is the fewest states of any machine that decides the rule: one that runs
+ * over trees from the leaves to the root, with a next state for every label and every
+ * two states, and accepts of all trees with labels of n bits, bare nodes allowed,
+ * those that satisfy the rule. So it does not hang on how the rule is written. It is at
+ * most c. No downward path of a shown tree has as many nodes as that, so a stack of
+ * "states" entries is enough to walk it, whatever P is.
+ *
+ * Each record is built from the machines of the records that it names, which have as
+ * few states as they can have; then its own states that behave alike are joined. 14
+ * compares c with what a record has before that.
  *
  * The workspace needs m * 2^n * c * c bytes: ws2s_workspace_size; the out buffer
  * 8 + P (n + 1) + P + 1 bits rounded up to bytes: ws2s_out_size. Refusals in
@@ -266,8 +274,9 @@ ws2s_verdict ws2s_decide(const uint8_t *rule, size_t rule_len, uint64_t c, uint6
  * The workspace needs (m + 15) * 2^n * c * c bytes, however few parts there are:
  * ws2s_clash_workspace_size. Refusals in order: 1 to 10; 11 for c; 12; 28; 14 for the
  * rule itself, as ws2s_decide has it; 29; 14 in a trial, where the parts that are
- * left are joined one after the other: "record" is then the part with which the
- * states became more than c. After a list, 14 and 29 those bytes of the workspace are
+ * left are joined one after the other, and after each the states that behave alike:
+ * "record" is then the part with which there were more than c. A trial can have more
+ * states than the rule, where parts that clash were joined early. After a list, 14 and 29 those bytes of the workspace are
  * zero and any later ones unchanged; after another refusal all are unchanged. */
 ws2s_clash_list ws2s_clash(const uint8_t *rule, size_t rule_len, uint64_t c,
                            uint8_t *workspace, size_t workspace_len);
