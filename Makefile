@@ -32,7 +32,7 @@ MADE_TEXTS := made:longest made:chain made:nests made:open
 MAN1 := $(wildcard man/*.1)
 MAN3 := $(wildcard man/*.3)
 
-.PHONY: help all run library command test host-test attack bound example bench install uninstall clean FORCE
+.PHONY: help all run library command test host-test attack larger example bench install uninstall clean FORCE
 .DELETE_ON_ERROR:
 # rt proves on all cores by itself. That no two of them run on one target/ is tools/prove.sh's care.
 .NOTPARALLEL:
@@ -45,7 +45,7 @@ help:
 	@echo 'make test              the gate: prove everything from nothing and run every test'
 	@echo 'make host-test         what the gate tests beside the proofs: header, vectors, attack, stack, depth, programs, install, documents, make'
 	@echo 'make attack            a longer attack on the library [SEED=n CALLS=n]'
-	@echo 'make bound             how many places a rule of at most 16 states can need'
+	@echo 'make larger            look for a rule that the verdict program answers larger [SECONDS=n]'
 	@echo 'make example           the example host program on a rule strip [RULE=file NAMES="belt seat"]'
 	@echo 'make bench             the library beside unproved code and, where it is installed, MONA'
 	@echo 'make install           header, libraries, pkg-config files, command, verdict program, manual pages [PREFIX=/usr/local DESTDIR=]'
@@ -120,9 +120,9 @@ $(HOST)/bench: bench/bench.c $(ORACLE) $(TEST_HEADERS) $(ARCHIVE)
 $(HOST)/example: examples/host.c $(HEADER) $(ARCHIVE)
 	$(link)
 
-$(HOST)/bound: tests/bound/bound.c tests/oracle/atom.h
+$(HOST)/larger: tests/larger/larger.c tests/oracle/atom.h tests/host/chance.h
 	@mkdir -p $(@D)
-	$(CC) $(CFLAGS) -Itests/oracle $< -o $@
+	$(CC) $(CFLAGS) -Itests/oracle -Itests/host $< -o $@
 
 # make_notices.sh proves in a copy of the tree, beside the tests that leave a core idle; those behind it build, too.
 NOTICES := $(HOST)/make_notices
@@ -154,8 +154,10 @@ CALLS ?= 5000000
 attack: $(HOST)/attack
 	$(HOST)/attack $(SEED) $(CALLS)
 
-bound: $(HOST)/bound
-	$(HOST)/bound
+# The variables, and the records for which the verdict program then has room.
+SECONDS ?= 60
+larger: $(HOST)/larger
+	for rules in '1 64' '2 32' '3 16' '4 8' '5 4' '6 2' '7 1'; do $(HOST)/larger -t $(SECONDS) $$rules || exit 1; done
 
 example: $(HOST)/example
 	@$(HOST)/example "$$RULE" $(NAMES)
