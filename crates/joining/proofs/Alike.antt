@@ -17,7 +17,7 @@ use Rattle.joining.specs.Classes.{classIn}
 use Rattle.logic.proofs.Apart.{Apart, seen as visible, later, beside-lt, apart-sym, apart-third, like-cong}
 use Rattle.logic.proofs.ApartPairs.{apart-tells}
 use Rattle.logic.proofs.Classes.{elem-numbers, Chooses, chooses-first}
-use Rattle.joining.specs.Parting.{Respected, RespectedBy, Settled}
+use Rattle.joining.specs.Parting.{RespectedBy, Settled}
 use Rattle.joining.proofs.Parts.{is-false}
 
 -- ---- the first number that passes, in the list of all

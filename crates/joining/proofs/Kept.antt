@@ -1,11 +1,11 @@
 -- THE JOINED MACHINE IS STORED: a table joined in place holds the joined machine. Assumes nothing.
-use Rattle.words.proofs.Vocabulary.{ℕ, _≤_, _<_, _+_, _-_, _%_, _^_, suc, zero, Bool, true, false, _&&_, _≡_, _∙_, refl, sym, ap, ap₂, subst, ⊎-elim, inl, inr, _⊎_}
+use Rattle.words.proofs.Vocabulary.{ℕ, _≤_, _<_, _+_, _%_, suc, zero, Bool, true, false, _&&_, _≡_, _∙_, refl, sym, ap, ap₂, subst, ⊎-elim}
 use Rattle.words.proofs.Vocabulary.{List, [], _∷_, _++_, map, length, getD, take, drop, length-take-le, List·getD-append, getD-take, getD-drop, T, eqb, ltb, ltb-true, eqb-true, eqb-false, arith}
-use Rattle.words.proofs.Vocabulary.{length-drop, length-append, length-map, append-assoc, drop-drop, leb, cond, leb-true, and-false, decLt, getD-append-seam, eq-or-lt-of-le}
+use Rattle.words.proofs.Vocabulary.{length-drop, length-append, length-map, append-assoc, drop-drop, leb, cond, leb-true, decLt, getD-append-seam, eq-or-lt-of-le}
 use native.Mathlib.Nat.{mod-eq-of-lt}
 use mathlib.Core.Bool.{true≢false}
 use lib.Seq.{getD-append-add, drop-append-seam}
-use Rattle.words.specs.Word.{mem, wordWhere}
+use Rattle.words.specs.Word.{mem}
 use Rattle.words.proofs.Any.{and-both, and-cong}
 use Rattle.words.proofs.WordLaws.{word-cong}
 use Rattle.layout.specs.Shape.{Shaped, labelsIn, shareOf, shareAt, placeIn, labelAt, tupleAt, Each, nil, cons, Tuple}
@@ -28,7 +28,7 @@ use Rattle.exploring.proofs.Grow.{are-below, each-below}
 use Rattle.logic.specs.Joined.{classes, numbers}
 use Rattle.joining.specs.Classes.{classIn}
 use Rattle.logic.proofs.Classes.{numbers-distinct}
-use Rattle.joining.specs.Parting.{stateIn, Whole, Settled}
+use Rattle.joining.specs.Parting.{stateIn, Settled}
 use Rattle.joining.specs.Numbering.{leadersOf, acceptIn}
 use Rattle.joining.specs.Rewriting.{joinedEntry, joinedByte, Rewritten}
 use Rattle.joining.specs.Joining.{firstLike, firstMembers, joinedOf, JoinedTable, Joins}

@@ -1,10 +1,9 @@
 -- Laws of the first members of classes, in order. Assumes nothing.
-use Rattle.words.proofs.Vocabulary.{ℕ, _≤_, _<_, _+_, suc, zero, Bool, true, false, cond, _≡_, _∙_, refl, sym, ap, subst, ⊎-elim, inl, inr, _⊎_, _↔_}
+use Rattle.words.proofs.Vocabulary.{ℕ, _≤_, _<_, _+_, suc, zero, Bool, true, false, cond, _≡_, _∙_, refl, sym, ap, subst, ⊎-elim, inl, inr, _↔_}
 use Rattle.words.proofs.Vocabulary.{List, [], _∷_, _++_, length, getD, set, length-set, getD-set-same, getD-set-other, length-append, List·getD-append, getD-append-seam}
 use Rattle.words.proofs.Vocabulary.{T, eqb, eq-eqb, ne-eqb, eqb-true, eqb-false, arith, eq-or-lt-of-le, not-suc-le-zero}
 use mathlib.Core.Bool.{true≢false}
 use Rattle.logic.specs.Reach.{elem, select, position}
-use Rattle.logic.specs.Alike.{Distinct}
 use Rattle.logic.proofs.Reach.{elem-cons, elem-select}
 use Rattle.logic.proofs.Places.{true→T, T→true}
 use Rattle.logic.specs.Joined.{numbers, classes}

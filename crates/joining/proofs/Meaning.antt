@@ -1,9 +1,9 @@
 -- The joined machine of a stored one is the logic's: it does as `join` does at each state, and state 0 stays the empty tree's. Assumes nothing.
-use Rattle.words.proofs.Vocabulary.{ℕ, _≤_, _<_, _+_, suc, zero, Bool, true, false, not, _&&_, _≡_, _∙_, refl, sym, ap, subst, inl, List, [], _∷_, _++_}
+use Rattle.words.proofs.Vocabulary.{ℕ, _≤_, suc, zero, Bool, true, false, not, _&&_, _≡_, _∙_, refl, sym, ap, subst, List, [], _∷_}
 use Rattle.words.proofs.Vocabulary.{length, getD, T, eqb, ltb, lt-ltb, eqb-true, eqb-false, arith, not-suc-le-zero}
 use Rattle.words.specs.Word.{mem}
 use Rattle.words.proofs.WordLaws.{word-mem}
-use Rattle.layout.specs.Shape.{Shaped, Tuple}
+use Rattle.layout.specs.Shape.{Shaped}
 use Rattle.layout.specs.declared.Shape.{Shape}
 use Rattle.layout.proofs.Places.{pair-in}
 use Rattle.logic.specs.Two.{one, two}
@@ -14,7 +14,7 @@ use Rattle.logic.specs.Reach.{elem, select, position, numbered}
 use Rattle.logic.proofs.Places.{true→T}
 use Rattle.records.specs.Rule.{Mach, machOf, Stored}
 use Rattle.records.specs.declared.Summary.{Summary}
-use Rattle.logic.specs.Joined.{first, numbers, classOf, classes, merged, isApart, joinBy, join}
+use Rattle.logic.specs.Joined.{numbers, classOf, classes, merged, isApart, joinBy, join}
 use Rattle.logic.proofs.Apart.{apart-≢}
 use Rattle.logic.proofs.ApartPairs.{apart-tells}
 use Rattle.joining.specs.Numbering.{acceptIn}

@@ -1,10 +1,10 @@
 -- Laws of classes and of parting them. Assumes nothing.
-use Rattle.words.proofs.Vocabulary.{ℕ, _≤_, _<_, _+_, _*_, _%_, suc, zero, Bool, true, false, _&&_, _≡_, _∙_, refl, sym, ap, subst, ⊎-elim, inl, inr, _⊎_}
-use Rattle.words.proofs.Vocabulary.{List, [], _∷_, map, length, getD, set, length-set, getD-set-same, getD-set-other, eqb, eq-eqb, ne-eqb, eqb-true, eqb-false, arith}
-use Rattle.words.proofs.Vocabulary.{eq-or-lt-of-le, suc-mul, decLt, ℕ-discrete, and-false, mod-lt}
+use Rattle.words.proofs.Vocabulary.{ℕ, _≤_, _<_, _+_, _*_, suc, zero, Bool, true, false, _≡_, _∙_, refl, sym, ap, subst, ⊎-elim, inl, inr, _⊎_}
+use Rattle.words.proofs.Vocabulary.{List, map, length, getD, set, length-set, getD-set-same, getD-set-other, eqb, eq-eqb, ne-eqb, eqb-true, arith}
+use Rattle.words.proofs.Vocabulary.{eq-or-lt-of-le, suc-mul, decLt, ℕ-discrete, and-false}
 use mathlib.Core.Bool.{Bool·beq, true≢false}
 use Rattle.words.specs.Word.{mem}
-use Rattle.words.proofs.Any.{and-both, bool-ext}
+use Rattle.words.proofs.Any.{and-both}
 use Rattle.layout.specs.Shape.{Each, nil, cons, Tuple}
 use Rattle.table.specs.Entry.{Step}
 use Rattle.joining.specs.Classes.{classIn}
@@ -20,12 +20,6 @@ beq-true true true e = refl
 beq-true true false e = sym e
 beq-true false true e = e
 beq-true false false e = refl
-
-pub beq-false : (a b : Bool) → (a ≡ b → ⊥) → Bool·beq a b ≡ false
-beq-false true true h = absurd (h refl)
-beq-false true false h = refl
-beq-false false true h = refl
-beq-false false false h = absurd (h refl)
 
 pub beq-means : (a b : Bool) → Bool·beq a b ≡ true → a ≡ b
 beq-means true true e = refl

@@ -1,17 +1,17 @@
 -- Laws of writing the joined machine's entries over the old ones, in rising order of places. Assumes nothing.
-use Rattle.words.proofs.Vocabulary.{ℕ, _≤_, _<_, _+_, _-_, _*_, _%_, suc, Bool, true, false, _&&_, and-false, cond, _≡_, _∙_, refl, sym, ap, ap₂, subst, ⊎-elim, inl, inr, _⊎_}
-use Rattle.words.proofs.Vocabulary.{List, [], _∷_, map, length, getD, set, length-set, getD-set-same, getD-set-other, leb, le-leb, lt-leb, lt-ltb, le-ltb, ltb, arith}
-use Rattle.words.proofs.Vocabulary.{eq-or-lt-of-le, mul-le-mul-right, suc-mul, decLt, ℕ-discrete}
+use Rattle.words.proofs.Vocabulary.{ℕ, _≤_, _<_, _+_, _-_, _*_, _%_, suc, true, false, and-false, cond, _≡_, _∙_, refl, sym, ap, subst, ⊎-elim}
+use Rattle.words.proofs.Vocabulary.{List, length, getD, set, length-set, getD-set-same, getD-set-other, le-leb, lt-leb, ltb, arith}
+use Rattle.words.proofs.Vocabulary.{eq-or-lt-of-le, mul-le-mul-right, suc-mul, decLt}
 use native.Mathlib.Nat.{zero-mul}
 use Rattle.layout.specs.Shape.{Shaped, labelsIn, shareOf, placeIn, labelAt, tupleAt, Tuple}
 use Rattle.layout.specs.Slots.{rangeOf, inSlots, FirstSlots, Slotted, slotPlace}
 use Rattle.layout.specs.declared.Shape.{Shape}
 use Rattle.layout.proofs.Places.{place-one, place-at, states-at, tuple-up}
-use Rattle.layout.proofs.Slots.{few-branches, slots-tuple, slots-up, slots-of, tuple-slots, slots-below, range-up, range-both, range-most, map-slots, place-slots, share-slots}
+use Rattle.layout.proofs.Slots.{few-branches, slots-tuple, slots-up, slots-of, tuple-slots, slots-below, range-both, range-most, map-slots, place-slots, share-slots}
 use Rattle.table.specs.Entry.{seen}
 use Rattle.exploring.specs.Explore.{areBelow}
 use Rattle.exploring.proofs.Grow.{are-below, each-below}
-use Rattle.joining.specs.Parting.{stateAt, stateIn, Span}
+use Rattle.joining.specs.Parting.{stateAt}
 use Rattle.joining.specs.Rewriting.{Leaders, joinedEntry, joinedByte, RowWritten, Rewritten}
 use Rattle.joining.proofs.Parts.{is-false}
 use Rattle.joining.proofs.Rows.{third-step}

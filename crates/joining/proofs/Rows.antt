@@ -1,13 +1,13 @@
 -- The entries of a row, and the three ways in which one that is not clean splits a class. Assumes nothing.
-use Rattle.words.proofs.Vocabulary.{ℕ, _≤_, _<_, _+_, _-_, _*_, _%_, suc, zero, _≡_, _∙_, refl, sym, ap, ap₂, subst, List, map, length, getD, arith, add-mul, mul-assoc, eq-or-lt-of-le, ⊎-elim, mod-lt}
-use Rattle.layout.specs.Shape.{Shaped, labelsIn, shareOf, Tuple}
+use Rattle.words.proofs.Vocabulary.{ℕ, _≤_, _<_, _+_, _-_, _*_, _≡_, _∙_, refl, sym, ap, ap₂, subst, List, map, length, arith, add-mul, mul-assoc}
+use Rattle.layout.specs.Shape.{labelsIn, Tuple}
 use Rattle.layout.specs.Slots.{rangeOf, inSlots, FirstSlots, Slotted, slotPlace}
 use Rattle.layout.specs.declared.Shape.{Shape}
 use Rattle.layout.proofs.Places.{few-labels}
 use Rattle.layout.proofs.Slots.{few-branches, slots-up, slots-tuple, map-slots, range-used, range-most, place-slots, slots-in}
 use Rattle.table.specs.Entry.{Step}
 use Rattle.joining.specs.Classes.{classIn}
-use Rattle.joining.specs.Parting.{stateAt, stateIn, classAt, Span, RowSpan, Whole, SplitBy, Respected, Keeps, Refines, Same, Clean}
+use Rattle.joining.specs.Parting.{stateIn, classAt, Span, Whole, SplitBy, Respected, Refines, Same, Clean}
 use Rattle.joining.proofs.Parts.{split-refines, split-moves}
 
 -- ---- a step in one slot

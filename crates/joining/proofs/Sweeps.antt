@@ -1,12 +1,12 @@
 -- Laws of the loops over slots, labels and rounds: what is clean at the end of a loop in which nothing was parted. Assumes nothing.
-use Rattle.words.proofs.Vocabulary.{ℕ, _≤_, _<_, _+_, _%_, _≡_, _∙_, refl, sym, ap, subst, ⊎-elim, List, map, eq-or-lt-of-le, getD, mod-lt, arith}
-use Rattle.layout.specs.Shape.{labelsIn, Each, nil, cons, Tuple, placeIn}
-use Rattle.layout.specs.Slots.{rangeOf, inSlots, FirstSlots, Slotted}
+use Rattle.words.proofs.Vocabulary.{ℕ, _≤_, _<_, _+_, _≡_, refl, sym, ap, subst, ⊎-elim, List, map, eq-or-lt-of-le, getD, mod-lt, arith}
+use Rattle.layout.specs.Shape.{Each, nil, cons, Tuple, placeIn}
+use Rattle.layout.specs.Slots.{rangeOf, inSlots, FirstSlots}
 use Rattle.layout.specs.declared.Shape.{Shape}
 use Rattle.layout.proofs.Slots.{few-branches, slots-tuple, slots-of}
 use Rattle.table.specs.Entry.{Step, seen}
 use Rattle.joining.specs.Classes.{classIn}
-use Rattle.joining.specs.Parting.{stateIn, Span, Respected, RespectedBy, Refines, Same, Clean, CleanRow, CleanLabel, CleanBy}
+use Rattle.joining.specs.Parting.{stateIn, Span, Refines, Same, Clean, CleanRow, CleanLabel, CleanBy}
 use Rattle.joining.proofs.Parts.{same-first, same-last, clean-same}
 
 module _ (s : Shape) (t : List ℕ) (n : ℕ) (E : Span s t n) where

@@ -1,6 +1,6 @@
 -- The classes numbered in the order of their first members, and the accepting ones among them. Document 02, A8: "join its states". Assumes
 -- nothing.
-use Prim.Native.Nat.{ℕ, _≤_, _<_}
+use Prim.Native.Nat.{ℕ, _<_}
 use mathlib.Core.Path.{_≡_}
 use mathlib.Core.Bool.{_&&_}
 use mathlib.Core.List.{List}

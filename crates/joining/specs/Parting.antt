@@ -1,6 +1,6 @@
 -- Parting the states of a stored machine until those that are together behave alike. Document 02, A8: "join its states until no complete
 -- deterministic machine with fewer accepts the same trees". A class goes by its first member. Assumes nothing.
-use Prim.Native.Nat.{ℕ, zero, suc, _+_, _*_, _%_, _≤_, _<_}
+use Prim.Native.Nat.{ℕ, zero, suc, _+_, _%_, _≤_, _<_}
 use mathlib.Core.Path.{_≡_}
 use mathlib.Core.Bool.{Bool, true, false, _&&_, Bool·beq}
 use mathlib.Core.List.{List, map}

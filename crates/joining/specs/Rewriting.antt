@@ -9,7 +9,7 @@ use Rattle.layout.specs.Shape.{labelAt, tupleAt}
 use Rattle.layout.specs.declared.Shape.{Shape}
 use Rattle.table.specs.Entry.{seen}
 use Rattle.exploring.specs.Explore.{areBelow}
-use Rattle.joining.specs.Parting.{stateAt, stateIn}
+use Rattle.joining.specs.Parting.{stateIn}
 
 -- the first members of m classes of the states below n: none is below its class's number, and state 0 begins the first
 pub record Leaders (m n : ℕ) (first : List ℕ) : Type 0 where

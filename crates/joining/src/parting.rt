@@ -5,7 +5,6 @@ ghost use Prim.Native.Nat.{ℕ, _+_, _*_, _≤_, _<_};
 ghost use lib.ListN.{length};
 ghost use Rattle.layout.specs.Shape.{labelsIn};
 ghost use Rattle.layout.specs.Slots.{rangeOf, inSlots};
-ghost use Rattle.joining.specs.Classes.{classIn};
 ghost use Rattle.joining.specs.Parting.{stateIn, classAt, Span, RowSpan, Low, Whole, SplitBy, Respected, RespectedBy, Refines, Same, Clean, CleanRow, CleanLabel, CleanBy, FirstUnlike, Settled};
 use crate::classes::all_single;
 use crate::classes::by_acceptance;

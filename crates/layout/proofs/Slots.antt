@@ -1,12 +1,12 @@
 -- Slots: what they hold is a tuple, every tuple is held so, and an entry's place is reckoned from them. Assumes nothing.
-use Rattle.words.proofs.Vocabulary.{ℕ, _≤_, _<_, _+_, _-_, _*_, suc, zero, _^_, _≡_, _∙_, refl, sym, ap, List, [], _∷_, map, mul-le-mul-right, mul-le-mul-left}
-use Rattle.words.proofs.Vocabulary.{mul-assoc, add-mul, digits-lt, ltb, cond, true, false, arith}
+use Rattle.words.proofs.Vocabulary.{ℕ, _≤_, _<_, _+_, _*_, suc, zero, _^_, _≡_, refl, sym, List, [], _∷_, map, mul-le-mul-left}
+use Rattle.words.proofs.Vocabulary.{digits-lt, ltb, cond, true, false, arith}
 use lib.Dec.{lit<}
 use native.Mathlib.Nat.{pow-zero}
 use Rattle.layout.specs.declared.Shape.{Shape}
 use Rattle.layout.specs.Shape.{Shaped, labelsIn, shareOf, Each, nil, cons, Tuple, digitsOf, placeIn}
-use Rattle.layout.specs.Slots.{rangeOf, inSlots, FirstSlots, Slotted, slotPlace}
-use Rattle.layout.proofs.Places.{each-head, each-tail, few-labels, place-in, pow-step}
+use Rattle.layout.specs.Slots.{rangeOf, inSlots, Slotted, slotPlace}
+use Rattle.layout.proofs.Places.{each-head, each-tail, place-in, pow-step}
 
 -- a node has one to three branches
 pub few-branches : (s : Shape) → Shaped s → (1 ≤ s .branches) × (s .branches ≤ 3)

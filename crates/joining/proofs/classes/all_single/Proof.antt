@@ -1,5 +1,5 @@
 -- `all_single` meets its contract. The invariant: each state below q is alone. Assumes nothing.
-use Rattle.words.proofs.Vocabulary.{ℕ, _≤_, _<_, _-_, true, false, _≡_, _∙_, sym, needs, arith, below-more}
+use Rattle.words.proofs.Vocabulary.{ℕ, _≤_, _<_, _-_, _≡_, _∙_, sym, needs, arith, below-more}
 use mathlib.Core.Bool.{true≢false}
 use Rattle.joining.specs.Classes.{classIn}
 use Rattle.joining.proofs.classes.all_single.Statement.{statement}

@@ -1,6 +1,6 @@
 -- `by_acceptance` meets its contract. The invariant: the states below q have their classes. Assumes nothing.
 use mathlib.Core.Bool.{Bool·beq}
-use Rattle.words.proofs.Vocabulary.{ℕ, _≤_, _<_, _-_, _≡_, _∙_, refl, sym, subst, length, length-set, getD-set-other, needs, arith, decLt, List·getD-eq-default, replicate}
+use Rattle.words.proofs.Vocabulary.{ℕ, _≤_, _<_, _-_, _≡_, _∙_, refl, sym, subst, length, length-set, getD-set-other, arith, decLt, List·getD-eq-default, replicate}
 use lib.ListN.{getD-replicate}
 use Rattle.words.specs.Word.{mem}
 use Rattle.joining.specs.Classes.{classIn}

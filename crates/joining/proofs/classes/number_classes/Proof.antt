@@ -1,10 +1,10 @@
 -- `number_classes` meets its contract. The invariant: the states below q are numbered. Assumes nothing.
-use Rattle.words.proofs.Vocabulary.{ℕ, _≤_, _<_, _-_, suc, _≡_, _∙_, refl, sym, ap, subst, ⊎-elim, set, getD, add-one, needs, arith}
+use Rattle.words.proofs.Vocabulary.{_≤_, _-_, _≡_, _∙_, refl, sym, ⊎-elim, add-one, needs, arith}
 use Rattle.logic.specs.Reach.{select}
 use Rattle.logic.specs.Joined.{classes, numbers}
 use Rattle.joining.specs.Classes.{classIn}
 use Rattle.joining.specs.Parting.{Whole}
-use Rattle.joining.proofs.Leads.{Counted, few-leaders, count-leader, count-other}
+use Rattle.joining.proofs.Leads.{Counted, count-leader, count-other}
 use Rattle.joining.proofs.classes.number_classes.Statement.{statement}
 use Rattle.joining.proofs.classes.number_classes.Tie as tie
 

@@ -1,6 +1,5 @@
 -- `total` meets its contract. The invariant: the sum of the classes of the states below q. Assumes nothing.
-use Rattle.words.proofs.Vocabulary.{ℕ, _≤_, _<_, _-_, _+_, _*_, _≡_, _∙_, refl, ap, ap₂, add-one, suc-mul, needs, arith}
-use Rattle.joining.specs.Classes.{classIn}
+use Rattle.words.proofs.Vocabulary.{_≤_, _-_, _*_, _≡_, _∙_, refl, ap, add-one, suc-mul, needs, arith}
 use Rattle.joining.specs.Parting.{total}
 use Rattle.joining.proofs.classes.total.Statement.{statement}
 use Rattle.joining.proofs.classes.total.Tie as tie

@@ -1,5 +1,5 @@
 -- `clear` meets its contract. The invariant: d zeros are written. Assumes nothing.
-use Rattle.words.proofs.Vocabulary.{ℕ, _≤_, _-_, _≡_, _∙_, refl, subst, needs, arith}
+use Rattle.words.proofs.Vocabulary.{ℕ, _≤_, _-_, _≡_, refl, subst, arith}
 use Rattle.joining.specs.Rewriting.{RowWritten}
 use Rattle.joining.proofs.Rewrites.{written-none, written-next}
 use Rattle.joining.proofs.entries.clear.Statement.{statement}

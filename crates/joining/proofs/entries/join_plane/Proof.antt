@@ -1,5 +1,5 @@
 -- `join_plane` meets its contract. The invariant: what was right up to the plane is right up to its row b. Assumes nothing.
-use Rattle.words.proofs.Vocabulary.{ℕ, _≤_, _<_, _-_, _≡_, _∙_, refl, subst, length, needs, arith}
+use Rattle.words.proofs.Vocabulary.{ℕ, _≤_, _-_, _≡_, _∙_, refl, subst, length, needs, arith}
 use Rattle.layout.specs.Slots.{rangeOf, slotPlace}
 use Rattle.table.specs.Entry.{seen}
 use Rattle.joining.specs.Parting.{Span}

@@ -1,5 +1,5 @@
 -- `write_row` meets its contract. The invariant: d entries are written; those that are read later are as they were. Assumes nothing.
-use Rattle.words.proofs.Vocabulary.{ℕ, _≤_, _<_, _-_, _+_, _%_, _≡_, _∙_, refl, ap, subst, length, getD, needs, arith}
+use Rattle.words.proofs.Vocabulary.{ℕ, _≤_, _<_, _-_, _+_, _%_, _≡_, _∙_, ap, subst, length, getD, needs, arith}
 use Rattle.joining.specs.Parting.{stateAt}
 use Rattle.joining.specs.Rewriting.{RowWritten}
 use Rattle.joining.proofs.Rewrites.{written-none, written-next}

@@ -1,5 +1,5 @@
 -- `part_at` meets its contract: one of the three slots splits a class. Assumes nothing.
-use Rattle.words.proofs.Vocabulary.{ℕ, _≤_, _<_, _*_, _+_, _≡_, _∙_, sym, ap, ap₂, refl, length, getD, needs, arith, mul-le-mul-right}
+use Rattle.words.proofs.Vocabulary.{ℕ, _≤_, _<_, _*_, _≡_, _∙_, sym, ap, ap₂, refl, length, needs, arith, mul-le-mul-right}
 use Rattle.layout.specs.Shape.{Shaped}
 use Rattle.layout.specs.Slots.{FirstSlots, Slotted, slotPlace}
 use Rattle.layout.proofs.Slots.{range-most}

@@ -1,6 +1,6 @@
 -- `part_label` meets its contract. The invariant: the classes part those at the start. Assumes nothing.
-use Rattle.words.proofs.Vocabulary.{ℕ, _-_, _≡_, _∙_, sym, needs, arith}
-use Rattle.joining.specs.Parting.{stateIn, Respected, Refines, Same, total}
+use Rattle.words.proofs.Vocabulary.{_-_, _∙_, sym, needs, arith}
+use Rattle.joining.specs.Parting.{stateIn, Respected, Refines, total}
 use Rattle.joining.proofs.Parts.{refines-self, refines-on, total-same, room-left}
 use Rattle.joining.proofs.parting.part_label.Statement.{statement}
 use Rattle.joining.proofs.parting.part_label.Tie as tie

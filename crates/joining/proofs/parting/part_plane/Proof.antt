@@ -1,5 +1,5 @@
 -- `part_plane` meets its contract. The invariant: if nothing is parted yet, the rows from b on are clean. Assumes nothing.
-use Rattle.words.proofs.Vocabulary.{ℕ, _≤_, _<_, _-_, _≡_, needs, arith}
+use Rattle.words.proofs.Vocabulary.{ℕ, _≤_, _<_, _-_, needs, arith}
 use Rattle.layout.specs.Slots.{rangeOf}
 use Rattle.joining.specs.Parting.{stateIn, Respected, Refines, Same, CleanRow}
 use Rattle.joining.proofs.Parts.{refines-self, refines-on}

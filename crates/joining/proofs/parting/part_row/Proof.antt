@@ -1,5 +1,5 @@
 -- `part_row` meets its contract. The invariant: the classes part those at the start. Assumes nothing.
-use Rattle.words.proofs.Vocabulary.{ℕ, _≤_, _<_, _-_, _%_, _≡_, _∙_, sym, ap₂, getD, needs, arith}
+use Rattle.words.proofs.Vocabulary.{ℕ, _<_, _-_, _%_, _≡_, _∙_, ap₂, getD, needs, arith}
 use native.Mathlib.Nat.{mod-eq-of-lt}
 use Rattle.layout.specs.Slots.{slotPlace}
 use Rattle.joining.specs.Parting.{stateIn, Respected, Refines, total}

@@ -1,8 +1,8 @@
 -- `round` meets its contract. The invariant: if nothing is parted yet, the labels below l are clean. Assumes nothing.
-use Rattle.words.proofs.Vocabulary.{ℕ, _≤_, _<_, _-_, _≡_, _∙_, refl, subst, ⊎-elim, needs, arith}
+use Rattle.words.proofs.Vocabulary.{_≤_, _<_, _-_, _≡_, ⊎-elim, arith}
 use Rattle.layout.specs.Shape.{labelsIn}
 use Rattle.table.specs.Entry.{seen}
-use Rattle.joining.specs.Parting.{stateIn, Respected, RespectedBy, Refines, Same, CleanBy}
+use Rattle.joining.specs.Parting.{stateIn, RespectedBy, Refines, Same, CleanBy}
 use Rattle.joining.proofs.Parts.{refines-self, refines-on, refines-for}
 use Rattle.joining.proofs.Sweeps.{labels-next, single-clean}
 use Rattle.joining.proofs.parting.round.Statement.{statement}

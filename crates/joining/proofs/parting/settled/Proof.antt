@@ -1,7 +1,7 @@
 -- `settled` meets its contract. The invariant: the classes part those by acceptance. Assumes nothing.
-use Rattle.words.proofs.Vocabulary.{ℕ, _≤_, _-_, _≡_, _∙_, sym, needs, arith}
+use Rattle.words.proofs.Vocabulary.{_-_, _∙_, sym, needs, arith}
 use Rattle.layout.specs.Shape.{labelsIn}
-use Rattle.joining.specs.Parting.{stateIn, SeenBy, RespectedBy, Refines, Same, total}
+use Rattle.joining.specs.Parting.{stateIn, SeenBy, RespectedBy, Refines, total}
 use Rattle.joining.proofs.Parts.{seen-whole, seen-accepts, seen-keeps, refines-self, refines-on, total-same, room-left}
 use Rattle.joining.proofs.parting.settled.Statement.{statement}
 use Rattle.joining.proofs.parting.settled.Tie as tie

@@ -1,5 +1,5 @@
 -- `split` meets its contract. The invariant: the states below x are split. Assumes nothing.
-use Rattle.words.proofs.Vocabulary.{ℕ, _≤_, _<_, _-_, _+_, _*_, _%_, _≡_, _∙_, refl, sym, ap, subst, ⊎-elim, length, getD, set, mod-lt, add-one, needs, arith, replicate}
+use Rattle.words.proofs.Vocabulary.{ℕ, _≤_, _<_, _-_, _+_, _*_, _%_, _≡_, _∙_, refl, sym, ap, subst, ⊎-elim, getD, mod-lt, needs, arith, replicate}
 use lib.ListN.{getD-replicate}
 use Rattle.joining.specs.Classes.{classIn}
 use Rattle.joining.specs.Parting.{classAt, SplitBy}
