@@ -8,19 +8,14 @@
  * the host does; of a tree that is shown the nodes on its longest downward path are
  * counted here, from the bits of the strip alone. They must be fewer than the states
  * told, and the host must end well and write a line for each node. The rule of the
- * deepest tree, of the one with the fewest states if there are several, is left in
- * FOLDER/deepest.rul. It prints what fails and a count, and ends with status 1 if
- * anything failed. */
+ * deepest tree that has just one node fewer is left in FOLDER/deepest.rul. It prints
+ * what fails and a count, and ends with status 1 if anything failed. */
 #define _DEFAULT_SOURCE
 #include "request.h"
 
 enum { MOST_RULES = 1 << 14 };
 static struct strip *tried[MOST_RULES];
-static unsigned rules, trees, reached, failed;
-static struct {
-    unsigned deep;
-    ws2s_verdict verdict;
-} deepest;
+static unsigned rules, trees, reached, failed, deepest, deepest_reached;
 static const char *host, *folder;
 static uint8_t *workspace;
 
@@ -92,14 +87,17 @@ static void try_rule(const struct strip *rule, const char *file, unsigned long n
         return;
     trees++;
     unsigned deep = deep_at(out, &at, (unsigned)checked.variables);
-    reached += deep + 1 == v.states;
     if (deep >= v.states || !host_walks(rule, v.positions)) {
         failed++;
         printf("depth: %s, line %lu: %u nodes on a path, %u states\n", file, number, deep, (unsigned)v.states);
     }
-    if (deep > deepest.deep || (deep == deepest.deep && v.states < deepest.verdict.states)) {
-        deepest.deep = deep;
-        deepest.verdict = v;
+    if (deep > deepest)
+        deepest = deep;
+    if (deep + 1 != v.states)
+        return;
+    reached++;
+    if (deep > deepest_reached) {
+        deepest_reached = deep;
         if (!write_rule("deepest.rul", rule, path, sizeof path))
             exit(2);
     }
@@ -144,7 +142,7 @@ int main(int argc, char **argv)
     folder = argv[2];
     for (int i = 3; i < argc; i++)
         try_file(argv[i]);
-    printf("depth: of %u rules %u are shown, all walked by the host but for %u; the deepest has %u nodes on a path and %u states; "
-           "%u have one node fewer than states\n", rules, trees, failed, deepest.deep, (unsigned)deepest.verdict.states, reached);
-    return failed != 0 || trees == 0;
+    printf("depth: of %u rules %u are shown, all walked by the host but for %u; the deepest has %u nodes on a path; "
+           "%u have one node fewer than states, the deepest of them %u\n", rules, trees, failed, deepest, reached, deepest_reached);
+    return failed != 0 || reached == 0;
 }

@@ -6,9 +6,9 @@
 #
 # from the top of the repository, with the compiler CC and the sanitizer's flags in
 # SANITIZE. The example host walks every tree of the files (depth.c); the command
-# draws the deepest of them in every form, and the deepest tree that can be handed
-# in. Both must be stopped if they lend one entry fewer than the deepest tree takes,
-# or this would show nothing.
+# draws the deepest of those that take all entries but one in every form, and the
+# deepest tree that can be handed in. Both must be stopped if they lend one entry fewer
+# than that tree takes, or this would show nothing.
 set -eu
 depth=$1 command=$2 archive=$3
 shift 3

@@ -308,7 +308,7 @@ static void try_decide(unsigned n)
 }
 
 /* The deepest tree to be shown: a chain of so many nodes, for a rule that says of
- * the last, by "exists" of the one before and so on, how it is reached. With 17
+ * the last, by "exists" of the one before and so on, how it is reached. With 31
  * nodes a record has more than 64 states. */
 static void try_shown(unsigned nodes)
 {
@@ -574,7 +574,7 @@ int main(int argc, char **argv)
         try_clash(n);
     }
     try_joins();
-    for (unsigned nodes = 1; nodes <= 17; nodes++)
+    for (unsigned nodes = 1; nodes <= 31; nodes++)
         try_shown(nodes);
     try_nests();
     try_long_texts();
