@@ -162,9 +162,9 @@ larger: $(HOST)/larger
 example: $(HOST)/example
 	@$(HOST)/example "$$RULE" $(NAMES)
 
-COMPARED := $(foreach f,decide clash clash_lists join join_rules,tests/vectors/base/$(f).txt)
-TIMED := $(foreach f,tests/vectors/heavy bench/sing bench/leftovers bench/clash bench/join bench/worst,-l $(f).txt)
-COUNTED := $(foreach l,1 2 3 4 5,tests/vectors/heavy.txt:$(l)) $(foreach l,1 2,bench/sing.txt:$(l)) $(foreach l,1 2 3 4 5 6 7 8 9,bench/clash.txt:$(l)) $(foreach l,1 2,bench/join.txt:$(l))
+COMPARED := $(foreach f,decide decide_large decide_order joined clash clash_lists join join_rules,tests/vectors/base/$(f).txt)
+TIMED := $(foreach f,tests/vectors/heavy bench/sing bench/leftovers bench/clash bench/join bench/joined bench/worst,-l $(f).txt)
+COUNTED := $(foreach l,1 2 3 4 5,tests/vectors/heavy.txt:$(l)) $(foreach l,1 2,bench/sing.txt:$(l)) $(foreach l,1 2 3 4 5 6 7 8 9,bench/clash.txt:$(l)) $(foreach l,1 2,bench/join.txt:$(l)) $(foreach l,1 2 3 4 5 6,bench/joined.txt:$(l))
 bench: $(HOST)/bench $(VERDICT) $(COMMAND)
 	$(HOST)/bench -v tests/vectors/base/decide.txt $(TIMED) $(SAMPLES) $(MADE_TEXTS) $(TEXTS)
 	bench/instructions.sh $(HOST)/bench $(COUNTED) $(SAMPLES) $(MADE_TEXTS) $(TEXTS)
