@@ -5,7 +5,8 @@
                                nothing if any of them is refused
     mona.py --compare FILE...  run MONA on lines of vector files. Rules whose
                                answer is shown, larger or none: the first two must
-                               be satisfiable, the last not. Trees that are shown
+                               be satisfiable, the last not, and MONA's machine, which
+                               is minimal, must have the states told. Trees that are shown
                                or judged: the rule must be satisfiable with just
                                their sets if the answer is shown or yes, and not
                                if it is no. Rules that are asked which parts clash:
@@ -24,6 +25,7 @@
 
 import argparse
 import os
+import re
 import shutil
 import subprocess
 import sys
@@ -143,13 +145,18 @@ def joined_apart(one, two, joined):
     return "\n".join(lines) + "\n"
 
 
-def run_mona(text, limit):
-    """Whether MONA finds the text satisfiable (None if it gives up), and its time."""
+# How many states MONA's machine has, where it writes the whole; there are more, of its own, above the root.
+STATES = re.compile(r"^State space 1 '<univ>' \(size (\d+)\):$", re.MULTILINE)
+
+
+def run_mona(text, limit, whole=False):
+    """Whether MONA finds the text satisfiable (None if it gives up), and its time; if
+    it is to write the whole machine, also that machine's states."""
     with tempfile.NamedTemporaryFile("w", suffix=".mona", delete=False) as file:
         file.write(text)
     begin = time.monotonic()
     try:
-        done = subprocess.run(["mona", "-q", file.name], capture_output=True, text=True,
+        done = subprocess.run(["mona", "-q"] + ["-w"] * whole + [file.name], capture_output=True, text=True,
                               timeout=limit)
         said = done.stdout
         if done.returncode != 0:
@@ -159,11 +166,8 @@ def run_mona(text, limit):
     finally:
         os.unlink(file.name)
     taken = time.monotonic() - begin
-    if "unsatisfiable" in said:
-        return False, taken
-    if "valid" in said or "satisfying example" in said:
-        return True, taken
-    return None, taken
+    found = False if "unsatisfiable" in said else True if "valid" in said or "satisfying example" in said else None
+    return (found, taken, int(STATES.search(said)[1]) if found is not None else None) if whole else (found, taken)
 
 
 def parts_of(records):
@@ -186,40 +190,44 @@ def trials(rule, kept):
 
 
 def questions(line):
-    """What to ask MONA about a vector line: text and whether it is satisfiable."""
+    """What to ask MONA about a vector line: text, whether it is satisfiable, and the
+    states of a machine for it where they are told."""
     request, _, answer = line.strip().partition(" = ")
     words, said = request.split(), answer.split()
     if words[0] in ("decide", "verdict") and said[0] in ("shown", "larger", "none"):
         rule = bytes.fromhex(words[1])
-        yield to_mona(rule), said[0] != "none"
+        yield to_mona(rule), said[0] != "none", int(said[2 if said[0] == "shown" else 1])
         if said[0] == "shown":
-            yield to_mona(rule, bytes.fromhex(said[3])), True
+            yield to_mona(rule, bytes.fromhex(said[3])), True, None
     elif words[0] == "judge" and said[0] in ("yes", "no"):
-        yield to_mona(bytes.fromhex(words[1]), bytes.fromhex(words[4])), said[0] == "yes"
+        yield to_mona(bytes.fromhex(words[1]), bytes.fromhex(words[4])), said[0] == "yes", None
     elif words[0] == "clash" and said[0] == "kept":
-        yield from trials(bytes.fromhex(words[1]), [int(part) for part in said[2:]])
+        yield from ((*trial, None) for trial in trials(bytes.fromhex(words[1]), [int(part) for part in said[2:]]))
     elif words[0] == "clash" and said[:2] == ["refused", "29"]:
-        yield to_mona(bytes.fromhex(words[1])), True
+        yield to_mona(bytes.fromhex(words[1])), True, None
     elif words[0] == "join" and said[0] == "ok":
-        yield joined_apart(*map(bytes.fromhex, (words[1], words[2], said[2]))), False
+        yield joined_apart(*map(bytes.fromhex, (words[1], words[2], said[2]))), False, None
 
 
 def compare(files, limit):
-    asked = agreed = gave_up = 0
+    asked = agreed = gave_up = counted = 0
     total = 0.0
     for name in files:
         for number, line in enumerate(open(name), 1):
-            for text, expected in questions(line):
+            for text, expected, states in questions(line):
                 asked += 1
-                found, taken = run_mona(text, limit)
+                found, taken, *size = run_mona(text, limit, states is not None)
                 total += taken
-                agreed += found == expected
+                agreed += found == expected and (states is None or size == [states])
                 gave_up += found is None
+                counted += states is not None
                 if found is None:
                     print(f"{name}:{number}: no verdict from MONA in {limit:g} s")
                 elif found != expected:
                     print(f"{name}:{number}: satisfiable: MONA {found}, here {expected}\n{text}")
-    print(f"{asked} questions, {agreed} agree, {gave_up} without verdict, {total:.1f} s in MONA")
+                elif states is not None and size != [states]:
+                    print(f"{name}:{number}: states: MONA {size[0]}, here {states}\n{text}")
+    print(f"{asked} questions, {counted} of them with states, {agreed} agree, {gave_up} without verdict, {total:.1f} s in MONA")
     return agreed + gave_up == asked and agreed > 0
 
 
