@@ -11,7 +11,8 @@
  * the ceiling. Both get the same buffers, with the same bytes in and
  * around them; their results and all these bytes must agree after the call, and
  * whatever is shown must check, be walked with a stack of as many bytes as states
- * are told, and be judged as satisfying the rule; of parts that are said to clash the
+ * are told, and be judged as satisfying the rule; a rule with itself, by "and" or by
+ * "or", must have the same answer, with as many states; of parts that are said to clash the
  * library must decide that there is none, and without any one of them that there is.
  * One call in three is of a text
  * (typed.h); strips that were imported must check, and are decided and judged at
@@ -89,10 +90,12 @@ static uint64_t some_states(enum operation o, const struct strip *rule, bool acc
     return c;
 }
 
+/* Room of this program's own. */
+static uint8_t space[MIDDLE_SPACE];
+
 /* Whether the oracle refuses a rule for more than c states. */
 static bool refuses_states(enum operation o, const struct strip *rule, uint64_t c)
 {
-    static uint8_t space[MIDDLE_SPACE];
     const uint8_t tree[] = { rule->byte[0], 0 }; /* the empty one */
     size_t asked = space_asked(o, rule->byte, c);
     return asked <= sizeof space
@@ -409,6 +412,25 @@ static const char *shown_wrong(const struct request *r, const ws2s_verdict *v)
     return j.kind == 1 ? NULL : "shown tree is not judged to satisfy the rule";
 }
 
+/* A rule joined with itself has the same answer: its machine has no states to join, and
+ * those of the two are always the same. */
+static const char *twice_wrong(const struct request *r, const ws2s_verdict *v)
+{
+    static struct strip twice;
+    uint8_t out[WS2S_MAX_TREE_BYTES];
+    unsigned m = records(&made.rule);
+    size_t at = record_at(m);
+    if (m == WS2S_MAX_RECORDS)
+        return NULL;
+    twice = made.rule;
+    put_record(&twice, &at, 6 + below(2), m - 1, m - 1);
+    twice.byte[1] = (uint8_t)(m + 1);
+    if (space_asked(OP_decide, twice.byte, r->number[C]) > sizeof space)
+        return NULL;
+    ws2s_verdict w = ws2s_decide(twice.byte, twice.length, r->number[C], r->number[P], space, sizeof space, out, sizeof out);
+    return memcmp(&w, v, sizeof w) == 0 && memcmp(out, ours[OUT].at, w.length) == 0 ? NULL : "a rule with itself has another answer";
+}
+
 /* Whether the library decides that nothing satisfies the parts listed, one left out if
  * it is among them; a conjunction that has no answer is as it should be. */
 static bool decides(const struct request *r, const ws2s_clash_list *list, unsigned without, uint64_t none)
@@ -452,11 +474,11 @@ static struct {
 } joins;
 
 static struct strip joined;
-static uint8_t space[1 << 16], shown[WS2S_MAX_TREE_BYTES];
+static uint8_t shown[WS2S_MAX_TREE_BYTES];
 
 static ws2s_verdict decide_in_space(const struct strip *rule, uint64_t c)
 {
-    return ws2s_decide(rule->byte, rule->length, c, WS2S_MAX_POSITIONS, space, sizeof space, shown, sizeof shown);
+    return ws2s_decide(rule->byte, rule->length, c, WS2S_MAX_POSITIONS, space, SMALL_SPACE, shown, sizeof shown);
 }
 
 /* Whether a tree with the result's variables, or others, cut to these of a rule, is judged
@@ -465,7 +487,7 @@ static bool satisfies(const struct strip *rule, uint64_t c, const struct strip *
 {
     static struct strip own;
     recut_tree(&own, variables(rule), tree, 0);
-    ws2s_judgement j = ws2s_judge(rule->byte, rule->length, c, space, sizeof space, own.byte, own.length);
+    ws2s_judgement j = ws2s_judge(rule->byte, rule->length, c, space, SMALL_SPACE, own.byte, own.length);
     joins.cut += ws2s_check_tree(own.byte, own.length).positions < ws2s_check_tree(tree->byte, tree->length).positions;
     *refused = *refused || j.kind == WS2S_REFUSED;
     return j.kind == WS2S_YES;
@@ -553,9 +575,9 @@ static const char *joined_wrong(const ws2s_written *w)
     if (w->variables != (n1 > n2 ? n1 : n2) || w->records != records(&made.rule) + records(&made.second) + 1u)
         return "rules joined have another n, or another number of records";
     uint64_t states = once_in(2) ? 64 : 1 + below(32);
-    while (states > 1 && space_asked(OP_decide, joined.byte, states) > sizeof space)
+    while (states > 1 && space_asked(OP_decide, joined.byte, states) > SMALL_SPACE)
         states -= (states + 3) / 4;
-    return once_in(3) && space_asked(OP_decide, joined.byte, states) <= sizeof space ? meaning_wrong(states) : NULL;
+    return once_in(3) && space_asked(OP_decide, joined.byte, states) <= SMALL_SPACE ? meaning_wrong(states) : NULL;
 }
 
 static void count_join(const ws2s_written *w)
@@ -873,6 +895,8 @@ int main(int argc, char **argv)
         const char *what = differs(&r, &one, &two);
         if (!what && r.operation == OP_decide && two.verdict.kind == 0)
             what = shown_wrong(&r, &one.verdict);
+        if (!what && r.operation == OP_decide && two.verdict.kind != WS2S_REFUSED && once_in(4))
+            what = twice_wrong(&r, &one.verdict);
         if (!what && r.operation == OP_clash && two.clash_list.refusal == 0) {
             what = list_wrong(&r, &one.clash_list);
             count_list(&two.clash_list);
