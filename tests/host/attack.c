@@ -194,6 +194,8 @@ static void make_joined_rule(struct strip *s, bool clashing)
         make_broad_trials(s);
     else if (once_in(6))
         make_chain_rule(s);
+    else if (once_in(6))
+        make_closed_rule(s);
     else
         make_alike_rule(s);
 }

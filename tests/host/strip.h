@@ -275,6 +275,34 @@ static inline void make_chain_rule(struct strip *s)
     s->byte[1] = (uint8_t)number;
 }
 
+/* A rule strip that says of the places next to the members of a set, above them or below,
+ * that they are members of it, or of another; at times with an atom. In such a rule a node
+ * of label 0 above empty branches can tell a state apart from that of the empty tree. */
+static inline void make_closed_rule(struct strip *s)
+{
+    size_t at;
+    unsigned above = below(2), other = once_in(4) ? 3 : 0, op = below(5), number = 10;
+    put_heading(s, &at, other ? 4 : 3, 0);
+    for (unsigned i = 0; i < 2; i++)
+        put_record(s, &at, 2 + below(2), 1, 2);
+    put_record(s, &at, 6, 0, 1);
+    put_record(s, &at, 0, above ? 1 : 2, 0);
+    put_record(s, &at, 7, 2, 3);
+    put_record(s, &at, 0, above ? 2 : 1, other);
+    put_record(s, &at, 5, 5, 0);
+    put_record(s, &at, 7, 4, 6);
+    put_record(s, &at, 8, 1, 7);
+    put_record(s, &at, 8, 2, 8);
+    if (!once_in(4))
+        put_record(s, &at, 5, number++ - 1, 0);
+    if (once_in(2)) {
+        put_record(s, &at, op, 0, names_second_variable(op) ? other : 0);
+        put_record(s, &at, 6 + below(2), number - 1, number);
+        number += 2;
+    }
+    s->byte[1] = (uint8_t)number;
+}
+
 /* Three atoms joined from the right. A trial joins the first two, which the rule does not. */
 static inline void make_three_parts(struct strip *s)
 {
