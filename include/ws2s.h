@@ -276,8 +276,9 @@ ws2s_verdict ws2s_decide(const uint8_t *rule, size_t rule_len, uint64_t c, uint6
  * rule itself, as ws2s_decide has it; 29; 14 in a trial, where the parts that are
  * left are joined one after the other, and after each the states that behave alike:
  * "record" is then the part with which there were more than c. A trial can have more
- * states than the rule, where parts that clash were joined early. After a list, 14 and 29 those bytes of the workspace are
- * zero and any later ones unchanged; after another refusal all are unchanged. */
+ * states than the rule, where parts that clash were joined early. After a list, 14
+ * and 29 those bytes of the workspace are zero and any later ones unchanged; after
+ * another refusal all are unchanged. */
 ws2s_clash_list ws2s_clash(const uint8_t *rule, size_t rule_len, uint64_t c,
                            uint8_t *workspace, size_t workspace_len);
 
