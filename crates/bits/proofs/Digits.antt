@@ -7,7 +7,7 @@ use lib.Pow.{shr-shr}
 use lib.Arith.{digits_mod}
 use lib.Bits.{bit_or, or_step, or_shr}
 
--- the i_th binary digit of w
+-- the i-th binary digit of w
 abbrev pub bit : ℕ → ℕ → ℕ
 bit i w = w / 2 ^ i % 2
 

@@ -1,11 +1,13 @@
 // Fields of bits in a byte slice, most significant first.
+#![tactic(auto)]
+
 ghost use Rattle.std.specs.Prelude.{◌≡◌, ◌++◌, ℕ, ◌+◌, ◌*◌, ◌<◌, ◌≤◌, length, get_or, set, drop, replicate};
 ghost use Rattle.std.proofs.lemmas.List.Edits.{sets};
 ghost use Rattle.std.proofs.Math.Seq.{slice};
 ghost use Rattle.bits.specs.Bits.{bits, digits, field, first_set, bit_length};
 
 // What a check finds in a strip: nothing amiss, or a refusal's number and the bit place where the field that is meant starts.
-#[derive(Drop)]
+#[derive(Clone, Copy)]
 pub enum Fault {
     Sound,
     At { number: u64, place: u64 },

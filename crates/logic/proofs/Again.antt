@@ -1,6 +1,6 @@
 -- Joining a machine that has the fewest states changes nothing; so joining again changes nothing.
 -- Assumes nothing.
-use Prim.Native.Nat.{ℕ, suc, ◌≤◌, ◌<◌}
+use Prim.Native.Nat.{ℕ, suc, ◌<◌}
 use mathlib.Core.Path.{◌≡◌, refl, sym, ap, subst, ◌∙◌, fun_ext}
 use mathlib.Core.Bool.{Bool, true, false, cond}
 use mathlib.Core.List.{List, [], ◌∷◌}
@@ -12,7 +12,7 @@ use Rattle.logic.specs.Reach.{elem, select, position, numbered}
 use Rattle.logic.specs.Alike.{Full, Agrees}
 use Rattle.logic.specs.Table.{Table}
 use Rattle.logic.proofs.Reach.{elem-select}
-use Rattle.logic.proofs.Counts.{position_get_d, select-length}
+use Rattle.logic.proofs.Counts.{position-get_or, select-length}
 use Rattle.logic.specs.Joined.{numbers, merged, classes, join_by, join}
 use Rattle.logic.specs.Least.{Least}
 use Rattle.logic.proofs.Classes.{elem-numbers, numbers-distinct}
@@ -42,7 +42,7 @@ module _ {k : ℕ} (n : ℕ) (a : Table k) (F : Full n a.count a.machine) (l : L
   place : (q : ℕ) → q < a.count → position q (classes a.count (leader n a)) ≡ q
   place q h =
       ap (λ (N : List ℕ). position q N) whole ∙ ap (λ (r : ℕ). position r (numbers a.count)) (sym (numbers_at a.count q h))
-      ∙ position_get_d (numbers a.count) (numbers-distinct a.count) q (let e = numbers-length a.count in omega arith)
+      ∙ position-get_or (numbers a.count) (numbers-distinct a.count) q (let e = numbers-length a.count in omega arith)
 
   back : (q : ℕ) → q < a.count → get_or (classes a.count (leader n a)) q 0 ≡ q
   back q h = ap (λ (N : List ℕ). get_or N q 0) whole ∙ numbers_at a.count q h

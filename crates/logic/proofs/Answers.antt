@@ -1,6 +1,6 @@
 -- THE TOP THEOREMS: the answers of decide and judge are what the papers ask for, and the only such.
 -- Assumes nothing.
-use Prim.Native.Nat.{ℕ, ◌-◌, ◌^◌, ◌≤◌, ◌<◌}
+use Prim.Native.Nat.{ℕ, ◌^◌, ◌≤◌, ◌<◌}
 use mathlib.Core.Path.{◌≡◌, refl, sym, ap, ap₂, subst, ◌∙◌}
 use mathlib.Core.Logic.{◌↔◌, ◌⊎◌, inl, inr, ⊎_elim}
 use mathlib.Core.Bool.{Bool, true, false, cond}
@@ -18,7 +18,7 @@ use Rattle.logic.specs.Table.{Table, Built, over, built}
 use Rattle.logic.specs.Joined.{join, constructed, joined_table}
 use Rattle.logic.specs.Trim.{trim, tree_of, bare, Trimmed}
 use Rattle.logic.specs.Search.{Sought, tree, large, absent, search}
-use Rattle.logic.specs.Claims.{Outcome, refused14, shown, none, larger, Judgement, unbuilt, yes, no, states_at, FirstOver, Roomy, Model, Earliest, Answers}
+use Rattle.logic.specs.Claims.{Outcome, refused14, shown, none, larger, Judgement, unbuilt, yes, no, FirstOver, Roomy, Model, Earliest, Answers}
 use Rattle.logic.specs.Claims.{Demand2, Demand3, LeastForRule, Judges, Shallow}
 use Rattle.logic.specs.Decide.{report, conclude, build_rule, decide_of, say, ruling, judge_of, last_table}
 use Rattle.logic.proofs.Places.{T→true, true→T}
@@ -420,6 +420,6 @@ module _ (k n : ℕ) (rs : List Record) (c P : ℕ) where
 pub one-tree : {k : ℕ} (n : ℕ) (A : Assignment k) → (t : Tree k) × TreeOf n A t × ((u : Tree k) → TreeOf n A u → u ≡ t)
 one-tree n A = (tree_of n A, tree-of n A, tree_of-only n A)
 
--- and a tree with n_bit labels is that of an assignment exactly if it is trimmed
+-- and a tree with n-bit labels is that of an assignment exactly if it is trimmed
 pub trimmed_iff : {k : ℕ} (n : ℕ) (t : Tree k) → Proper n t → Trimmed t ↔ ((A : Assignment k) × TreeOf n A t)
 trimmed_iff n t o = ((λ r. (sets_of n t, own-tree n t r o)), λ w. tree_of-trimmed n w.0 t w.1)

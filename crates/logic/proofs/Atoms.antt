@@ -1,6 +1,6 @@
 -- The atoms' machines decide the atoms.
 -- Assumes nothing.
-use Prim.Native.Nat.{ℕ, ◌+◌, ◌<◌}
+use Prim.Native.Nat.{ℕ, ◌<◌}
 use mathlib.Core.Path.{◌≡◌, refl, ap, ap₂, sym, subst, subst₂, ◌∙◌, fun_ext}
 use mathlib.Core.Logic.Iff
 use mathlib.Core.Logic.{◌↔◌, ◌≢◌}
@@ -115,7 +115,7 @@ module _ {k : ℕ} where
       let s : Branch k → ℕ = λ c. run (subset_machine n x y) (f c) in
       let i = and_iff (idle s) (not (bit n l x) || bit n l y) (idle_iff s) (imp_iff (bit n l x) (bit n l y)) in
       let j = when_true (idle s && (not (bit n l x) || bit n l y)) 0 1 0 refl (omega arith) in (
-        λ e p. elim p [ [] ↦ (i.0 (j.0 e)).1 | c ∷ q ↦ (subset-run n x y (f c)).0 ((i.0 (j.0 e)).0 c) q ],
+        λ e p. elim p as (λ r. T (bit_at n (node l f) x r) → T (bit_at n (node l f) y r)) [ [] ↦ (i.0 (j.0 e)).1 | c ∷ q ↦ (subset-run n x y (f c)).0 ((i.0 (j.0 e)).0 c) q ],
         λ u. j.1 (i.1 (λ c. (subset-run n x y (f c)).1 (λ q. u (c ∷ q)), u [])),
       )
 

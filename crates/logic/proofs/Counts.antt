@@ -2,7 +2,7 @@
 -- Assumes nothing.
 use Prim.Native.Nat.{ℕ, zero, suc, ◌^◌, ◌≤◌, ◌<◌, suc-le-suc}
 use mathlib.Core.Path.{◌≡◌, refl, ap, sym, subst, fun_ext}
-use mathlib.Core.Logic.{◌↔◌, ◌⊎◌, inl, inr, ⊎_elim}
+use mathlib.Core.Logic.{◌↔◌, inl, inr, ⊎_elim}
 use mathlib.Core.Bool.{Bool, true, false, cond, not, ◌||◌}
 use mathlib.Core.List.{List, [], ◌∷◌}
 use native.Mathlib.Nat.{not-suc-le-zero, le_of_suc-le-suc, le_antisymm}
@@ -17,16 +17,16 @@ use Rattle.logic.proofs.Places.{T→true, not_T as false_of, neqb}
 use Rattle.logic.proofs.Reach.{elem-cons, elem_below, elem-select}
 use Rattle.logic.proofs.Rounds.{without, reach-start, reach-closed, reach-only, reach-all, reach-distinct}
 use Rattle.logic.specs.Alike.{Full, Distinct, Closed, Lists}
-use Rattle.logic.proofs.Numbered.{bound, build-bounded, position_lt, get_d_position, get_d_elem, reached-bound, numbered-bounded}
+use Rattle.logic.proofs.Numbered.{bound, build-bounded, position_lt, get_or-position, get_or-elem, reached-bound, numbered-bounded}
 
-pub position_get_d : (L : List ℕ) → Distinct L → (i : ℕ) → i < length L → position (get_or L i 0) L ≡ i
+pub position-get_or : (L : List ℕ) → Distinct L → (i : ℕ) → i < length L → position (get_or L i 0) L ≡ i
 unfolding Distinct position
-position_get_d [] d i h = absurd (not-suc-le-zero h)
-position_get_d (r ∷ L) d zero h = rw (T→true (eqb r r) (eqb_refl r)) refl
-position_get_d (r ∷ L) d (suc i) h =
+position-get_or [] d i h = absurd (not-suc-le-zero h)
+position-get_or (r ∷ L) d zero h = rw (T→true (eqb r r) (eqb_refl r)) refl
+position-get_or (r ∷ L) d (suc i) h =
     let e : eqb (get_or L i 0) r ≡ false = false_of (eqb (get_or L i 0) r)
-    (λ t. d.0 (subst (λ (z : ℕ). T (elem z L)) (eqb→eq (get_or L i 0) r t) (get_d_elem L i (le_of_suc-le-suc h)))) in
-    rw e (ap suc (position_get_d L d.1 i (le_of_suc-le-suc h)))
+    (λ t. d.0 (subst (λ (z : ℕ). T (elem z L)) (eqb→eq (get_or L i 0) r t) (get_or-elem L i (le_of_suc-le-suc h)))) in
+    rw e (ap suc (position-get_or L d.1 i (le_of_suc-le-suc h)))
 
 -- ---- lists by index
 pub elem-position : (q : ℕ) (L : List ℕ) → position q L < length L → T (elem q L)
@@ -42,7 +42,7 @@ pub distinct_index : (L : List ℕ) → ((i j : ℕ) → i < length L → j < le
 unfolding Distinct
 distinct_index [] one = tt
 distinct_index (q ∷ L) one = (
-  (λ t. let z : 0 ≡ suc (position q L) = one 0 (suc (position q L)) (omega arith) (suc-le-suc (position_lt q L t)) (sym (get_d_position q L t)) in omega arith),
+  (λ t. let z : 0 ≡ suc (position q L) = one 0 (suc (position q L)) (omega arith) (suc-le-suc (position_lt q L t)) (sym (get_or-position q L t)) in omega arith),
   distinct_index L (λ i j hi hj e. let z : suc i ≡ suc j = one (suc i) (suc j) (suc-le-suc hi) (suc-le-suc hj) e in omega arith),
 )
 
@@ -53,10 +53,10 @@ module _ {k : ℕ} (n : ℕ) (M : Machine k ℕ) (L : List ℕ) (one : (i j : �
   pub lists_index : Lists n M L
   lists_index = record {
     distinct = distinct_index L one;
-    only = λ q t. subst (Reached M (below (2 ^ n))) (get_d_position q L t) (reached (position q L) (position_lt q L t));
-    begins = subst (λ (q : ℕ). T (elem q L)) first.1 (get_d_elem L 0 first.0);
+    only = λ q t. subst (Reached M (below (2 ^ n))) (get_or-position q L t) (reached (position q L) (position_lt q L t));
+    begins = subst (λ (q : ℕ). T (elem q L)) first.1 (get_or-elem L 0 first.0);
     closed = λ l t s h.
-        let e : M.step l (λ b. get_or L (position (s b) L) 0) ≡ M.step l s = ap (M.step l) (fun_ext (λ b. get_d_position (s b) L (h b))) in
+        let e : M.step l (λ b. get_or L (position (s b) L) 0) ≡ M.step l s = ap (M.step l) (fun_ext (λ b. get_or-position (s b) L (h b))) in
         elem-position (M.step l s) L (subst (λ (q : ℕ). position q L < length L) e
         (closed l ((elem_below l (2 ^ n)).0 t) (λ b. position (s b) L) (λ b. position_lt (s b) L (h b))));
   }
@@ -71,14 +71,14 @@ module _ {k : ℕ} (n : ℕ) (M : Machine k ℕ) (L : List ℕ) (v : Lists n M L
   unfolding numbered
   renumbered q started = started
   renumbered q (stepped l t s h) =
-      let e : M.step l (λ b. get_or L (position (s b) L) 0) ≡ M.step l s = ap (M.step l) (fun_ext (λ b. get_d_position (s b) L (listed (s b) (h b)))) in
+      let e : M.step l (λ b. get_or L (position (s b) L) 0) ≡ M.step l s = ap (M.step l) (fun_ext (λ b. get_or-position (s b) L (listed (s b) (h b)))) in
       subst (λ (z : ℕ). Reached (numbered M L) (below (2 ^ n)) (position z L)) e (stepped l t (λ b. position (s b) L) (λ b. renumbered (s b) (h b)))
 
   pub full-numbered : Full n (length L) (numbered M L)
   full-numbered = (
     numbered-bounded n M L v.begins v.closed,
-    λ q h. subst (λ (z : ℕ). Reached (numbered M L) (below (2 ^ n)) z) (position_get_d L v.distinct q h)
-        (renumbered (get_or L q 0) (v.only (get_or L q 0) (get_d_elem L q h))),
+    λ q h. subst (λ (z : ℕ). Reached (numbered M L) (below (2 ^ n)) z) (position-get_or L v.distinct q h)
+        (renumbered (get_or L q 0) (v.only (get_or L q 0) (get_or-elem L q h))),
   )
 
 module _ {k : ℕ} (n d : ℕ) (M : Machine k ℕ) (B : Bounded n d M) where

@@ -119,7 +119,7 @@ module _ {k : ℕ} {Q S : Type 0} (n x : ℕ) (below : x < n) (M : Machine k Q) 
         node (with_bit n x v 0) (λ b. (us b).0),
         (
           (put_lt n x v 0 below (pow_pos n), λ b. (us b).1.0),
-          (λ i hi d p. elim p [ [] ↦ bit-put-other n x v 0 i below hi d ∙ bit-zero n i | b ∷ p' ↦ (us b).1.1 i hi d p' ]),
+          (λ i hi d p. elim p as (λ r. bit_at n (node (with_bit n x v 0) (λ b. (us b).0)) i r ≡ bit_at n empty i r) [ [] ↦ bit-put-other n x v 0 i below hi d ∙ bit-zero n i | b ∷ p' ↦ (us b).1.1 i hi d p' ]),
           ap (M.step (with_bit n x v 0)) (fun_ext (λ b. (us b).1.2)),
         ),
       )
@@ -134,7 +134,7 @@ module _ {k : ℕ} {Q S : Type 0} (n x : ℕ) (below : x < n) (M : Machine k Q) 
         node (with_bit n x c.0 l) (λ b. (us b).0),
         (
           (put_lt n x c.0 l below o.0, λ b. (us b).1.0),
-          (λ i hi d p. elim p [ [] ↦ bit-put-other n x c.0 l i below hi d | b ∷ p' ↦ (us b).1.1 i hi d p' ]),
+          (λ i hi d p. elim p as (λ r. bit_at n (node (with_bit n x c.0 l) (λ b. (us b).0)) i r ≡ bit_at n (node l f) i r) [ [] ↦ bit-put-other n x c.0 l i below hi d | b ∷ p' ↦ (us b).1.1 i hi d p' ]),
           ap (M.step (with_bit n x c.0 l)) (fun_ext (λ b. (us b).1.2)) ∙ c.3,
         ),
       )

@@ -130,7 +130,7 @@ module _ (k n : ℕ) (rs : List Record) (ok : Accepted k n rs) (r : ℕ) (h : r 
   pub record_states : LeastStates {k = k} n (formula_at rs r) (joined_table {k = k} n (formula_at rs r)).count
   record_states = least-states n F valid
 
-  -- what refusal 14 counts: the states that the construction over joined parts comes to on trees with n_bit labels
+  -- what refusal 14 counts: the states that the construction over joined parts comes to on trees with n-bit labels
   pub states-counted : (q : ℕ) → (q < states_at k n rs r) ↔ Reached (constructed {k = k} n (formula_at rs r)).machine (below (2 ^ n)) q
   states-counted q =
       let w = constructed-right {k = k} n F valid in

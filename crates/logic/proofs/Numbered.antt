@@ -28,19 +28,19 @@ position_lt q (r ∷ L) t = go (eqb q r) (position_lt q L) t
     go true ih u = omega arith
     go false ih u = let h = ih u in omega arith
 
-pub get_d_position : (q : ℕ) (L : List ℕ) → T (elem q L) → get_or L (position q L) 0 ≡ q
+pub get_or-position : (q : ℕ) (L : List ℕ) → T (elem q L) → get_or L (position q L) 0 ≡ q
 unfolding position elem
-get_d_position q [] t = absurd t
-get_d_position q (r ∷ L) t = go (eqb q r) refl (get_d_position q L) t
+get_or-position q [] t = absurd t
+get_or-position q (r ∷ L) t = go (eqb q r) refl (get_or-position q L) t
   where
     go : (v : Bool) → eqb q r ≡ v → (T (elem q L) → get_or L (position q L) 0 ≡ q) → T (v || elem q L) → get_or (r ∷ L) (cond v 0 (suc (position q L))) 0 ≡ q
     go true e ih u = sym (eqb→eq q r (true→T e))
     go false e ih u = ih u
 
-pub get_d_elem : (L : List ℕ) (i : ℕ) → i < length L → T (elem (get_or L i 0) L)
-get_d_elem [] i h = absurd (not-suc-le-zero h)
-get_d_elem (r ∷ L) zero h = (elem-cons r r L).1 (inl refl)
-get_d_elem (r ∷ L) (suc i) h = (elem-cons (get_or L i 0) r L).1 (inr (get_d_elem L i (le_of_suc-le-suc h)))
+pub get_or-elem : (L : List ℕ) (i : ℕ) → i < length L → T (elem (get_or L i 0) L)
+get_or-elem [] i h = absurd (not-suc-le-zero h)
+get_or-elem (r ∷ L) zero h = (elem-cons r r L).1 (inl refl)
+get_or-elem (r ∷ L) (suc i) h = (elem-cons (get_or L i 0) r L).1 (inr (get_or-elem L i (le_of_suc-le-suc h)))
 
 pub reached-bound : {k : ℕ} (n c : ℕ) (M : Machine k ℕ) (ls : List ℕ) → Bounded n c M → ((l : ℕ) → T (elem l ls) → l < 2 ^ n) → (q : ℕ) → Reached M ls q → q < c
 reached-bound n c M ls B h q started = B.0
@@ -49,7 +49,7 @@ reached-bound n c M ls B h q (stepped l t s u) = B.1 l (h l t) s (λ b. reached-
 -- any list of states that holds the start and is closed under M's steps will do, in whatever order they were found
 module _ {k : ℕ} (n : ℕ) (M : Machine k ℕ) (L : List ℕ) (S : T (elem M.start L)) (C : Closed M (below (2 ^ n)) L) where
   step_in : (l : ℕ) → l < 2 ^ n → (s : Branch k → ℕ) → ((b : Branch k) → s b < length L) → T (elem (M.step l (λ b. get_or L (s b) 0)) L)
-  step_in l h s u = C l ((elem_below l (2 ^ n)).1 h) (λ b. get_or L (s b) 0) (λ b. get_d_elem L (s b) (u b))
+  step_in l h s u = C l ((elem_below l (2 ^ n)).1 h) (λ b. get_or L (s b) 0) (λ b. get_or-elem L (s b) (u b))
 
   pub numbered-bounded : Bounded n (length L) (numbered M L)
   unfolding numbered
@@ -58,11 +58,11 @@ module _ {k : ℕ} (n : ℕ) (M : Machine k ℕ) (L : List ℕ) (S : T (elem M.s
   pub numbered_simulates : Simulates n (numbered M L) M (λ q r. (q < length L) × (get_or L q 0 ≡ r))
   unfolding numbered
   numbered_simulates = record {
-    at_start = (position_lt M.start L S, get_d_position M.start L S);
+    at_start = (position_lt M.start L S, get_or-position M.start L S);
     at_step = λ l h s r u.
         let t = step_in l h s (λ b. (u b).0) in (
           position_lt (M.step l (λ b. get_or L (s b) 0)) L t,
-          get_d_position (M.step l (λ b. get_or L (s b) 0)) L t ∙ ap (M.step l) (fun_ext (λ b. (u b).1)),
+          get_or-position (M.step l (λ b. get_or L (s b) 0)) L t ∙ ap (M.step l) (fun_ext (λ b. (u b).1)),
         );
     at-end = λ q r u. ap M.accepting u.1;
   }

@@ -1,6 +1,6 @@
 -- Sets of places: the part below a branch, joining, and a bound on the length of the members.
 -- Assumes nothing.
-use Prim.Native.Nat.{ℕ, zero, suc, ◌+◌, ◌≤◌, ◌<◌, max}
+use Prim.Native.Nat.{ℕ, zero, suc, ◌≤◌, ◌<◌, max}
 use mathlib.Core.Path.{◌≡◌, refl, ap, ap₂, sym, subst, ◌∙◌}
 use mathlib.Core.HLevel.{is_prop→PathP}
 use mathlib.Core.Logic.{◌≢◌}

@@ -1,6 +1,6 @@
 -- The machines of an accepted rule's records: built one after the other, they are those of the records' formulas, and decide them.
 -- Assumes nothing.
-use Prim.Native.Nat.{ℕ, zero, suc, ◌+◌, ◌-◌, ◌≤◌, ◌<◌}
+use Prim.Native.Nat.{ℕ, zero, suc, ◌+◌, ◌≤◌, ◌<◌}
 use mathlib.Core.Path.{◌≡◌, refl, ap, ap₂, sym, subst, ◌∙◌}
 use mathlib.Core.Logic.{◌↔◌, ⊎_elim}
 use mathlib.Core.Bool.{Bool, true, false, ◌&&◌}
@@ -26,9 +26,9 @@ pub and_both : (a b : Bool) → T (a && b) → T a × T b
 and_both a b = (and_iff a b (λ t. t, λ t. t) (λ t. t, λ t. t)).0
 
 -- one element more
-pub get_d_snoc : {A : Type 0} (P : ℕ → A → Type 0) (z : A) (xs : List A) (x : A) → ((j : ℕ) → j < length xs → P j (get_or xs j z)) → P (length xs) x
+pub get_or-snoc : {A : Type 0} (P : ℕ → A → Type 0) (z : A) (xs : List A) (x : A) → ((j : ℕ) → j < length xs → P j (get_or xs j z)) → P (length xs) x
     → (j : ℕ) → j < length (xs ++ (x ∷ [])) → P j (get_or (xs ++ (x ∷ [])) j z)
-get_d_snoc P z xs x f p j h = elim (ℕ-tri j (length xs)) [
+get_or-snoc P z xs x f p j h = elim (ℕ-tri j (length xs)) [
   | less l ↦ rw (get_or-append xs (x ∷ []) z j l) (f j l)
   | same e ↦ rw (e, get_or-append_seam xs x [] z) p
   | more l ↦ absurd (let a = length-append xs (x ∷ []) in omega arith)
@@ -132,7 +132,7 @@ module _ (k : ℕ) (keep : Table k → Table k) (n c : ℕ) (used : ℕ → Bool
       where
         on : (T (used (length fs)) → t.count ≤ c) → Says (extend gs rs) (build_all keep n c used rs (tables_of fs ++ (keep t ∷ [])))
         on room = rw (e, ← tables_snoc fs f)
-            (ih (get_d_snoc (λ i g. T (used i) → (table_by keep n g).count ≤ c) (root 0) fs f h (λ w. subst (λ (a : Table k). a.count ≤ c) e (room w))))
+            (ih (get_or-snoc (λ i g. T (used i) → (table_by keep n g).count ≤ c) (root 0) fs f h (λ w. subst (λ (a : Table k). a.count ≤ c) e (room w))))
 
         go : (u v : Bool) → used (length fs) ≡ u → ltb c y ≡ v → Says (extend gs rs) (admit (u && v) (keep t) (build_all keep n c used rs) (tables_of fs))
         go true true p q = rw (tables_length fs) (
@@ -197,7 +197,7 @@ module _ (k n : ℕ) where
       let w = and_both (good k n (length fs) r) (good_from k n (suc (length fs)) rs) t in
       let f : Formula k = formula_of r fs in
       extend-valid rs (fs ++ (f ∷ [])) (rw (snoc-length fs f) w.1)
-      (get_d_snoc (λ j x. Valid n x) (root 0) fs f vs (of_good fs vs r.op r.first r.second w.0))
+      (get_or-snoc (λ j x. Valid n x) (root 0) fs f vs (of_good fs vs r.op r.first r.second w.0))
 
 pub record_valid : (k n : ℕ) (rs : List Record) → T (good_from k n 0 rs) → (i : ℕ) → i < length rs → Valid {k = k} n (formula_at rs i)
 unfolding formula_at

@@ -14,7 +14,6 @@ use Rattle.logic.specs.Meaning.{Branch}
 use Rattle.logic.specs.Tree.{Tree, empty, node, positions, Proper}
 use Rattle.logic.specs.Order.{◌≺◌, ◌⪯◌}
 use Rattle.logic.specs.Machine.{Machine, run}
-use Rattle.logic.specs.Reach.{below}
 use Rattle.logic.specs.Table.{Table}
 use Rattle.logic.specs.Search.{at, rank, candidate, settled, view, Best, nothing, found, pick, Sought, tree, large, absent, verdict, next, rounds}
 use Rattle.logic.specs.Search.{any_below, begin, search}

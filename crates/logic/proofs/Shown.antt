@@ -4,7 +4,6 @@ use Prim.Native.Nat.{ℕ, ◌^◌}
 use mathlib.Core.Path.{◌≡◌, refl, sym, ap, ◌∙◌}
 use native.Mathlib.Omega.{arith}
 use Rattle.logic.specs.Tree.{Tree}
-use Rattle.logic.specs.Order.{◌⪯◌}
 use Rattle.logic.specs.Machine.{Machine}
 use Rattle.logic.specs.Alike.{Full}
 use Rattle.logic.specs.Table.{Table}

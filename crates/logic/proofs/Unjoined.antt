@@ -1,16 +1,14 @@
 -- What request A8 changed: the machines, refusal 14 and the answers as they were before it, when nothing was joined. Where 14 did not apply
 -- then it does not now, and the answers differ in the number of states alone, which is never more. Assumes nothing.
-use Prim.Native.Nat.{ℕ, ◌+◌, ◌-◌, ◌*◌, ◌^◌, ◌≤◌, ◌<◌}
+use Prim.Native.Nat.{ℕ, ◌*◌, ◌^◌, ◌≤◌, ◌<◌}
 use mathlib.Core.Path.{◌≡◌, refl, sym, ap, ◌∙◌}
-use mathlib.Core.Logic.{◌↔◌}
-use mathlib.Core.Bool.{Bool, true, false, ◌&&◌, ◌||◌}
+use mathlib.Core.Bool.{Bool, ◌&&◌, ◌||◌}
 use mathlib.Core.List.{List, []}
 use native.Mathlib.Decide.{dec_lt}
 use native.Mathlib.Omega.{arith}
-use lib.Dec.{T}
 use lib.ListN.{length}
-use Rattle.logic.specs.Meaning.{Assignment, Formula, subset, singleton, successor, root, negation, disjunction, conjunction, exists, Valid, Holds}
-use Rattle.logic.specs.Tree.{Tree, empty, Proper, TreeOf}
+use Rattle.logic.specs.Meaning.{Formula, subset, singleton, successor, root, negation, disjunction, conjunction, exists, Valid}
+use Rattle.logic.specs.Tree.{Tree, empty, Proper}
 use Rattle.logic.specs.Rule.{Record, extend, formula_at, last_of, Accepted}
 use Rattle.logic.specs.ReachedRecords.{ReachedRecord, names_in, is_reached}
 use Rattle.logic.specs.Machine.{Machine, Bounded, run}

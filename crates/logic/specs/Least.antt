@@ -5,7 +5,7 @@ use Rattle.logic.specs.Meaning.{Assignment, Formula, Holds}
 use Rattle.logic.specs.Tree.{Tree, Proper, TreeOf}
 use Rattle.logic.specs.Machine.{Machine, Bounded, run, Decides}
 
--- "accepts the same trees, those with label 0 above two empty branches included": every tree with n_bit labels
+-- "accepts the same trees, those with label 0 above two empty branches included": every tree with n-bit labels
 abbrev pub SameTrees : {k : ℕ} {Q R : Type 0} → ℕ → Machine k Q → Machine k R → Type 0
 SameTrees {k} n M N = (t : Tree k) → Proper n t → M.accepting (run M t) ≡ N.accepting (run N t)
 
@@ -27,7 +27,7 @@ pub record LeastStates {k : ℕ} (n : ℕ) (f : Formula k) (c : ℕ) : Type 1 wh
   pub fewest : (Q : Type 0) (N : Machine k Q) → Decides n N f → AtLeast n N c
 
 -- the same of the machines whose states are numbers, every finite machine but for names: what a contract can carry, since it is of Type 0.
--- A machine with states below q decides f, of every tree with n_bit labels, and for every d one with states below d that does has q ≤ d
+-- A machine with states below q decides f, of every tree with n-bit labels, and for every d one with states below d that does has q ≤ d
 pub record LeastBelow {k : ℕ} (n : ℕ) (f : Formula k) (q : ℕ) : Type 0 where
   pub enough : (M : Machine k ℕ) × Bounded n q M × Decides n M f
   pub fewest : (d : ℕ) (M : Machine k ℕ) → Bounded n d M → Decides n M f → q ≤ d

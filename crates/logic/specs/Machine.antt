@@ -1,4 +1,4 @@
--- Deterministic bottom_up machines on trees.
+-- Deterministic bottom-up machines on trees.
 -- Assumes nothing.
 use Rattle.std.specs.Prelude.{ℕ, zero, suc, ◌+◌, ◌*◌, ◌-◌, ◌/◌, ◌%◌, ◌^◌, ◌<◌, ◌≡◌, ◌↔◌, Bool, true, false, not, ◌&&◌, ◌||◌, List, [], ◌∷◌, T}
 use Rattle.logic.specs.Meaning.{Branch, Assignment, Formula, Holds}
@@ -29,7 +29,7 @@ pub record Machine (k : ℕ) (Q : Type 0) : Type 0 where
   pub step : ℕ → (Branch k → Q) → Q
   pub accepting : Q → Bool
 
--- M's states are numbers below c, under n_bit labels
+-- M's states are numbers below c, under n-bit labels
 abbrev pub Bounded : {k : ℕ} → ℕ → ℕ → Machine k ℕ → Type 0
 Bounded {k} n c M = (M.start < c) × ((l : ℕ) → l < 2 ^ n → (s : Branch k → ℕ) → ((b : Branch k) → s b < c) → M.step l s < c)
 

@@ -1,6 +1,6 @@
 -- The search for the earliest accepted tree: each round settles one state more, in the order of the states' earliest trees.
 -- Assumes nothing.
-use Rattle.std.specs.Prelude.{ℕ, zero, suc, ◌+◌, ◌-◌, Bool, true, false, ◌||◌, List, [], ◌∷◌, ◌++◌, ltb, eqb, length, get_or}
+use Rattle.std.specs.Prelude.{ℕ, zero, suc, ◌-◌, Bool, true, false, ◌||◌, List, [], ◌∷◌, ◌++◌, ltb, eqb, length, get_or}
 use Rattle.logic.specs.Meaning.{Branch}
 use Rattle.logic.specs.Tree.{branches, sum_of, Tree, empty, node, positions}
 use Rattle.logic.specs.Machine.{Machine, run}

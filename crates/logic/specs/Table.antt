@@ -19,7 +19,7 @@ coded_product op c M N = record {
   accepting = λ q. op (M.accepting (q / c)) (N.accepting (q % c));
 }
 
--- M with the states that it reaches under n_bit labels; d: a bound on them
+-- M with the states that it reaches under n-bit labels; d: a bound on them
 unfoldable pub build : {k : ℕ} → ℕ → ℕ → Machine k ℕ → Table k
 build n d M = let L = reach M (below (2 ^ n)) d in record { count = length L; machine = numbered M L }
 

@@ -31,7 +31,7 @@ unfoldable pub low : ℕ → ℕ → Bool
 low l zero = eqb (l % 2) 1
 low l (suc j) = low (l / 2) j
 
--- "an n_bit label, variable 0 most significant": the bit of variable i
+-- "an n-bit label, variable 0 most significant": the bit of variable i
 unfoldable pub bit : ℕ → ℕ → ℕ → Bool
 bit n l i = low l (n - suc i)
 

@@ -34,7 +34,7 @@ unfoldable pub trim : {k : ℕ} → Tree k → Tree k
 trim empty = empty
 trim (node l f) = cond (bare l (λ b. trim (f b))) empty (node l (λ b. trim (f b)))
 
--- the n_bit label whose bit of variable i is g i
+-- the n-bit label whose bit of variable i is g i
 unfoldable pub label_of : ℕ → (ℕ → Bool) → ℕ
 label_of n g = word_of n (λ j. g (n - suc j))
 

@@ -1,1 +1,2 @@
 // Specifications and proofs only: the meaning of WS2S, trees, machines, and the theorems about them.
+#![tactic(auto)]

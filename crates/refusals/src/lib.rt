@@ -1,10 +1,12 @@
 // What refuses a call, and the numbers by which C is told of it. An operation tests its refusals in their order, and the first that applies
 // is its answer.
+#![tactic(auto)]
+
 ghost use Rattle.std.specs.Prelude.{◌≡◌};
 ghost use Rattle.refusals.specs.Refusal.{refusal_numbers};
 
 // Nothing; a strip's refusal, with the bit place that it names; another, by its number alone; or 14, with the record's number.
-#[derive(Drop)]
+#[derive(Clone, Copy)]
 pub enum Refusal {
     Nothing,
     Placed { number: u64, place: u64 },
@@ -40,7 +42,7 @@ pub fn refusal_numbers(r: Refusal) -> RefusalNumbers
 }
 
 // A refusal in numbers; those that do not apply are 0.
-#[derive(Drop)]
+#[derive(Clone, Copy)]
 pub struct RefusalNumbers {
     pub number: u64,
     pub recordnumber: u64,

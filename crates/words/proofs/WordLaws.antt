@@ -69,7 +69,7 @@ lowest (suc k) n h l = go (n % 2) refl (lowest k (n / 2))
         → (under r t < suc k) × (mem (under r t) n ≡ true) × ((q : ℕ) → q < under r t → mem q n ≡ false)
     go zero e old =
         let z = old (omega arith) (omega (arith, pow-suc 2 k)) in
-        (suc-le-suc z.0, z.1, λ q. elim q [ zero ↦ λ h. ap (λ (m : ℕ). eqb m 1) e | suc q ↦ λ h. z.2 q (le_of_suc-le-suc h) ])
+        (suc-le-suc z.0, z.1, λ q. elim q as (λ p. p < suc t → mem p n ≡ false) [ zero ↦ λ h. ap (λ (m : ℕ). eqb m 1) e | suc q ↦ λ h. z.2 q (le_of_suc-le-suc h) ])
     go (suc r) e old = let one : n % 2 ≡ 1 = omega arith in (suc-le-suc zero-le, ap (λ (m : ℕ). eqb m 1) one, λ q h. absurd (not-suc-le-zero h))
 
 pub digit-mem : (x : ℕ) → x < 2 → digit (eqb x 1) ≡ x

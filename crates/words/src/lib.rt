@@ -1,4 +1,6 @@
 // Sets of states, numbers below 64, as 64-bit words.
+#![tactic(auto)]
+
 ghost use Rattle.std.specs.Prelude.{true, ◌||◌, ◌&&◌, ◌≡◌, ℕ, ◌%◌, ◌<◌, eqb};
 ghost use Rattle.std.specs.Int.Count.{ones};
 ghost use Rattle.words.specs.Word.{mem, any, Smallest, Without};

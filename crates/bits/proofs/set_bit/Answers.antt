@@ -1,5 +1,4 @@
 -- `set_bit` meets its contract. Assumes nothing.
-use borrow.Author.Rules.{rules}
 use mathlib.Core.Path.{◌≡◌, ap, ◌∙◌}
 use mathlib.Core.List.{List}
 use Prim.Native.Nat.{ℕ, ◌/◌, ◌%◌, ◌*◌, ◌+◌, ◌-◌, ◌<◌, ◌^◌}
@@ -11,8 +10,7 @@ use lib.Bits.{bit_or}
 use lib.ListN.{length, get_or, set}
 use Rattle.bits.specs.Bits.{bits}
 use Rattle.bits.proofs.Fields.{bits-set}
-use Rattle.bits.proofs.set_bit.Statement.{statement}
-use Rattle.bits.proofs.set_bit.Tie as tie
+use Rattle.bits.proofs.set_bit.Goals as goal
 
 stored : (d : List ℕ) (at : ℕ) → at < 8 * length d
     → bits (set d (at / 8) (bit_or (get_or d (at / 8) 0) ((1 * 2 ^ (7 - at % 8)) % 256))) ≡ set (bits d) at 1
@@ -21,8 +19,6 @@ stored d at h =
     let p = shl_exact {a = 1} 1 (7 - at % 8) 8 (lit< tt) (omega arith) ∙ one-mul (2 ^ (7 - at % 8)) in
     rw p (bits-set d (at / 8) (at % 8) (omega arith) (omega arith) ∙ ap (λ (k : ℕ). set (bits d) k 1) e)
 
-pub set-bit-spec : {M : Type 1} → statement M
-set-bit-spec =
-    tie.close
-    (tie.spec (λ c. search rules) (λ c. search rules) (λ c. search rules) (λ c. search rules) (λ c. search rules) (λ c. search rules)
-    (λ c. stored _ _ c.before.requires))
+pub returns : goal.returns
+returns c =
+    stored _ _ c.requires

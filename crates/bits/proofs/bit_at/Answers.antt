@@ -8,14 +8,13 @@ use lib.ListN.{length, get_or}
 use Rattle.bits.proofs.Digits.{bit}
 use Rattle.bits.specs.Bits.{bits}
 use Rattle.bits.proofs.Fields.{bits_at}
-use Rattle.bits.proofs.bit_at.Statement.{statement}
-use Rattle.bits.proofs.bit_at.Tie as tie
+use Rattle.bits.proofs.bit_at.Goals as goal
 
 read : (s : List ℕ) (at : ℕ) → at < 8 * length s → bit (7 - at % 8) (get_or s (at / 8) 0) ≡ get_or (bits s) at 0
 read s at h =
     let e : 8 * (at / 8) + at % 8 ≡ at = omega arith in
     sym (ap (λ (k : ℕ). get_or (bits s) k 0) (sym e) ∙ bits_at s (at / 8) (at % 8) (omega arith) (omega arith))
 
-pub bit-at-spec : {M : Type 1} → statement M
-bit-at-spec =
-    tie.close (tie.spec (λ c. search rules) (λ c. search rules) (λ c. search rules) (λ c. search rules) (λ c. (read _ _ c.before.requires, search rules)))
+pub returns : goal.returns
+returns c =
+    record { value = read _ _ c.requires; upper_bound = search rules }
