@@ -14,7 +14,6 @@ use Rattle.bits.specs.declared.Fault.TheVariants.{Sound, At}
 use Rattle.rule_strip.specs.RuleStrip.{variables_of, count_of, records_of, rule_bytes, rule_fault, AcceptedRule}
 use Rattle.rule_strip.specs.RuleAnswers.{checked_rule}
 use Rattle.rule_strip.specs.RuleWriting.{strip_of_rule, record_word, records_of_words}
-use Rattle.rule_strip.specs.declared.RuleCheck.TheVariants.{Accepted as accepted}
 use Rattle.rule_strip.proofs.RuleLaws.{rule-accepted}
 use Rattle.rule_strip.proofs.RulePlaces.{place-told}
 use Rattle.rule_strip.proofs.RuleWriting.{AllSmall, Passes, good-small, strip-passes}

@@ -1,4 +1,6 @@
 // Two rule strips with agreed variable numbers, joined into one: request A7.
+#![tactic(auto)]
+
 ghost use Rattle.std.specs.Prelude.{◌≡◌, ◌+◌, ◌*◌, ◌≤◌, ◌<◌, max, length};
 ghost use Rattle.std.proofs.lemmas.List.Edits.{sets};
 ghost use Rattle.rule_strip.specs.RuleStrip.{count_of, record_at, records_of, rule_fault};
@@ -16,7 +18,7 @@ pub mod numbers; // what C is told
 
 // What join answers: the variables and records of the joined rule and the length of its strip in bytes; or what refuses, and which strip is at
 // fault, 1 or 2, or 0 if neither is.
-#[derive(Drop)]
+#[derive(Clone, Copy)]
 pub enum Joined {
     Written {
         variables: usize,
@@ -67,7 +69,7 @@ fn size_refusal(m: usize, p: usize, room: usize) -> Refusal
 }
 
 // What refuses before a byte is written, and which strip is at fault.
-#[derive(Drop)]
+#[derive(Clone, Copy)]
 struct Early {
     refusal: Refusal,
     strip: u64,

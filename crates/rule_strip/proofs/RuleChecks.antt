@@ -8,7 +8,7 @@ use native.Mathlib.Nat.{not-suc-le-zero, le_of_suc-le-suc, div-one}
 use native.Mathlib.Numerals.{add-one}
 use native.Mathlib.Omega.{arith}
 use lib.Dec.{ltb, leb, eqb, lit≤, leb-zero, leb-suc-suc, eqb-suc-zero}
-use lib.ListN.{length, get_or, drop, length-drop}
+use lib.ListN.{length, get_or, length-drop}
 use lib.Pow.{shr-shr}
 use lib.Seq.{slice, take_all}
 use borrow.Author.Tests.{lt-leb, leb-true, eqb-true, lt-ltb, le-ltb, not-false}
@@ -22,7 +22,7 @@ use Rattle.bits.proofs.Packing.{field-within}
 use Rattle.bits.proofs.Places.{any-first}
 use Rattle.rule_strip.specs.RuleStrip.{version_of, variables_of, count_of, record_at, records_from, records_of, rule_bytes, first_use, second_use}
 use Rattle.rule_strip.specs.RuleStrip.{bad_variable, bad_earlier, bad_unused, record_fault, records_fault, records_end, rule_padding, head_fault, rule_fault}
-use Rattle.rule_strip.specs.RuleAnswers.{use_refusal, field_fault, fields_of, record_or, read_record, read_records, GoodHead, rule_answer, checked_rule}
+use Rattle.rule_strip.specs.RuleAnswers.{use_refusal, field_fault, fields_of, record_or, read_record, read_records, GoodHead, checked_rule}
 use Rattle.rule_strip.specs.declared.Fields.{Fields}
 use Rattle.rule_strip.specs.declared.Read.{Read}
 use Rattle.rule_strip.specs.declared.Read.TheVariants.{Record, Refused}

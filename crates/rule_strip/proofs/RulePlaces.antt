@@ -7,7 +7,7 @@ use Prim.Native.Nat.{ℕ, zero, suc, ◌+◌, ◌-◌, ◌*◌, ◌≤◌, ◌<�
 use native.Mathlib.Omega.{arith}
 use borrow.Author.Tests.{leb-true, leb-false, ltb-true, eqb-false, not-true}
 use lib.Dec.{ltb, leb, eqb}
-use lib.ListN.{length, get_or, drop, length-drop}
+use lib.ListN.{length, get_or, length-drop}
 use lib.Seq.{get_or-drop}
 use Rattle.bits.specs.Bits.{bits, between, any_set, first_set, bit_length}
 use Rattle.bits.specs.Faults.{or_else}

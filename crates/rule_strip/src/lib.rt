@@ -1,4 +1,6 @@
 // Rule strips, read and checked: document 01, "Strips" and "Check a rule strip".
+#![tactic(auto)]
+
 ghost use Rattle.std.specs.Prelude.{◌≡◌, not, ◌+◌, ◌*◌, ◌%◌, ◌<◌, ◌≤◌, length};
 ghost use Rattle.bits.specs.Bits.{between};
 ghost use Rattle.rule_strip.specs.RuleStrip.{variables_of, count_of, first_use, second_use, record_at, record_fault, head_fault};
@@ -10,7 +12,7 @@ pub mod numbers; // what C is told
 pub mod write; // written from records as numbers
 
 // A record's three fields, as they stand in the strip.
-#[derive(Drop)]
+#[derive(Clone, Copy)]
 pub struct Fields {
     pub op: usize,
     pub first: usize,
@@ -18,7 +20,7 @@ pub struct Fields {
 }
 
 // What reading a record answers: the record with the next bit place, or a refusal number and the bit place that it names.
-#[derive(Drop)]
+#[derive(Clone, Copy)]
 enum Read {
     Record {
         op: usize,
@@ -33,14 +35,14 @@ enum Read {
 }
 
 // What checking a rule strip answers.
-#[derive(Drop)]
+#[derive(Clone, Copy)]
 pub enum RuleCheck {
     Accepted { variables: usize, records: usize },
     Refused { number: u64, place: u64 },
 }
 
 // What a field of a record holds: a variable, an earlier record's number, or nothing.
-#[derive(Drop)]
+#[derive(Clone, Copy)]
 pub enum Use {
     Variable,
     Earlier,

@@ -6,7 +6,7 @@ use crate::RuleCheck;
 
 // place is the bit place that a refusal names.
 #[repr(C)]
-#[derive(Drop)]
+#[derive(Clone, Copy)]
 pub struct RuleNumbers {
     pub refusal: u64,
     pub variables: u64,
@@ -16,7 +16,7 @@ pub struct RuleNumbers {
 
 // strip tells which of two strips is at fault, and place where; neither applies to a text.
 #[repr(C)]
-#[derive(Drop)]
+#[derive(Clone, Copy)]
 pub struct WrittenNumbers {
     pub refusal: u64,
     pub variables: u64,

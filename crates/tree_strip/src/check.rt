@@ -8,7 +8,7 @@ use bits::Fault;
 
 // What stands at a bit place: the empty tree, with the place after it; a node's label, with the place of its
 // first branch; or a refusal, with the bit place that it names.
-#[derive(Drop)]
+#[derive(Clone, Copy)]
 enum Head {
     Empty(usize),
     Node { label: usize, next: usize },
@@ -49,7 +49,7 @@ fn read_head(s: &[u8], n: usize, met: usize, at: usize) -> Head
 }
 
 // A tree that was read: the positions met, and the place after it; or a refusal, with the bit place that it names.
-#[derive(Drop)]
+#[derive(Clone, Copy)]
 enum TreeRead {
     Tree { met: usize, next: usize },
     Refused { number: u64, place: u64 },
@@ -122,7 +122,7 @@ fn read_end(s: &[u8], at: usize) -> Fault
 }
 
 // What the check of a tree strip answers.
-#[derive(Drop)]
+#[derive(Clone, Copy)]
 pub enum TreeCheck {
     Accepted { variables: usize, positions: usize },
     Refused { number: u64, place: u64 },

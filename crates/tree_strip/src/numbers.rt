@@ -28,7 +28,7 @@ pub fn tree_numbers(r: TreeCheck) -> TreeNumbers
 
 // place is the bit place that a refusal names.
 #[repr(C)]
-#[derive(Drop)]
+#[derive(Clone, Copy)]
 pub struct TreeNumbers {
     pub refusal: u64,
     pub variables: u64,

@@ -1,0 +1,10 @@
+-- `join::numbers::join_numbers` meets its contract. Assumes nothing.
+use Rattle.join.proofs.numbers.join_numbers.Goals as goal
+
+pub returns-in-Written : goal.returns-in-Written
+returns-in-Written c =
+    rw (c.written_rule.ensures, c.in-Written.is)
+
+pub returns-in-Refused : goal.returns-in-Refused
+returns-in-Refused c =
+    rw (c.unwritten_rule.ensures, c.in-Refused.is, c.refusal_numbers-x.ensures)
