@@ -1,4 +1,6 @@
 // The records of a text, put into an array while the text is read: document 01, "How trainers type a rule".
+#![tactic(auto)]
+
 ghost use Rattle.std.specs.Prelude.{◌≡◌, ◌+◌, ◌-◌, ◌<◌, ◌≤◌, min};
 ghost use Rattle.text.specs.Token.{ex1_kind, all2_kind, and_kind, alike_kind};
 ghost use Rattle.text.specs.Syntax.{Scope};
@@ -11,7 +13,7 @@ ghost use Rattle.drafting.specs.Joined.{put_quantified, put_joined};
 use text::kinds;
 
 // A place that an atom names: a variable's, its branch 1 (number 0) or 2 (number 1), or the root.
-#[derive(Drop)]
+#[derive(Clone, Copy)]
 pub enum Spot {
     Variable { track: usize },
     Branch { number: usize, track: usize },
@@ -19,7 +21,7 @@ pub enum Spot {
 }
 
 // An atom, with the tracks of its names.
-#[derive(Drop)]
+#[derive(Clone, Copy)]
 pub enum Atom {
     Sub { left: usize, right: usize },
     Member { element: usize, set: usize },

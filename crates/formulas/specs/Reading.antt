@@ -1,7 +1,6 @@
 -- The readers of a formula by binding strength, and what the code that reads one answers: request A2, with document 01's "How trainers type
 -- a rule". Assumes nothing.
 use Rattle.std.specs.Prelude.{ℕ, zero, suc, ◌≤◌, max, min, ◌≡◌, Bool, cond, ◌||◌, List, ◌∷◌, eqb, leb, length, get_or}
-use Prim.Native.String.{String}
 use Rattle.logic.specs.Rule.{Record}
 use Rattle.bits.specs.Bits.{between}
 use Rattle.text.specs.Token.{Token, spells, ex1_kind, ex2_kind, all1_kind, all2_kind, opening_kind, closing_kind, not_kind, and_kind}

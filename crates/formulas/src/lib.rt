@@ -3,6 +3,8 @@
 // array, lent to all of them: the kind, start and stop of the token that stands next, the records so far (129 for any more than 128), and how
 // many tracks were taken. A reader answers 0, or the number of a refusal, whose token is then the array's. The names in use are entries of
 // three numbers (`tokens::names`).
+#![tactic(auto)]
+
 ghost use Rattle.std.specs.Prelude.{◌≡◌, suc, ◌<◌, ◌≤◌, max, length};
 ghost use Rattle.text.specs.Token.{ex1_kind, all2_kind, opening_kind, not_kind, alike_kind};
 ghost use Rattle.text.specs.Grammar.{atom_of};
@@ -161,7 +163,7 @@ fn atom(
 
 // A formula in which no operator weaker than that of a strength joins: 0 is `<=>`, 1 `=>`, 2 `|`, 3 `&`. Its first operand is read once, and then
 // each operator may go on from there, the strongest first.
-#[cycle(arrow_bracket_formula_more_operand_quantified_tighter)]
+#[cycle(formula)]
 pub fn formula(
     text: &[u8],
     names: &[usize; 24],
@@ -194,7 +196,7 @@ pub fn formula(
 }
 
 // The operands that the operator of that strength, `<=>`, `|` or `&`, joins to the first: "`=>` groups to the right, the others to the left".
-#[cycle(arrow_bracket_formula_more_operand_quantified_tighter)]
+#[cycle(formula)]
 fn more(
     text: &[u8],
     names: &[usize; 24],
@@ -229,7 +231,7 @@ fn more(
 }
 
 // An operand of the operator of that strength.
-#[cycle(arrow_bracket_formula_more_operand_quantified_tighter)]
+#[cycle(formula)]
 fn tighter(
     text: &[u8],
     names: &[usize; 24],
@@ -252,7 +254,7 @@ fn tighter(
 }
 
 // "`=>` groups to the right", and its right side is a level of its own.
-#[cycle(arrow_bracket_formula_more_operand_quantified_tighter)]
+#[cycle(formula)]
 fn arrow(
     text: &[u8],
     names: &[usize; 24],
@@ -286,7 +288,7 @@ fn arrow(
 }
 
 // What `~` denies: an atom, or what stands behind a token that opens a level.
-#[cycle(arrow_bracket_formula_more_operand_quantified_tighter)]
+#[cycle(formula)]
 fn operand(
     text: &[u8],
     names: &[usize; 24],
@@ -323,7 +325,7 @@ fn operand(
 }
 
 // An opening bracket, a formula and its closing bracket.
-#[cycle(arrow_bracket_formula_more_operand_quantified_tighter)]
+#[cycle(formula)]
 fn bracket(
     text: &[u8],
     names: &[usize; 24],
@@ -346,7 +348,7 @@ fn bracket(
 
 // A quantifier word, what it binds, of that order, and the formula that it reaches over. The names in use are copied here alone, which happens
 // at most eight times on the way down.
-#[cycle(arrow_bracket_formula_more_operand_quantified_tighter)]
+#[cycle(formula)]
 fn quantified(
     text: &[u8],
     names: &[usize; 24],

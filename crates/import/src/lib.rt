@@ -1,4 +1,6 @@
 // A rule typed as text, written as a rule strip: request A2.
+#![tactic(auto)]
+
 ghost use Rattle.std.specs.Prelude.{◌≡◌, ◌-◌, ◌≤◌, length};
 ghost use Rattle.text.specs.Grammar.{text_of};
 ghost use Rattle.text.specs.Import.{import, out_after_import};
@@ -12,7 +14,7 @@ use text::kinds;
 pub mod numbers; // what C is told
 
 // What import answers: the variables and records of the rule and the length of its strip in bytes; or a refusal's number.
-#[derive(Drop)]
+#[derive(Clone, Copy)]
 pub enum Import {
     Written {
         variables: usize,
@@ -23,7 +25,7 @@ pub enum Import {
 }
 
 // What is at fault in a text: a refusal's number, or 0, and where its token starts and how many bytes it has.
-#[derive(Drop)]
+#[derive(Clone, Copy)]
 pub struct TextFault {
     pub refusal: u64,
     pub start: usize,
@@ -133,7 +135,7 @@ fn read_text(text: &[u8], words: &mut [u64; 128], here: &mut [usize; 5]) -> u64
 
 // The rule that a text says, as a strip at the front of out.
 pub fn import_text(text: &[u8], out: &mut [u8]) -> Import
-    ensures* result_value { do ⌜ result ≡ imported_of (import text.now (length out.old)) ⌝ }
+    ensures result_value { result ≡ imported_of (import text.now (length out.old)) }
     ensures out_after { out.new ≡ out_after_import (import text.now (length out.old)) out.old }
     ensures claimed { Claimed text.now result out.new }
 {

@@ -20,7 +20,7 @@ pub fn written_numbers(w: Import) -> WrittenNumbers
 
 // The token at which a text's refusal lies: the byte place where it starts, and its bytes.
 #[repr(C)]
-#[derive(Drop)]
+#[derive(Clone, Copy)]
 pub struct FaultNumbers {
     pub refusal: u64,
     pub start: u64,

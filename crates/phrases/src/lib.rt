@@ -1,5 +1,7 @@
 // The parts of a text that do not nest: a word or mark that must stand, what a quantifier binds, an atom, the declarations. Each is read token by
 // token, and refused at the token at which the definitions refuse it: document 01, "How trainers type a rule".
+#![tactic(auto)]
+
 ghost use Rattle.std.specs.Prelude.{◌≡◌, [], ◌<◌, ◌≤◌, length};
 ghost use Rattle.text.specs.Token.{a_name};
 ghost use Rattle.text.specs.Grammar.{new_refusal, is_in_use, spot_of, atom_of, declarations};
@@ -14,7 +16,7 @@ use text::kinds;
 use tokens::Token;
 
 // Whether a word or mark stands that must: the place behind it, or the refusal's number and the span of the token at which it lies.
-#[derive(Drop)]
+#[derive(Clone, Copy)]
 pub enum Mark {
     Stands {
         next: usize,
@@ -27,7 +29,7 @@ pub enum Mark {
 }
 
 // What a quantifier binds: the name's span and the place behind the colon.
-#[derive(Drop)]
+#[derive(Clone, Copy)]
 pub enum Binder {
     Bound {
         start: usize,
@@ -42,21 +44,21 @@ pub enum Binder {
 }
 
 // A name looked up: its order, 0 where it is not in use, and its track.
-#[derive(Drop)]
+#[derive(Clone, Copy)]
 struct Holder {
     order: usize,
     track: usize,
 }
 
 // A name used: the number of its refusal, or 0 and its track.
-#[derive(Drop)]
+#[derive(Clone, Copy)]
 struct Use {
     refusal: u64,
     track: usize,
 }
 
 // The right side of an equality, and the place behind it.
-#[derive(Drop)]
+#[derive(Clone, Copy)]
 enum SpotRead {
     Read {
         place: Spot,
@@ -70,7 +72,7 @@ enum SpotRead {
 }
 
 // An atom, and the place behind it.
-#[derive(Drop)]
+#[derive(Clone, Copy)]
 pub enum AtomRead {
     Read {
         atom: Atom,
@@ -85,7 +87,7 @@ pub enum AtomRead {
 
 // Declared names, how many they are, and the place behind them, when refusal is 0; else the refusal's number and the span of the token at which
 // it lies.
-#[derive(Drop)]
+#[derive(Clone, Copy)]
 pub struct Declarations {
     pub refusal: u64,
     pub start: usize,

@@ -1,4 +1,6 @@
 // The tokens of a text: document 01, "How trainers type a rule".
+#![tactic(auto)]
+
 ghost use Rattle.std.specs.Prelude.{◌≡◌, [], ◌∷◌, ◌+◌, ◌<◌, ◌≤◌, length, drop};
 ghost use Rattle.text.specs.Token.{is_blank, is_letter, is_alnum, words, word_kind, text_marks, mark_piece, begins_with};
 ghost use Rattle.tokens.specs.Tokens.{part, Span, StandsNext, span, packed, packed_kind, single_kind, mark_size};
@@ -8,7 +10,7 @@ use text::kinds;
 pub mod names;
 
 // A token: its kind, and the byte places where it starts and ends.
-#[derive(Drop)]
+#[derive(Clone, Copy)]
 pub struct Token {
     pub kind: usize,
     pub start: usize,

@@ -1,0 +1,18 @@
+-- `blanks_end` meets its contract. The loop's invariant: the end sought from the start is the one sought from the place reached.
+-- Assumes nothing.
+use mathlib.Core.Path.{sym, ◌∙◌}
+use Rattle.text.specs.Token.{is_blank}
+use Rattle.tokens.proofs.Reading.{span_more, span-stop, span-end}
+use Rattle.tokens.proofs.blanks_end.Goals as goal
+
+pub returns-then-not-is_blank : goal.returns-then-not-is_blank
+returns-then-not-is_blank c =
+    sym (c.loop-i.invariant ∙ span-stop is_blank _ _ c.loop-i-test.true (sym c.is_blank.ensures ∙ c.if-not-is_blank.true))
+
+pub loop-i-preserved : goal.loop-i-preserved
+loop-i-preserved c =
+    c.loop-i.invariant ∙ span_more is_blank _ _ c.loop-i-test.true (sym c.is_blank.ensures ∙ c.if-not-is_blank.false)
+
+pub returns : goal.returns
+returns c =
+    sym (c.loop-i.invariant ∙ span-end is_blank _ _ c.loop-i-test.false)
