@@ -1,4 +1,6 @@
 // The machines of a rule's records, those that are reached from the last one, in strip order.
+#![tactic(auto)]
+
 ghost use Rattle.std.specs.Prelude.{◌≡◌, true, false, ℕ, ◌-◌, ◌≤◌, ◌<◌, length, get_or, drop};
 ghost use Rattle.layout.specs.Shape.{share_at};
 ghost use Rattle.records.specs.Rule.{no_decoded, SomeParts};
@@ -71,7 +73,7 @@ pub fn next_marked(marks: &[bool; 129], r: usize, m: usize) -> usize
 }
 
 // How building ended: at the first record with too many states, by its number, or with every machine ready.
-#[derive(Drop)]
+#[derive(Clone, Copy)]
 pub enum Ending {
     Over(usize),
     Ready,
@@ -79,7 +81,7 @@ pub enum Ending {
 
 // What is kept of the machines: for each record its number of states, the set of its accepting states and the bits of the labels that it
 // looks at; and how building ended. Bytes are less to set and to copy than words.
-#[derive(Drop)]
+#[derive(Clone, Copy)]
 pub struct Machines {
     pub counts: [u8; 128],
     pub accepts: [u64; 128],

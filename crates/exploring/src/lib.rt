@@ -1,4 +1,6 @@
 // The exploration of a record's states: one for every kind of record, which differ in the successor and the start.
+#![tactic(auto)]
+
 ghost use Rattle.std.specs.Prelude.{◌≡◌, ◌+◌, ◌≤◌, ◌<◌, [], ◌∷◌, length, set, take};
 ghost use Rattle.std.proofs.Math.Option.{some};
 ghost use Rattle.exploring.specs.Explore.{DistinctCodes, insert, over, row, ring};
@@ -14,7 +16,7 @@ use table::rows::{exists_start, rows_of};
 
 // The codes found so far, in the order of discovery: those below count, where count is at most the ceiling. A count above the
 // ceiling says that there are too many.
-#[derive(Drop)]
+#[derive(Clone, Copy)]
 pub struct Builder {
     pub codes: [u64; 64],
     pub count: usize,

@@ -129,7 +129,7 @@ module _ {k : ℕ} (list : (Branch k → ℕ) → List ℕ) (S : Listing k list)
     settled_is q h =
         let l : g q < n = omega (arith, w.whole.low q) in
         sym (first-numbers (λ r. not (is_apart v n M r q)) n (g q) l
-        (ap not (is_false (is_apart v n M (g q) q) (λ t. class_like ((apart-tells v n M B (g q) q l h).0 (true→T t)) l h (w.whole.own_val q))))
+        (ap not (is_false (is_apart v n M (g q) q) (λ t. class_like ((apart-tells v n M B (g q) q l h).0 (true→T t)) l h (w.whole.own q))))
         (λ r b. is_false (not (is_apart v n M r q)) (λ t.
         let hr : r < n = omega arith in
         let e = w.keeps name told respected r q hr h (chosen.same r q hr h

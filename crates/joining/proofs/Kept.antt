@@ -18,8 +18,8 @@ use Rattle.logic.specs.Machine.{Machine, Bounded}
 use Rattle.logic.specs.Two.{one, two, pair_of}
 use Rattle.logic.specs.Reach.{elem, select, position}
 use Rattle.logic.proofs.Two.{each}
-use Rattle.logic.proofs.Numbered.{position_lt, get_d_elem}
-use Rattle.logic.proofs.Counts.{position_get_d}
+use Rattle.logic.proofs.Numbered.{position_lt, get_or-elem}
+use Rattle.logic.proofs.Counts.{position-get_or}
 use Rattle.records.specs.Machine.{TableHolds, share_byte}
 use Rattle.records.specs.Rule.{Mach, mach_of, Stored, Spared}
 use Rattle.records.specs.declared.Summary.{Summary}
@@ -171,7 +171,7 @@ module _ (s : Shape) (shape : Shaped s) (base : ℕ) (m : Mach) (k r : Summary) 
   among q h =
       subst (λ (K : List ℕ). T (elem (first_like s m q) K)) (ap (λ (c : ℕ). leaders_of c gs) (sym old.count) ∙ led)
       (subst (λ (x : ℕ). T (elem x (leaders_of n gs))) (found q h)
-      ((leader_iff (class_in gs) n (class_in gs q)).1 (let a = J.settled.whole.low q in omega arith, J.settled.whole.own_val q)))
+      ((leader_iff (class_in gs) n (class_in gs q)).1 (let a = J.settled.whole.low q in omega arith, J.settled.whole.own q)))
 
   few-classes : mm ≤ n
   few-classes = omega (arith, named-few k.count gs J.names J.named, old.count)
@@ -209,12 +209,12 @@ module _ (s : Shape) (shape : Shaped s) (base : ℕ) (m : Mach) (k r : Summary) 
     unfolding first_members
     self_like q h =
         ((leader_iff (first_like s m) n q).0 (subst (λ (K : List ℕ). T (elem q K)) (sym every)
-        (subst (λ (x : ℕ). T (elem x (numbers n))) (number_at n q h) (get_d_elem (numbers n) q (omega (arith, numbers-long n)))))).1
+        (subst (λ (x : ℕ). T (elem x (numbers n))) (number_at n q h) (get_or-elem (numbers n) q (omega (arith, numbers-long n)))))).1
 
     self_number : (q : ℕ) → q < n → get_or N q 0 ≡ q
     self_number q h =
         numbers_of q h ∙ ap₂ (λ (x : ℕ) (K : List ℕ). position x K) (self_like q h) every
-        ∙ ap (λ (x : ℕ). position x (numbers n)) (sym (number_at n q h)) ∙ position_get_d (numbers n) (numbers-distinct n) q (omega (arith, numbers-long n))
+        ∙ ap (λ (x : ℕ). position x (numbers n)) (sym (number_at n q h)) ∙ position-get_or (numbers n) (numbers-distinct n) q (omega (arith, numbers-long n))
 
     same_byte : (q : ℕ) → q < share_of s → get_or t q 0 ≡ joined_byte s b k.count mm F N t q
     unfolding joined_byte

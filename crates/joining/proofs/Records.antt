@@ -1,11 +1,11 @@
 -- Building a record and then joining its states: what both promise together. Assumes nothing.
-use Rattle.words.proofs.Vocabulary.{ℕ, ◌≤◌, ◌<◌, ◌≡◌, ◌∙◌, sym, ap, List, get_or, arith}
+use Rattle.words.proofs.Vocabulary.{ℕ, ◌≤◌, ◌<◌, ◌∙◌, ap, List, arith}
 use Rattle.layout.specs.declared.Shape.{Shape}
 use Rattle.records.specs.Machine.{share_byte}
 use Rattle.records.specs.Rule.{Adds, Spared}
 use Rattle.records.specs.declared.Decoded.{Decoded}
 use Rattle.records.specs.declared.Summary.{Summary}
-use Rattle.joining.specs.Joining.{Joins, joined_of}
+use Rattle.joining.specs.Joining.{Joins}
 use Rattle.joining.specs.Record.{AddsJoined}
 
 module _ {x : Decoded} {s : Shape} {r : ℕ} {kf kg k : Summary} {ws built : List ℕ} (a : Adds x s r kf kg k ws built) (p : Spared s r ws built) where

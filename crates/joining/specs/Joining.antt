@@ -48,7 +48,7 @@ pub record Joinable (s : Shape) (r : ℕ) (k : Summary) (ws : List ℕ) : Type 0
   pub share : share_at s r + share_of s ≤ length ws
   pub few : k.count ≤ s.ceiling
 
--- machine m is k's and becomes k''s, joined: it looks at the same bits, and where a byte of the share was that of m over 0, it is that of the
+-- machine m is k's and becomes that of k', joined: it looks at the same bits, and where a byte of the share was that of m over 0, it is that of the
 -- joined machine over 0
 pub record Joined (s : Shape) (base : ℕ) (m : Mach) (k k' : Summary) (ws ws' : List ℕ) : Type 0 where
   pub stored : Stored s base (joined_of s m) k' ws'

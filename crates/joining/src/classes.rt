@@ -81,7 +81,7 @@ pub fn all_single(classes: &[u8; 64], n: usize) -> bool
 }
 
 // The classes: how many, the first member of each, and the number of each state's.
-#[derive(Drop)]
+#[derive(Clone, Copy)]
 pub struct Numbered {
     pub count: usize,
     pub first: [u8; 64],

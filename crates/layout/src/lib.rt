@@ -1,10 +1,12 @@
 // Where machines lie in the workspace: each record's table in a share of its own, an entry for each label and each choice of states.
+#![tactic(auto)]
+
 ghost use Rattle.std.specs.Prelude.{◌≡◌, ◌≤◌, ◌<◌, [], ◌∷◌};
 ghost use Rattle.layout.specs.Shape.{Shaped, shape_of, labels_in, place_in, share_of, share_at};
 ghost use Rattle.layout.specs.Slots.{range_of, Slotted, slot_place};
 
 // What the tables of a rule have in common: the number of variables, the state ceiling, and the number of branches of a node.
-#[derive(Drop)]
+#[derive(Clone, Copy)]
 pub struct Shape {
     pub variables: usize,
     pub ceiling: usize,

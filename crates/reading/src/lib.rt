@@ -1,5 +1,7 @@
 // What is read off a record's machine once it is built: whether it accepts any tree, the earliest that it accepts, and whether it accepts
 // the tree in a strip.
+#![tactic(auto)]
+
 ghost use Rattle.std.specs.Prelude.{◌≡◌, ◌≤◌};
 ghost use Rattle.reading.specs.Reading.{HasMachine, HasTree, Satisfiable, Finds, Accepts};
 

@@ -1,6 +1,6 @@
 -- A table that is copied, row by row and label by label; and the machine of "not", which has its part's table and the other states
 -- accepting. Assumes nothing.
-use Rattle.words.proofs.Vocabulary.{ℕ, ◌≤◌, ◌<◌, ◌+◌, ◌-◌, ◌≡◌, ◌∙◌, refl, sym, ap, subst, ap₂, ⊎_elim, inl, inr, ◌⊎◌, List, [], ◌∷◌, some, length, get_or}
+use Rattle.words.proofs.Vocabulary.{ℕ, ◌≤◌, ◌<◌, ◌+◌, ◌-◌, ◌≡◌, ◌∙◌, refl, sym, ap, subst, ap₂, ⊎_elim, inl, inr, ◌⊎◌, List, [], ◌∷◌, length, get_or}
 use Rattle.words.proofs.Vocabulary.{set, drop, length-set, length-drop, get_or-set_other, get_or-set_same, get_or-drop, ext_get_or, eq-or-lt_of_le, arith}
 use Rattle.layout.specs.Shape.{Shaped, labels_in, share_of, share_at, place_in, Tuple}
 use Rattle.layout.specs.declared.Shape.{Shape}

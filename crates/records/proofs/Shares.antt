@@ -4,14 +4,14 @@ use Rattle.words.proofs.Vocabulary.{le-leb, lt-leb, leb-false, leb-true, leb, le
 use Rattle.layout.specs.Shape.{labels_in, share_of, share_at, place_in, label_at, tuple_at, Tuple}
 use Rattle.layout.specs.declared.Shape.{Shape}
 use Rattle.layout.proofs.Places.{tuple_up, shares_small, share-next, place-one, place-in, place_at, states_at, label-at}
-use Rattle.table.specs.Entry.{Power, Step, seen, Bare, entry, through}
+use Rattle.table.specs.Entry.{Power, seen, Bare, entry, through}
 use Rattle.table.specs.Rows.{Led}
 use Rattle.table.specs.Succ.{PlanRoom, first_step, second_step, kind_code, successor_of, succ_in, start_code, start_of}
 use Rattle.table.specs.declared.plan.Kind.{Kind}
 use Rattle.table.specs.declared.plan.Kind.TheVariants.{Subset, Single, Child1, Child2, Root, Not, Or, And, Exists}
 use Rattle.table.specs.declared.plan.Plan.{Plan}
 use Rattle.table.proofs.Masks.{seen_le, kind-blind}
-use Rattle.exploring.specs.Explore.{Visit, codes_at, are_below}
+use Rattle.exploring.specs.Explore.{are_below}
 use Rattle.exploring.specs.Filling.{listed, Entered, Cell, Explored}
 use Rattle.exploring.specs.declared.Builder.{Builder}
 use Rattle.exploring.proofs.Found.{explore-some}

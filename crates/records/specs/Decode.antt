@@ -5,7 +5,7 @@ use Rattle.table.specs.declared.plan.Kind.{Kind}
 use Rattle.table.specs.declared.plan.Kind.TheVariants.{Subset, Single, Child1, Child2, Root, Not, Or, And, Exists}
 use Rattle.records.specs.declared.Decoded.{Decoded}
 
--- "variable 0 most significant": the weight of variable x's bit in an n_bit label; 1 for a number that is no variable
+-- "variable 0 most significant": the weight of variable x's bit in an n-bit label; 1 for a number that is no variable
 abbrev pub bit_weight : ℕ → ℕ → ℕ
 bit_weight n x = 2 ^ (n - suc x)
 

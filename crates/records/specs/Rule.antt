@@ -1,5 +1,5 @@
 -- The machine of one record, from those of its parts, and what is stored of it. Document 01, "Machines". Assumes nothing.
-use Rattle.std.specs.Prelude.{ℕ, ◌+◌, ◌≤◌, ◌<◌, ◌≡◌, Bool, true, false, cond, List, [], length, get_or, drop}
+use Rattle.std.specs.Prelude.{ℕ, ◌+◌, ◌≤◌, ◌<◌, ◌≡◌, Bool, true, false, cond, List, length, get_or, drop}
 use Rattle.std.proofs.Math.Option.{Option, none, some}
 use Rattle.layout.specs.Shape.{Shaped, labels_in, share_of, share_at}
 use Rattle.layout.specs.declared.Shape.{Shape}

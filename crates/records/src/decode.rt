@@ -21,7 +21,7 @@ fn kind_of(op: usize) -> Kind
     }
 }
 
-// The weight of variable x's bit in an n_bit label; 1 for a number that is no variable.
+// The weight of variable x's bit in an n-bit label; 1 for a number that is no variable.
 fn weight_of(n: usize, x: usize) -> usize
     requires { n ≤ 8 }
     ensures { result ≡ bit_weight n x }

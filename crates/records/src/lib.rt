@@ -1,4 +1,6 @@
 // The machine of one record, from what is kept of its parts' machines, in the record's share of the workspace.
+#![tactic(auto)]
+
 mod complement; // the machine of "not" from its part's
 pub mod decode; // a rule's record, as it is taken here
 
@@ -49,7 +51,7 @@ fn accept_word(codes: &[u64; 64], count: usize, kind: Kind, a: u64, b: u64) -> u
 }
 
 // A record of a rule: its kind, the numbers of the records that are its parts, and the weights of its variables' bits.
-#[derive(Drop)]
+#[derive(Clone, Copy)]
 pub struct Decoded {
     pub kind: Kind,
     pub first: u8,
@@ -59,7 +61,7 @@ pub struct Decoded {
 }
 
 // What is kept of one record's machine.
-#[derive(Drop)]
+#[derive(Clone, Copy)]
 pub struct Summary {
     pub count: u8,
     pub accept: u64,

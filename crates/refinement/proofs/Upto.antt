@@ -13,7 +13,7 @@ use Rattle.logic.proofs.Branches.{branch_same}
 use Rattle.logic.proofs.Connectives.{and_iff}
 use Rattle.logic.proofs.Reach.{elem-first, elem-second}
 use Rattle.logic.proofs.ReachedRecords.{reached_cong}
-use Rattle.logic.proofs.Rules.{record_valid, record_formula, good-here, rule-earlier, rule-reached, reached-within, get_d_snoc}
+use Rattle.logic.proofs.Rules.{record_valid, record_formula, good-here, rule-earlier, rule-reached, reached-within, get_or-snoc}
 use Rattle.table.specs.Succ.{start_code, kind_code}
 use Rattle.records.specs.Rule.{Mach, no_mach, machine_of, no_decoded}
 use Rattle.records.specs.declared.Decoded.{Decoded}
@@ -140,7 +140,7 @@ module _ (n c : ℕ) (sh : Shaped (shape_of n c)) (rs : List Record) (acc : Acce
         let e = h.0 in
         let d = length-append ns (mach ∷ []) in (
           d ∙ omega arith,
-          λ r l. get_d_snoc (λ (j : ℕ) (x : Mach). T (used j) → KeptAt j x) no_mach ns mach (λ j q. h.1 j (omega arith)) (rw e w) r (omega arith),
+          λ r l. get_or-snoc (λ (j : ℕ) (x : Mach). T (used j) → KeptAt j x) no_mach ns mach (λ j q. h.1 j (omega arith)) (rw e w) r (omega arith),
         )
 
     -- a record that is reached

@@ -1,5 +1,5 @@
 -- One step of a run: at a place where a tree stands, by its first bit. Assumes nothing.
-use Rattle.words.proofs.Vocabulary.{ℕ, suc, ◌+◌, ◌*◌, ◌≤◌, ◌<◌, ◌≡◌, refl, sym, ap, ap₂, subst, ◌∙◌, List, [], ◌∷◌, ◌++◌, arith, length, get_or, length-append}
+use Rattle.words.proofs.Vocabulary.{ℕ, ◌+◌, ◌*◌, ◌≤◌, ◌<◌, ◌≡◌, refl, sym, ap, ap₂, subst, ◌∙◌, List, [], ◌∷◌, ◌++◌, arith, length, get_or, length-append}
 use Rattle.logic.specs.Meaning.{Branch}
 use Rattle.logic.specs.Tree.{Tree, empty, node, Proper}
 use Rattle.logic.specs.Machine.{run}

@@ -1,10 +1,12 @@
 // The state that a machine's table comes to on the tree in a strip.
+#![tactic(auto)]
+
 ghost use Rattle.running.specs.Run.{Runnable, Came};
 
 use layout::Shape;
 
 // The state that a machine comes to, and the bit place after the tree.
-#[derive(Drop)]
+#[derive(Clone, Copy)]
 pub struct Ran {
     pub state: usize,
     pub next: usize,

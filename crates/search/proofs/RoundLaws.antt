@@ -10,7 +10,7 @@ use Rattle.layout.specs.Shape.{labels_in}
 use Rattle.layout.proofs.Places.{pair_in}
 use Rattle.logic.specs.Tree.{Tree, empty, positions}
 use Rattle.logic.specs.Machine.{Machine, run}
-use Rattle.logic.specs.Search.{Best, nothing, found, View, lighter, choose, consider, loop, pick, at, rank, settled, candidate, view, Sought, tree, absent}
+use Rattle.logic.specs.Search.{Best, nothing, found, View, lighter, choose, consider, loop, pick, at, rank, settled, candidate, view, Sought, tree}
 use Rattle.logic.specs.Search.{verdict, next, rounds, any_below, begin, search}
 use Rattle.logic.proofs.Orders.{less, same, more, ℕ-tri}
 use Rattle.tree_strip.specs.Ranks.{tree_at, decode, Backs}

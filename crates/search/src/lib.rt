@@ -1,4 +1,6 @@
 // The earliest accepted tree over a machine's table.
+#![tactic(auto)]
+
 ghost use Rattle.std.specs.Prelude.{◌≡◌, [], ◌∷◌, ℕ, ◌-◌, ◌<◌, ◌≤◌};
 ghost use Rattle.layout.specs.Shape.{labels_in};
 ghost use Rattle.words.specs.Word.{mem};
@@ -12,7 +14,7 @@ use layout::Shape;
 use table::entries::{step_in, wide};
 
 // The best candidate so far: its positions, or 0 for none; its label and the ranks of its branches.
-#[derive(Drop)]
+#[derive(Clone, Copy)]
 struct Pick {
     size: u64,
     label: usize,
@@ -150,7 +152,7 @@ fn narrow(x: usize) -> u8
 }
 
 // What the rounds found: no accepted tree, none within the place ceiling, or one that is shown.
-#[derive(Drop)]
+#[derive(Clone, Copy)]
 pub enum Finding {
     None,
     Larger,
@@ -158,7 +160,7 @@ pub enum Finding {
 }
 
 // How the rounds ended: the tree that is shown is that of rank n - 1 and has so many positions; each rank's label and branches.
-#[derive(Drop)]
+#[derive(Clone, Copy)]
 pub struct Found {
     pub finding: Finding,
     pub n: usize,

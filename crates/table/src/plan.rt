@@ -2,7 +2,7 @@
 use layout::Shape;
 
 // How a record's successor codes are computed.
-#[derive(Drop)]
+#[derive(Clone, Copy)]
 pub enum Kind {
     // X is a subset of Y.
     Subset,
@@ -27,7 +27,7 @@ pub enum Kind {
 // A machine to be built: its kind, the places where the tables of its parts start, the weights of the bits of its variables, the shape of
 // the tables, the place where its own starts, and the bits of the labels that it and its parts look at. A table has its entries at the
 // labels with no other bit: the record does not tell any other label from one of these.
-#[derive(Drop)]
+#[derive(Clone, Copy)]
 pub struct Plan {
     pub kind: Kind,
     pub table1: usize,

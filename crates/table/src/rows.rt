@@ -14,7 +14,7 @@ use layout::Shape;
 use words::{size, smallest, union, with_member, without};
 
 // At a state t, the states that follow a member of a set and t, and those that follow t and a member.
-#[derive(Drop)]
+#[derive(Clone, Copy)]
 struct Both {
     pub left: u64,
     pub right: u64,

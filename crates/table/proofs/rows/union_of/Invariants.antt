@@ -1,0 +1,11 @@
+-- `union_of` meets its contract. The invariant: what is left of the set is still to be walked.
+use Rattle.words.proofs.Vocabulary.{◌<◌, ◌^◌, get_or}
+use Rattle.words.specs.Word.{mem}
+use Rattle.words.proofs.Members.{Walk}
+use Rattle.table.proofs.rows.union_of.Given as goal
+
+abbrev pub invariant-loop-left : goal.invariant-loop-left
+invariant-loop-left l = (l.r < 2 ^ 64) × Walk l.s l.rest l.left l.r (λ q t. mem q (get_or l.row t 0))
+
+abbrev pub decreases-loop-left : goal.decreases-loop-left
+decreases-loop-left l = l.left
