@@ -1,6 +1,6 @@
 -- From an accepted rule strip to clash's answer, and its claim. Assumes nothing.
 use Rattle.words.proofs.Vocabulary.{ℕ, zero, suc, ◌+◌, ◌-◌, ◌*◌, ◌^◌, ◌≤◌, ◌<◌, ◌≡◌, refl, sym, ap, ap₂, ◌∙◌, ⊎_elim, Bool, true, false, cond}
-use Rattle.words.proofs.Vocabulary.{List, ◌++◌, length, take, drop, replicate, mul-le-mul_right, arith}
+use Rattle.words.proofs.Vocabulary.{List, ◌++◌, length, drop, replicate, mul-le-mul_right, arith}
 use lib.ListN.{take-append-drop}
 use lib.Seq.{drop-nil}
 use Rattle.logic.specs.Rule.{last_of}
@@ -10,7 +10,7 @@ use Rattle.bits.specs.declared.Fault.TheVariants.{At}
 use Rattle.rule_strip.specs.RuleStrip.{variables_of, count_of, records_of, rule_fault}
 use Rattle.rule_strip.proofs.RuleLaws.{rule-accepted}
 use Rattle.rule_strip.proofs.RulePlaces.{place-told}
-use Rattle.refusals.specs.Refusal.{tested, answer_unless}
+use Rattle.refusals.specs.Refusal.{answer_unless}
 use Rattle.refusals.specs.declared.Refusal.{Refusal}
 use Rattle.refusals.specs.declared.Refusal.TheVariants.{Nothing, Placed, Plain, TooManyStates}
 use Rattle.refusals.proofs.Refusals.{checked-free, tested-free, unless-refused, checked-placed, tested_unplaced, nothing_unplaced}
@@ -28,7 +28,7 @@ use Rattle.trials.specs.Answer.{ClashAnswer, refused_for, satisfiable, clashing,
 use Rattle.trials.proofs.Answer.{clash-answers, roomy-answer}
 use Rattle.trying.specs.Trying.{Triable, Confined}
 use Rattle.trying.specs.Trials.{tried_of, TriedAll}
-use Rattle.trying.specs.declared.Tried.TheVariants.{Over, Kept}
+use Rattle.trying.specs.declared.Tried.TheVariants.{Kept}
 use Rattle.trying.proofs.Tries.{satisfiable-same}
 use Rattle.clash.specs.Clashes.{trial_room, parts_refusal, clash_refusal, refused_list, clashing_list, clashed_of, clash_list_of, clash_workspace, ClashClaim}
 use Rattle.clash.specs.declared.ClashList.{ClashList}

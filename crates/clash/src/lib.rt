@@ -1,4 +1,6 @@
 // Clash: which of a rule's requirements clash.
+#![tactic(auto)]
+
 ghost use Rattle.std.specs.Prelude.{◌≡◌, ◌≤◌, length, drop};
 ghost use Rattle.rule_strip.specs.RuleStrip.{records_of};
 ghost use Rattle.refusals.specs.declared.Refusal.TheVariants.{Nothing};
@@ -21,7 +23,7 @@ use trying::Tried;
 pub mod numbers; // what C is told
 
 // Clash's answer: what refuses, or nothing; then so many parts, by their record numbers, at the front of the list, and zeros behind them.
-#[derive(Drop)]
+#[derive(Clone, Copy)]
 pub struct ClashList {
     pub refusal: Refusal,
     pub count: u64,
@@ -49,7 +51,7 @@ fn parts_refusal(count: usize) -> u64
 }
 
 // What refuses before anything is built, and how many parts there are if nothing does.
-#[derive(Drop)]
+#[derive(Clone, Copy)]
 struct Early {
     refusal: Refusal,
     count: usize,

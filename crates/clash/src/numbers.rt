@@ -7,7 +7,7 @@ use refusals::Refusal;
 
 // kind: 0 kept, 3 refused; place is the bit place that a strip's refusal names.
 #[repr(C)]
-#[derive(Drop)]
+#[derive(Clone, Copy)]
 pub struct ClashNumbers {
     pub kind: u64,
     pub refusal: u64,

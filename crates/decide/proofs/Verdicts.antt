@@ -1,5 +1,5 @@
 -- Decide's result and the buffers at its end, by the refusals; and demands 2 and 3 of them. Assumes nothing.
-use Rattle.words.proofs.Vocabulary.{ℕ, ◌≤◌, ◌≡◌, refl, sym, ◌∙◌, ⊎_elim, List, arith, length, take, drop}
+use Rattle.words.proofs.Vocabulary.{ℕ, ◌≤◌, ◌≡◌, sym, ◌∙◌, ⊎_elim, List, arith, length, take, drop}
 use lib.Seq.{take-append_seam}
 use Rattle.logic.specs.Tree.{Tree}
 use Rattle.logic.specs.Rule.{formula_at, last_of}

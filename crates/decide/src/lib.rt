@@ -1,4 +1,6 @@
 // Decide: from the bytes of a rule strip to the bytes in out.
+#![tactic(auto)]
+
 ghost use Rattle.std.specs.Prelude.{◌≡◌, ◌≤◌, length, drop};
 ghost use Rattle.logic.specs.Decide.{report};
 ghost use Rattle.search.specs.Rounds.{answer_of, Ended};
@@ -17,7 +19,7 @@ pub mod numbers; // what C is told
 
 // Decide's answer: the tree shown in out, with its positions, the states of the last record and the strip's length; none or
 // larger, with the states; or a refusal.
-#[derive(Drop)]
+#[derive(Clone, Copy)]
 pub enum Verdict {
     Shown {
         positions: u64,

@@ -6,7 +6,7 @@ use crate::Verdict;
 
 // kind: 0 shown, 1 none, 2 larger, 3 refused; place is the bit place that a strip's refusal names.
 #[repr(C)]
-#[derive(Drop)]
+#[derive(Clone, Copy)]
 pub struct VerdictNumbers {
     pub kind: u64,
     pub refusal: u64,

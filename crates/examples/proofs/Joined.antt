@@ -57,7 +57,7 @@ later = 0x21 ∷ 0x01 ∷ 0x40 ∷ 0x00 ∷ 0x00 ∷ []
 abbrev cut : List ℕ
 cut = 0x12 ∷ 0x01 ∷ 0x20 ∷ []
 
--- n = 1, Sing(X0) sixty_four times
+-- n = 1, Sing(X0) sixty-four times
 abbrev many : List ℕ
 many = strip_of_rule 1 (replicate 64 (record { op = 1; first = 0; second = 0 }))
 

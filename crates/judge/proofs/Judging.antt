@@ -7,7 +7,7 @@ use Rattle.bits.specs.declared.Fault.TheVariants.{At}
 use Rattle.rule_strip.specs.RuleStrip.{variables_of, count_of, records_of, rule_fault}
 use Rattle.rule_strip.proofs.RuleLaws.{rule-accepted}
 use Rattle.rule_strip.proofs.RulePlaces.{place-told}
-use Rattle.tree_strip.specs.TreeStrip.{read_tree, tree_fault}
+use Rattle.tree_strip.specs.TreeStrip.{tree_fault}
 use Rattle.tree_strip.proofs.TreePlaces.{place-told as tree-told}
 use Rattle.refusals.specs.Refusal.{answer_unless}
 use Rattle.refusals.specs.declared.Refusal.{Refusal}

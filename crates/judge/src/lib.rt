@@ -1,4 +1,6 @@
 // Judge: whether the sets of a tree satisfy a rule.
+#![tactic(auto)]
+
 ghost use Rattle.std.specs.Prelude.{◌≡◌, length, drop};
 ghost use Rattle.rule_strip.specs.RuleStrip.{variables_of};
 ghost use Rattle.rules.specs.Room.{room_of, Workable};
@@ -12,7 +14,7 @@ use rules::build::Built;
 pub mod numbers; // what C is told
 
 // Judge's answer: no or yes, or a refusal.
-#[derive(Drop)]
+#[derive(Clone, Copy)]
 pub enum Judgement {
     No,
     Yes,

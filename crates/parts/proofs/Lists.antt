@@ -8,7 +8,7 @@ use mathlib.Core.List.{List, [], ◌∷◌, ◌++◌}
 use lib.Dec.{T, eqb}
 use Rattle.logic.specs.Reach.{elem}
 use Rattle.logic.specs.Alike.{Distinct}
-use Rattle.logic.proofs.Reach.{elem-none, elem-cons, elem-first, elem-append}
+use Rattle.logic.proofs.Reach.{elem-none, elem-cons, elem-first}
 use Rattle.logic.proofs.Places.{T→true, true→T, T-ext}
 use Rattle.parts.specs.Parts.{fresh}
 

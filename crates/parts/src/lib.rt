@@ -1,4 +1,6 @@
 // The parts of a rule, of which request A6 tries which ones clash.
+#![tactic(auto)]
+
 ghost use Rattle.std.specs.Prelude.{◌≡◌, ◌+◌, ◌<◌, length, set};
 ghost use Rattle.bits.specs.declared.Fault.TheVariants.{Sound};
 ghost use Rattle.rule_strip.specs.RuleStrip.{records_of, rule_fault};

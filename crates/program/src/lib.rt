@@ -1,4 +1,6 @@
 // The verdict program, but for reading and writing: document 01, "The verdict program".
+#![tactic(auto)]
+
 ghost use Rattle.std.specs.Prelude.{◌≡◌, ◌+◌, ◌*◌, ◌≤◌, length};
 ghost use Rattle.report.specs.Text.{Put};
 ghost use Rattle.report.specs.Line.{line_of};
@@ -6,7 +8,7 @@ ghost use Rattle.program.specs.Program.{rule_in, Printed};
 ghost use Rattle.decide.specs.Decide.{verdict_of, out_of};
 
 // What the program prints: the first `count` bytes.
-#[derive(Drop)]
+#[derive(Clone, Copy)]
 pub struct Output {
     pub bytes: [u8; 256],
     pub count: usize,

@@ -1,5 +1,5 @@
 -- The line of a verdict: document 01, "The verdict program". Assumes nothing.
-use Rattle.std.specs.Prelude.{ℕ, ◌+◌, List, [], ◌∷◌, ◌++◌, take}
+use Rattle.std.specs.Prelude.{ℕ, List, [], ◌∷◌, ◌++◌, take}
 use Rattle.report.specs.Text.{decimal, hex}
 use Rattle.decide.specs.declared.Verdict.{Verdict}
 use Rattle.decide.specs.declared.Verdict.TheVariants.{Shown, None, Larger, Refused}

@@ -1,5 +1,5 @@
 -- A rule strip's machines, built: refusal 14, or the last record's machine, which decides the rule; and what is read off it. Assumes nothing.
-use Rattle.std.specs.Prelude.{ℕ, ◌-◌, ◌≡◌, Bool, List, length}
+use Rattle.std.specs.Prelude.{ℕ, ◌-◌, ◌≡◌, Bool, List}
 use Rattle.logic.specs.Meaning.{Formula}
 use Rattle.logic.specs.Rule.{formula_at, last_of}
 use Rattle.logic.specs.ReachedRecords.{ReachedRecord}

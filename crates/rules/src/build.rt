@@ -8,7 +8,7 @@ use building::{Ending, Machines};
 use records::Summary;
 
 // How building ended: at the first record with too many states, by its number, or with what is kept of the last record's machine.
-#[derive(Drop)]
+#[derive(Clone, Copy)]
 pub enum Built {
     Over(usize),
     Ready(Summary),

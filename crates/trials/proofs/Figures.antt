@@ -48,7 +48,7 @@ all-kept : kept_of (λ L. elem 0 L && elem 1 L && elem 2 L && elem 3 L) (3 ∷ 1
 unfolding tried_with elem
 all-kept = refl
 
--- ---- refusal 14 in a trial, of machines with made_up numbers of states
+-- ---- refusal 14 in a trial, of machines with made-up numbers of states
 
 one_state : Table 2
 one_state = record { count = 1; machine = record { start = 0; step = λ l s. 0; accepting = λ q. true } }

@@ -1,6 +1,6 @@
 -- Parts joined one after the other, each in a share of its own behind the records': what is joined stays where it is, and is what the
 -- definition of the trials joins. Assumes nothing.
-use Rattle.words.proofs.Vocabulary.{ℕ, ◌≤◌, ◌<◌, ◌+◌, ◌-◌, ◌≡◌, refl, sym, ap, subst, ◌∙◌, List, [], ◌∷◌, length, get_or, take, drop, T, arith}
+use Rattle.words.proofs.Vocabulary.{ℕ, ◌≤◌, ◌<◌, ◌+◌, ◌-◌, ◌≡◌, refl, sym, ap, subst, ◌∙◌, List, [], ◌∷◌, length, get_or, drop, arith}
 use Rattle.words.proofs.Vocabulary.{lt-ltb, le-ltb, get_or-take, add-one, eq-or-lt_of_le, ⊎_elim}
 use lib.ListN.{drop_of_length-le}
 use lib.Seq.{drop-cons}
@@ -11,7 +11,7 @@ use Rattle.logic.specs.Rule.{formula_at}
 use Rattle.logic.specs.ReachedRecords.{ReachedRecord}
 use Rattle.logic.specs.Table.{table_by}
 use Rattle.logic.specs.Joined.{constructed, joined_table}
-use Rattle.logic.proofs.Numbered.{get_d_elem}
+use Rattle.logic.proofs.Numbered.{get_or-elem}
 use Rattle.logic.proofs.Rules.{record_valid, reached-within}
 use Rattle.parts.specs.Parts.{parts_of}
 use Rattle.parts.specs.Listed.{Listed}
@@ -182,7 +182,7 @@ module _ {rule : List ℕ} {c room : ℕ} (t : Triable rule c room) {count : ℕ
   part_is p h =
       let a = rule-accepted rule t.work.sound in
       subst (ReachedRecord (records_of rule)) (sym (part_at p h))
-      (part-reached 2 (variables_of rule) (records_of rule) a.records-accepted (get_or ps p 0) (get_d_elem ps p (omega (arith, l.counted))))
+      (part-reached 2 (variables_of rule) (records_of rule) a.records-accepted (get_or ps p 0) (get_or-elem ps p (omega (arith, l.counted))))
 
   pub parts_from : (p : ℕ) → p < count → drop p ps ≡ get_or xs p 0 ∷ drop (p + 1) ps
   parts_from p h = rw (add-one p) (drop-cons ps p 0 (omega (arith, l.counted))) ∙ ap (λ (q : ℕ). q ∷ drop (p + 1) ps) (sym (part_at p h))

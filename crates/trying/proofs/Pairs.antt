@@ -1,5 +1,5 @@
 -- Two machines joined by the builder: the joined machine of the conjunction, or more than c states are built. Assumes nothing.
-use Rattle.words.proofs.Vocabulary.{ℕ, ◌≤◌, ◌<◌, ◌+◌, ◌≡◌, refl, ap, List, none, some, length, arith}
+use Rattle.words.proofs.Vocabulary.{ℕ, ◌≤◌, ◌<◌, ◌+◌, ◌≡◌, refl, List, none, some, length, arith}
 use Rattle.layout.specs.Shape.{share_at, share_of}
 use Rattle.layout.proofs.Places.{share-next}
 use Rattle.logic.specs.Meaning.{Formula, conjunction, Valid}

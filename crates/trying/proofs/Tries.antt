@@ -1,5 +1,5 @@
 -- The trials over what is joined are those of the definition. Assumes nothing.
-use Rattle.words.proofs.Vocabulary.{ℕ, ◌≤◌, ◌<◌, ◌+◌, ◌-◌, suc, Bool, true, false, cond, not, T, ◌≡◌, refl, sym, ap, subst, ◌∙◌, ◌↔◌, List, [], ◌∷◌, ◌++◌}
+use Rattle.words.proofs.Vocabulary.{ℕ, ◌≤◌, ◌<◌, ◌+◌, ◌-◌, Bool, true, false, cond, not, T, ◌≡◌, refl, sym, ap, subst, ◌∙◌, ◌↔◌, List, [], ◌∷◌, ◌++◌}
 use Rattle.words.proofs.Vocabulary.{length, get_or, take, drop, set, length-set, length-append, take-suc-set, drop-set-lt, add-one, arith}
 use lib.ListN.{drop_of_length-le}
 use Rattle.logic.specs.Meaning.{Assignment, Formula, Valid, Holds}

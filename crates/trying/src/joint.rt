@@ -16,7 +16,7 @@ use table::plan::Kind;
 
 // The parts joined so far: none of them; their conjunction's machine, in the share of this number; or the part whose joining has too many
 // states.
-#[derive(Drop)]
+#[derive(Clone, Copy)]
 pub enum Joint {
     Empty,
     Made { number: usize, machine: Summary },

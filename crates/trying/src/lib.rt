@@ -1,4 +1,6 @@
 // The parts of a rule joined and tried, over the machines of its records.
+#![tactic(auto)]
+
 ghost use Rattle.std.specs.Prelude.{◌≡◌, ◌+◌, ◌-◌, ◌≤◌, ◌<◌, length};
 ghost use Rattle.rule_strip.specs.RuleStrip.{count_of, records_of};
 ghost use Rattle.parts.specs.Parts.{parts_of};
@@ -13,7 +15,7 @@ use crate::joint::{Joint, join_part, join_rest};
 pub mod joint; // the machine of two machines' conjunction, and those of parts, left to right
 
 // How the trial of a part ends: it is dropped, it stays, or a join has too many states, by the part joined.
-#[derive(Drop)]
+#[derive(Clone, Copy)]
 pub enum Trial {
     Dropped,
     Stays,
@@ -82,7 +84,7 @@ fn join_kept(
 }
 
 // How the trials end: at a join with too many states, by the part joined, or with so many parts kept.
-#[derive(Drop)]
+#[derive(Clone, Copy)]
 pub enum Tried {
     Over(usize),
     Kept(usize),
