@@ -1,5 +1,5 @@
-// The C interface, include/ws2s.h: the entry points over numbers and byte slices. Each calls its operation, whose crate has the struct that
-// is returned and its numbers.
+// The entry points of the C interface, include/ws2s.h, over numbers and byte slices, as crate ws2s_c exports them. Each calls its operation,
+// whose crate has the struct that is returned and its numbers.
 ghost use Rattle.std.specs.Prelude.{◌≡◌, length};
 ghost use Rattle.rule_strip.specs.RuleAnswers.{checked_rule};
 ghost use Rattle.rule_strip.specs.Numbers.{rule_numbers, RuleRefusedAt};
@@ -27,8 +27,7 @@ use rule_strip::numbers::{RuleNumbers, WrittenNumbers, rule_numbers};
 use tree_strip::numbers::{TreeNumbers, tree_numbers};
 
 // Whether any bytes are a rule strip.
-#[unsafe(no_mangle)]
-pub extern "C" fn ws2s_check_rule(rule: &[u8]) -> RuleNumbers
+pub fn ws2s_check_rule(rule: &[u8]) -> RuleNumbers
     ensures value { result ≡ rule_numbers (checked_rule rule.now) }
     ensures rule_refused_at { RuleRefusedAt rule.now result }
 {
@@ -36,8 +35,7 @@ pub extern "C" fn ws2s_check_rule(rule: &[u8]) -> RuleNumbers
 }
 
 // Whether any bytes are a tree strip.
-#[unsafe(no_mangle)]
-pub extern "C" fn ws2s_check_tree(tree: &[u8]) -> TreeNumbers
+pub fn ws2s_check_tree(tree: &[u8]) -> TreeNumbers
     ensures value { result ≡ tree_numbers (checked_tree tree.now) }
     ensures tree_refused_at { TreeRefusedAt tree.now result }
 {
@@ -45,13 +43,7 @@ pub extern "C" fn ws2s_check_tree(tree: &[u8]) -> TreeNumbers
 }
 
 // Whether the sets of a tree satisfy a rule, with the state ceiling c.
-#[unsafe(no_mangle)]
-pub extern "C" fn ws2s_judge(
-    rule: &[u8],
-    c: u64,
-    workspace: &mut [u8],
-    tree: &[u8],
-) -> JudgementNumbers
+pub fn ws2s_judge(rule: &[u8], c: u64, workspace: &mut [u8], tree: &[u8]) -> JudgementNumbers
     ensures value { result ≡ judgement_numbers (judgement_for rule.now c (length workspace.old) tree.now) }
     ensures workspace_after { workspace.new ≡ workspace_for rule.now c workspace.old tree.now }
     ensures judged_in_numbers { JudgedInNumbers rule.now c (length workspace.old) tree.now result }
@@ -60,8 +52,7 @@ pub extern "C" fn ws2s_judge(
 }
 
 // Decide a rule, with the state ceiling c and the place ceiling p.
-#[unsafe(no_mangle)]
-pub extern "C" fn ws2s_decide(
+pub fn ws2s_decide(
     rule: &[u8],
     c: u64,
     p: u64,
@@ -78,8 +69,7 @@ pub extern "C" fn ws2s_decide(
 }
 
 // Which parts of a rule that no sets satisfy clash, with the state ceiling c.
-#[unsafe(no_mangle)]
-pub extern "C" fn ws2s_clash(rule: &[u8], c: u64, workspace: &mut [u8]) -> ClashNumbers
+pub fn ws2s_clash(rule: &[u8], c: u64, workspace: &mut [u8]) -> ClashNumbers
     ensures value { result ≡ clash_numbers (clash_list_of rule.now c (length workspace.old)) }
     ensures workspace_after { workspace.new ≡ clash_workspace rule.now c workspace.old }
     ensures clashed_in_numbers { ClashedInNumbers rule.now c (length workspace.old) result }
@@ -88,8 +78,7 @@ pub extern "C" fn ws2s_clash(rule: &[u8], c: u64, workspace: &mut [u8]) -> Clash
 }
 
 // The rule that a text says, written as a rule strip at the front of out.
-#[unsafe(no_mangle)]
-pub extern "C" fn ws2s_import(text: &[u8], out: &mut [u8]) -> WrittenNumbers
+pub fn ws2s_import(text: &[u8], out: &mut [u8]) -> WrittenNumbers
     ensures value { result ≡ written_numbers (imported_of (import text.now (length out.old))) }
     ensures out_after { out.new ≡ out_after_import (import text.now (length out.old)) out.old }
     ensures imported_in_numbers { ImportedInNumbers text.now result out.new }
@@ -98,16 +87,14 @@ pub extern "C" fn ws2s_import(text: &[u8], out: &mut [u8]) -> WrittenNumbers
 }
 
 // Why import refuses a text when out has room, and at which token.
-#[unsafe(no_mangle)]
-pub extern "C" fn ws2s_text_fault(text: &[u8]) -> FaultNumbers
+pub fn ws2s_text_fault(text: &[u8]) -> FaultNumbers
     ensures { result ≡ fault_numbers (fault_of (text_of text.now)) }
 {
     fault_numbers(import::text_fault(text))
 }
 
 // Two rules with agreed variable numbers, written as one rule strip at the front of out.
-#[unsafe(no_mangle)]
-pub extern "C" fn ws2s_join(first: &[u8], second: &[u8], out: &mut [u8]) -> WrittenNumbers
+pub fn ws2s_join(first: &[u8], second: &[u8], out: &mut [u8]) -> WrittenNumbers
     ensures value { result ≡ join_numbers (join_of first.now second.now (length out.old)) }
     ensures out_after { out.new ≡ out_after_join first.now second.now out.old }
     ensures joined_in_numbers { JoinedInNumbers first.now second.now result out.new }
