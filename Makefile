@@ -50,7 +50,7 @@ help:
 	@echo 'make bench             the library beside unproved code and, where it is installed, MONA'
 	@echo 'make install           header, libraries, pkg-config files, command, verdict program, manual pages [PREFIX=/usr/local DESTDIR=]'
 	@echo 'make uninstall         remove what install put there [PREFIX=/usr/local DESTDIR=]'
-	@echo 'make clean             remove target/, where everything is built'
+	@echo 'make clean             remove target/ and crates/*/out, where everything is built'
 
 all: library command $(VERDICT)
 
@@ -132,7 +132,7 @@ host-test: export SANITIZE := $(SANITIZE)
 host-test: $(foreach t,vectors vectors-shared attack header stack depth verdict command,$(HOST)/$(t)) $(COMMAND) $(VERDICT)
 	@rm -f $(NOTICES)
 	{ tests/host/make_notices.sh; echo "status $$?"; } > $(NOTICES) 2>&1 &
-	tests/host/exports.sh crates/ws2s/src/exports.rt $(HEADER) $(ARCHIVE) $(SHARED)
+	tests/host/exports.sh crates/ws2s_c/src/lib.rt $(HEADER) $(ARCHIVE) $(SHARED)
 	tests/host/header.sh $(ARCHIVE)
 	$(HOST)/header
 	tests/host/lines.sh
@@ -196,4 +196,4 @@ uninstall:
 	rm -f $(INSTALLED)
 
 clean:
-	rm -rf target
+	rm -rf target crates/*/out

@@ -2,7 +2,7 @@
 # Proves what a program or the library is made of, and builds it:
 #
 #     prove.sh program NAME    target/bin/NAME
-#     prove.sh library NAME    target/staticlib/libNAME.a
+#     prove.sh library NAME    target/staticlib/libNAME.a, of the crate NAME_c that exports it
 #
 # It prints a line for each crate that it proves, and nothing if nothing has
 # changed since: the toolchain knows by content, so it is always asked. Only one
@@ -12,50 +12,32 @@ cd "$(dirname "$0")/.." || exit 2
 kind=${1:-} name=${2:-}
 command -v rt >/dev/null || { echo 'the Rattle toolchain (rt) is not on the PATH; README.md says what is needed' >&2; exit 2; }
 
-# the folder itself is locked, which no build removes
-exec 9<crates
-flock -n 9 || { echo 'another make is proving here; waiting for it'; flock 9; }
-mkdir -p target || exit 2
-log=target/$name.log
-
-# Runs rt, with a line for each crate as it is proved; all that it says if it fails.
-run() { # WORDS...
-    { rt "$@" 2>&1; echo "status $?"; } | tee "$log" |
-        awk '/^rt: [a-z0-9_]+ proved \([0-9]+ s\)$/ { print "proved " $2 " " $4 " " $5; fflush() } /^status / { ended = $2 } END { exit ended != 0 }' ||
-        { sed '$d' "$log"; echo "$name NOT PROVED, so nothing is made of it"; exit 1; }
-}
-
-# What the archive is made of and the archive itself, as one sum.
-sum_of_archive() {
-    {
-        rt version
-        grep "^$name:" crates.txt
-        (cd "crates/$name" && find src specs proofs -type f -exec sha256sum {} + | LC_ALL=C sort)
-        for crate in $below; do cat "target/stamp/$crate"; done
-        cat "$archive"
-    } 2>/dev/null | sha256sum
-}
-
 case $kind in
-program)
-    [ -f "target/bin/$name" ] || rm -f "target/stamp/$name"
-    run check "$name"
-    ;;
-library)
-    # The crate itself is proved with the archive, not twice. The archive stays only if it is what was made here of what there is now.
-    archive=target/staticlib/lib$name.a
-    below=$(sed -n "s/^$name: *//p" crates.txt)
-    # shellcheck disable=SC2086
-    run check $below
-    if [ "$(sum_of_archive)" != "$(cat "$archive.sum" 2>/dev/null)" ]; then
-        rm -f "$archive" "$archive.sum"
-        run staticlib "$name"
-        sum_of_archive >"$archive.sum"
-        echo "proved $name, and made $archive of it"
-    fi
-    ;;
+program) crate=$name verb=run made=out/$name result=target/bin/$name ;;
+library) crate=${name}_c verb=lib made=out/lib${name}_c.a result=target/staticlib/lib$name.a ;;
 *)
     echo "usage: $0 program|library NAME" >&2
     exit 2
     ;;
 esac
+
+# the folder itself is locked, which no build removes
+exec 9<crates
+flock -n 9 || { echo 'another make is proving here; waiting for it'; flock 9; }
+mkdir -p "target" "$(dirname "$result")" || exit 2
+log=target/$name.log
+
+# A program is run once, on its own input, for that is what builds it: what counts is that it came to be run.
+(cd "crates/$crate" && rt "$verb" </dev/null 2>&1; echo "status $?") | tee "$log" |
+    awk -v verb="$verb" '
+        /^crate [a-z0-9_]+: modules loaded=/ { crate = $2; sub(":", "", crate); checked = $0; sub(/.*checked=/, "", checked) }
+        /^logic=proved/ && checked > 0 { print "proved " crate; fflush() }
+        /^logic=/ { proved = /^logic=proved/; checked = 0 }
+        /^rt: nothing has changed since the last proved build/ { proved = 1 }
+        /^rt: running out/ { ran = 1 }
+        /^status / { status = $2 }
+        END { exit !(verb == "run" ? ran : proved && status == 0) }' ||
+    { sed '$d' "$log"; echo "$name NOT PROVED, so nothing is made of it"; rm -f "$result"; exit 1; }
+
+# what has not changed stays, so that nothing is linked again
+cmp -s "crates/$crate/$made" "$result" || cp "crates/$crate/$made" "$result"

@@ -16,7 +16,7 @@
 # - The picture is the one that the command draws.
 # - Every target of make is in `make help` and in the README.
 # - The README has the number of crates that `make run` proves.
-# - No contract or definition cites a file under proofs/, as docs/PROOFS.md says.
+# - No contract or definition cites a file under proofs/ of ours, as docs/PROOFS.md says.
 # It prints what differs, and ends with status 1 if anything does.
 set -eu
 verdict=$PWD/$1 command=$PWD/$2 archive=$PWD/$3
@@ -113,7 +113,7 @@ for name in check_rule check_tree judge decide clash import text_fault; do pages
 # shellcheck disable=SC2086 # a word for each page
 differs 'manual pages, structures' "$(structures $pages)" "$(cat "$room/structures")"
 differs 'ws2s_join(3), structure' "$(structures man/ws2s_join.3)" "$(structures man/ws2s_import.3)"
-exported=$(sed -n 's/^pub extern "C" fn \([a-z0-9_]*\)(.*/\1/p' crates/ws2s/src/exports.rt)
+exported=$(sed -n 's/^pub extern "C" fn \([a-z0-9_]*\)(.*/\1/p' crates/ws2s_c/src/lib.rt)
 for name in $exported; do
     in_header=$(tr -d ' \n' <include/ws2s.h | grep -o "ws2s_[a-z_]*$name([a-z0-9_*,]*);" | head -n 1)
     in_page=$(sed -n '/^\.SH SYNOPSIS/,/^\.fi/{s/^\.BI //p;}' "man/$name.3" | tr -d '" \n')
@@ -165,7 +165,7 @@ made_of=$(awk '
     { name = $1; sub(/:$/, "", name); $1 = ""; below[name] = $0 }
     END { visit("verdict"); print count }' crates.txt)
 differs 'README, crates of make run' "$(sed -n 's/.*a line for each of the \([0-9]*\) crates.*/\1/p' README.md)" "$made_of"
-if grep -n 'proofs\.' crates/*/specs/*.antt crates/*/src/*.rt; then
+if grep -n 'proofs\.' crates/*/specs/*.antt crates/*/src/*.rt | grep -v ':\(ghost \)*use Rattle\.std\.'; then
     echo 'a contract or definition cites a file under proofs/'
     failed=1
 fi

@@ -1,6 +1,7 @@
 # Reads the source of the exported functions, then the header, and of the folder
 # "crates" the files that have the structures which that source takes from them by
-# `use CRATE::MODULE::NAME;`. It writes to the folder "room":
+# `use CRATE::MODULE::NAME;`, or a list of names in braces. It writes to the folder
+# "room":
 #
 #     both.c    the header, and after it what is exported, said in C, so that a
 #               compiler compares the two
@@ -60,6 +61,13 @@ function line_of(s) { sub(/\/\/.*/, "", s); return " " s }
 FNR == 1 { file++ }
 file == 1 { source = source line_of($0) }
 file == 1 && /^use [a-z0-9_]+::[a-z0-9_]+::[A-Za-z0-9_]+;/ { split($2, path, /::|;/); used[path[3]] = crates "/" path[1] "/src/" path[2] ".rt" }
+file == 1 && /^use [a-z0-9_]+::[a-z0-9_]+::\{[A-Za-z0-9_, ]+\};/ {
+    split($2, path, /::/)
+    names = $0
+    gsub(/^.*\{|\}.*$/, "", names)
+    n = split(names, name, /, */)
+    for (i = 1; i <= n; i++) used[name[i]] = crates "/" path[1] "/src/" path[2] ".rt"
+}
 file == 2 && !/^[ \t]*#/ { header = header " " $0 }
 
 # The structures of a source, or the one of this name alone.
@@ -67,6 +75,7 @@ function read_structures(rest, only,    i, body, name)
 {
     while (i = index(rest, "#[repr(C)]")) {
         rest = substr(rest, i + 10)
+        sub(/^ *#\[derive\([A-Za-z, ]*\)\]/, "", rest)
         if (!match(rest, /^ *pub struct [A-Za-z0-9_]+ *\{[^}]*\}/)) {
             fail("a structure is not understood:" substr(rest, 1, 60))
             continue
@@ -101,8 +110,8 @@ function find_structures(    i, name, line, text)
 
 function read_functions(    rest, i, k, n, text, name, part, colon, list)
 {
-    for (rest = source; i = index(rest, "#[no_mangle]");) {
-        rest = substr(rest, i + 12)
+    for (rest = source; i = index(rest, "#[unsafe(no_mangle)]");) {
+        rest = substr(rest, i + 20)
         if (!match(rest, /^ *pub extern "C" fn [A-Za-z0-9_]+ *\([^)]*\)/)) {
             fail("a function is not understood:" substr(rest, 1, 60))
             continue
@@ -123,7 +132,7 @@ function read_functions(    rest, i, k, n, text, name, part, colon, list)
     }
     rest = source
     if (gsub(/extern "C"/, "", rest) != exports)
-        fail("a function with extern \"C\" is not marked #[no_mangle]")
+        fail("a function with extern \"C\" is not marked #[unsafe(no_mangle)]")
 }
 
 # Takes the functions out of the header that it defines itself; what they name is kept.
