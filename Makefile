@@ -42,7 +42,7 @@ help:
 	@echo 'make library           prove the library and build its archive and shared library, under target/'
 	@echo 'make command           the same, and build the command, target/bin/ws2s'
 	@echo 'make all               all of these'
-	@echo 'make test              the gate: prove everything from nothing and run every test'
+	@echo 'make test              the gate: prove everything and run every test'
 	@echo 'make host-test         what the gate tests beside the proofs: header, vectors, attack, stack, depth, programs, install, documents, make'
 	@echo 'make attack            a longer attack on the library [SEED=n CALLS=n]'
 	@echo 'make larger            look for a rule that the verdict program answers larger [SECONDS=n]'
