@@ -5,6 +5,7 @@ use mathlib.Core.List.{List, [], ◌∷◌, ◌++◌, append-nil}
 use native.Mathlib.Omega.{arith}
 use lib.ListN.{length, get_or, set, drop, replicate, length-append, length-replicate, replicate-append-replicate}
 use lib.Seq.{sets, sets-eq, drop-length, ext_get_or}
+use Rattle.std.proofs.lemmas.List.{drop-replicate}
 use Rattle.bits.specs.Bits.{digits, bits, pack, Clear}
 use Rattle.bits.proofs.Fields.{length_digits, length-bits, byte_at, bits_at, sets-after}
 use Rattle.bits.proofs.Packing.{strip_of_bits}
@@ -54,11 +55,6 @@ placed s bs z e h =
         ap (λ (i : ℕ). get_or (bits s) i 0) (sym q) ∙ bits_at s (p / 8) (p % 8) (omega arith) (omega arith) ∙ sym (byte_at x (p % 8) (omega arith))
         ∙ h (p / 8) (p % 8) (omega arith) (omega arith) ∙ ap (λ (i : ℕ). get_or bs i 0) q ∙ sym (zeros-after bs z p)
 
-drop-zeros : (k m : ℕ) → ◌≡◌ {A = List ℕ} (drop k (replicate m 0)) (replicate (m - k) 0)
-drop-zeros zero m = let e : m - 0 ≡ m = omega arith in rw e refl
-drop-zeros (suc k) zero = let e : 0 - suc k ≡ 0 = omega arith in rw e refl
-drop-zeros (suc k) (suc m) = let e : suc m - suc k ≡ m - k = omega arith in rw e (drop-zeros k m)
-
 bits-zeros : (m : ℕ) → bits (replicate m 0) ≡ replicate (8 * m) 0
 unfolding bits digits
 bits-zeros zero = refl
@@ -83,5 +79,5 @@ module _ (d out : List ℕ) (len : ℕ) (e : out ≡ replicate len 0 ++ drop len
       let o : bits out ≡ replicate (8 * len) 0 = ap bits all-zero ∙ bits-zeros len in
       let m : length (bits out) ≡ 8 * len = ap length o ∙ length-replicate (8 * len) 0 in
       let v : sets (bits out) 0 vs ≡ vs ++ drop (0 + length vs) (bits out) = sets-eq vs (bits out) 0 (omega arith) in
-      let u : drop (0 + length vs) (bits out) ≡ replicate (8 * len - (0 + length vs)) 0 = rw o (drop-zeros (0 + length vs) (8 * len)) in
+      let u : drop (0 + length vs) (bits out) ≡ replicate (8 * len - (0 + length vs)) 0 = rw o (drop-replicate (0 + length vs) (8 * len) 0) in
       strip_of_bits f vs (8 * len - (0 + length vs)) g (w ∙ v ∙ ap (λ (l : List ℕ). vs ++ l) u) (omega arith) some

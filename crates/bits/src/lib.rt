@@ -6,13 +6,6 @@ ghost use Rattle.std.proofs.lemmas.List.Edits.{sets};
 ghost use Rattle.std.proofs.Math.Seq.{slice};
 ghost use Rattle.bits.specs.Bits.{bits, digits, field, first_set, bit_length};
 
-// What a check finds in a strip: nothing amiss, or a refusal's number and the bit place where the field that is meant starts.
-#[derive(Clone, Copy)]
-pub enum Fault {
-    Sound,
-    At { number: u64, place: u64 },
-}
-
 // The bit at a place.
 pub fn bit_at(s: &[u8], at: usize) -> u8
     requires { at < 8 * length s.now }
@@ -27,31 +20,19 @@ pub fn first_set(s: &[u8], from: usize, end: usize) -> usize
     requires { (from ≤ end) × (end ≤ 8 * length s.now) }
     ensures { result ≡ from + first_set (slice from end (bits s.now)) }
 {
-    let mut at = from;
-    while at < end {
+    for at in from..end {
         if bit_at(s, at) != 0 {
             return at;
         }
-        at += 1;
     }
-    at
+    end
 }
 
 // The bit length of s, as a number of 64 bits: 2^64 - 1 stands for any more.
 pub fn bit_length(s: &[u8]) -> u64
     ensures { result ≡ bit_length s.now }
 {
-    let bytes = s.len() as u64;
-    if 0x1FFF_FFFF_FFFF_FFFF < bytes {
-        return 0xFFFF_FFFF_FFFF_FFFF;
-    }
-    8 * bytes
-}
-
-fn wide(x: u8) -> u64
-    ensures { result ≡ x }
-{
-    x as u64
+    (s.len() as u64).saturating_mul(8)
 }
 
 // The bit at a place is made 1.
@@ -59,7 +40,7 @@ pub fn set_bit(d: &mut [u8], at: usize)
     requires { at < 8 * length d.old }
     ensures { bits d.new ≡ set (bits d.old) at 1 }
 {
-    d[at / 8] = d[at / 8] | (1 << (7 - at % 8));
+    d[at / 8] |= 1 << (7 - at % 8);
 }
 
 // The bit at a place that holds 0 is made x.
@@ -82,10 +63,8 @@ pub fn put_field(d: &mut [u8], at: usize, b: usize, v: u64)
     requires by_index { (k : ℕ) → k < b → get_or (bits d.old) (at + k) 0 ≡ 0 }
     ensures { bits d.new ≡ sets (bits d.old) at (digits b v) }
 {
-    let mut k: usize = 0;
-    while k < b {
+    for k in 0..b {
         put_bit(d, at + k, (v >> (b - 1 - k)) % 2);
-        k += 1;
     }
 }
 
@@ -97,12 +76,8 @@ pub fn field_at(s: &[u8], at: usize, b: usize) -> u64
     ensures { result ≡ field s.now at b }
 {
     let i = at / 8;
-    let hi = wide(s[i]);
-    let mut lo: u64 = 0;
-    if i + 1 < s.len() {
-        lo = wide(s[i + 1]);
-    }
-    ((hi * 256 + lo) >> (16 - at % 8 - b)) % (1 << b)
+    let next = s.get(i + 1).copied().unwrap_or(0);
+    ((u64::from(s[i]) * 256 + u64::from(next)) >> (16 - at % 8 - b)) % (1 << b)
 }
 
 // The 24 bits from byte i on, as a number.
@@ -110,7 +85,7 @@ pub fn three_bytes(s: &[u8], i: usize) -> u64
     requires { i + 3 ≤ length s.now }
     ensures { result ≡ field s.now (8 * i) 24 }
 {
-    wide(s[i]) * 65536 + (wide(s[i + 1]) * 256 + wide(s[i + 2]))
+    u64::from(s[i]) * 65536 + (u64::from(s[i + 1]) * 256 + u64::from(s[i + 2]))
 }
 
 // The first n bytes are made 0.
@@ -118,9 +93,5 @@ pub fn clear(d: &mut [u8], n: usize)
     requires { n ≤ length d.old }
     ensures { d.new ≡ replicate n 0 ++ drop n d.old }
 {
-    let mut i = 0;
-    while i < n {
-        d[i] = 0;
-        i += 1;
-    }
+    d[..n].fill(0);
 }

@@ -7,14 +7,14 @@ use Rattle.logic.specs.ReachedRecords.{ReachedFrom, itself, named}
 use Rattle.logic.proofs.Orders.{less, same, more, ℕ-tri}
 use Rattle.logic.proofs.Reach.{elem-cons, elem-none, elem-one, elem-two, elem-first, elem-second}
 use Rattle.logic.proofs.ReachedRecords.{Earlier, reached_iff, reached-below, reached-parts}
-use Rattle.table.specs.declared.plan.Kind.{Kind}
-use Rattle.table.specs.declared.plan.Kind.TheVariants.{Subset, Single, Child1, Child2, Root, Not, Or, And, Exists}
+use Rattle.ops.specs.declared.Op.{Op}
+use Rattle.ops.specs.declared.Op.TheVariants.{Subset, Single, Child1, Child2, Root, Not, Or, And, Exists}
 use Rattle.records.specs.Rule.{OfParts, no_decoded}
 use Rattle.records.specs.declared.Decoded.{Decoded}
 use Rattle.building.specs.Named.{named_by, named_in, used_in, InOrder, marked, Marks, MarksClosed, marking, next_of}
 
 -- ---- the parts that a record names
-pub named-all : (k : Kind) (a b : ℕ) (P : ℕ → Type 0) → OfParts k (P a) (P b) → (i : ℕ) → T (elem i (named_by k a b)) → P i
+pub named-all : (k : Op) (a b : ℕ) (P : ℕ → Type 0) → OfParts k (P a) (P b) → (i : ℕ) → T (elem i (named_by k a b)) → P i
 named-all Subset a b P h i t = absurd (elem-none i t)
 named-all Single a b P h i t = absurd (elem-none i t)
 named-all Child1 a b P h i t = absurd (elem-none i t)
@@ -25,7 +25,7 @@ named-all Or a b P h i t = ⊎_elim (λ e. subst P (sym e) h.0) (λ e. subst P (
 named-all And a b P h i t = ⊎_elim (λ e. subst P (sym e) h.0) (λ e. subst P (sym e) h.1) (elem-two i a b t)
 named-all Exists a b P h i t = subst P (sym (elem-one i a t)) h
 
-pub all_named : (k : Kind) (a b : ℕ) (P : ℕ → Type 0) → ((i : ℕ) → T (elem i (named_by k a b)) → P i) → OfParts k (P a) (P b)
+pub all_named : (k : Op) (a b : ℕ) (P : ℕ → Type 0) → ((i : ℕ) → T (elem i (named_by k a b)) → P i) → OfParts k (P a) (P b)
 all_named Subset a b P h = tt
 all_named Single a b P h = tt
 all_named Child1 a b P h = tt
@@ -122,19 +122,6 @@ module _ (xs : List Decoded) (m : ℕ) (few : m ≤ 128) (order : (r : ℕ) → 
 
         old : (j : ℕ) → r < j → j < m → T (marked (marking ns ms) j) → T (marked ms j)
         old j q p u = ⊎_elim (λ e. absurd (omega (arith, earlier r (omega arith) j e))) (λ v. v) ((law j).0 u)
-
-    -- a record without one
-    pub pass_bare : marked ms r ≡ false → Pass xs m ms r
-    pass_bare bare = record {
-      within = omega (arith, h.within);
-      long = h.long;
-      sound = h.sound;
-      last = h.last;
-      closed = λ j i l p u e. ⊎_elim
-          (λ q. absurd (subst T (ap (marked ms) (sym q) ∙ bare) u))
-          (λ q. h.closed j i q p u e)
-          (eq-or-lt_of_le l);
-    }
 
   -- at the start the last one alone has a mark
   pub pass_first : 0 < m → Pass xs m (set (replicate 129 false) (m - 1) true) m

@@ -10,7 +10,9 @@ use Rattle.layout.specs.Shape.{share_of, share_at}
 use Rattle.layout.specs.declared.Shape.{Shape}
 use Rattle.records.specs.declared.Decoded.{Decoded}
 use Rattle.records.specs.declared.Summary.{Summary}
-use Rattle.building.specs.declared.Ending.TheVariants.{Over, Ready}
+use Rattle.std.specs.Prelude.{Result, Ok, Err, IsOk, IsErr}
+use Rattle.std.proofs.lemmas.Result.{IfErr-at_err}
+use Rattle.refusals.specs.declared.OverCeiling.{OverCeiling}
 use Rattle.building.specs.declared.Machines.{Machines}
 use Rattle.building.specs.Named.{NamesUsed, next_of}
 use Rattle.building.specs.OneRecord.{Buildable, AllStored, Tried, Builds}
@@ -40,9 +42,9 @@ ready-first : {xs : List Decoded} {used : ℕ → Bool} {s : Shape} {es : ℕ �
 unfolding upto
 ready-first {xs} {used} = record { machines = []; is = refl; size = refl; stored = λ a u. absurd (omega (arith, ((below_iff used 0 a).0 u).0)) }
 
-made-ready : {xs : List Decoded} {used : ℕ → Bool} {s : Shape} {r : ℕ} (t : Machines) {ws : List ℕ} → t.ending ≡ Ready
-    → Upto xs used s r (entry_of t) ws → MadeBy used xs s r t ws
-made-ready {xs} {used} {s} {r} t e w = rw w.is (e, w.size, λ a h u. w.stored a ((below_iff used r a).1 (h, u)))
+made-ready : {xs : List Decoded} {used : ℕ → Bool} {s : Shape} {r : ℕ} (t : Machines) {ws : List ℕ} → Upto xs used s r (entry_of t) ws
+    → MadeBy used xs s r (Ok t) ws
+made-ready {xs} {used} {s} {r} t w = rw w.is (w.size, λ a h u. w.stored a ((below_iff used r a).1 (h, u)))
 
 upto_next : (xs : List Decoded) (used : ℕ → Bool) (s : Shape) (r : ℕ)
     → upto xs used s (r + 1) ≡ cond (used r) (after s r (get_or xs r no_decoded) (upto xs used s r)) (passed (upto xs used s r))
@@ -86,15 +88,15 @@ module _ {xs : List Decoded} {used : ℕ → Bool} {s : Shape} {r : ℕ} {es : �
     unfolding after
     next_is o e = upto_next xs used s r ∙ rw is_used (ap (after s r x) w.is ∙ ap (more s r w.machines) e)
 
-    module _ {es' : ℕ → Summary} {ws' : List ℕ} {v : Bool} (t : Tried x s r (used_below used r) made es es' ws ws' v) where
-      ready-next : v ≡ false → Upto xs used s (r + 1) es' ws'
+    module _ {es' : ℕ → Summary} {ws' : List ℕ} {v : Result Unit OverCeiling} (t : Tried x s r (used_below used r) made es es' ws ws' v) where
+      ready-next : IsOk v → Upto xs used s (r + 1) es' ws'
       ready-next e =
           let new = t.few e in
           one_more (joined_of s new.0) (next_is (some new.0) new.1)
           (λ a h u. t.others a (rw (changed-other (used_below used r) r false a (λ (q : a ≡ r). omega arith)) ((below_iff used r a).1 (h, u))))
           (λ u. new.2.stored)
 
-      over-next : v ≡ true → upto xs used s (r + 1) ≡ over r
+      over-next : IsErr v → upto xs used s (r + 1) ≡ over r
       over-next e = next_is none (t.many e)
 
 -- and so up to the next one that is used
@@ -122,11 +124,11 @@ over-rest xs used s r k (suc d) e =
     either true = refl
     either false = refl
 
-made-over : (xs : List Decoded) (used : ℕ → Bool) (s : Shape) (r m : ℕ) (t : Machines) (ws : List ℕ) → r < m → t.ending ≡ Over r
-    → upto xs used s (r + 1) ≡ over r → MadeBy used xs s m t ws
-made-over xs used s r m t ws h e o =
+made-over : (xs : List Decoded) (used : ℕ → Bool) (s : Shape) (r m : ℕ) (o : OverCeiling) (ws : List ℕ) → r < m → o.at ≡ r
+    → upto xs used s (r + 1) ≡ over r → MadeBy used xs s m (Err o) ws
+made-over xs used s r m o ws h e p =
     let z : r + 1 + (m - (r + 1)) ≡ m = omega arith in
-    rw (ap (upto xs used s) (sym z) ∙ over-rest xs used s (r + 1) r (m - (r + 1)) o) e
+    rw (ap (upto xs used s) (sym z) ∙ over-rest xs used s (r + 1) r (m - (r + 1)) p) e
 
 -- ---- the turns
 -- what holds before record r, the next that is used: the machines before it are stored, and neither the share of a record that is not used,
@@ -152,9 +154,9 @@ module _ {xs : List Decoded} {used : ℕ → Bool} {s : Shape} {m : ℕ} {ws₀ 
     same = λ a bare. refl;
   }
 
-  pub turn-done : {r : ℕ} {ws : List ℕ} (t : Machines) → t.ending ≡ Ready → m ≤ r → Turn xs used s m ws₀ es₀ (entry_of t) ws r → MadeBy used xs s m t ws
-  turn-done {r} {ws} t e h w =
-      let q : r ≡ m = omega (arith, w.within) in made-ready t e (subst (λ (z : ℕ). Upto xs used s z (entry_of t) ws) q w.ready)
+  pub turn-done : {r : ℕ} {ws : List ℕ} (t : Machines) → m ≤ r → Turn xs used s m ws₀ es₀ (entry_of t) ws r → MadeBy used xs s m (Ok t) ws
+  turn-done {r} {ws} t h w =
+      let q : r ≡ m = omega (arith, w.within) in made-ready t (subst (λ (z : ℕ). Upto xs used s z (entry_of t) ws) q w.ready)
 
   -- record r is tried
   module _ (order : (r : ℕ) → r < m → Buildable (get_or xs r no_decoded) r s (length ws₀))
@@ -173,7 +175,7 @@ module _ {xs : List Decoded} {used : ℕ → Bool} {s : Shape} {m : ℕ} {ws₀ 
         let f = made t.ready in
         (subst (Buildable z r s) (sym t.long) (order r h), (f z.first, f z.second, parts-stored z (used_below used r) f t.ready.stored names))
 
-    module _ {es' : ℕ → Summary} {ws' : List ℕ} {v : Bool} (b : Builds z s r es es' ws ws' v) where
+    module _ {es' : ℕ → Summary} {ws' : List ℕ} {v : Result Unit OverCeiling} (b : Builds z s r es es' ws ws' v) where
       tried : Tried z s r (used_below used r) (made t.ready) es es' ws ws' v
       tried = b.tried (used_below used r) (made t.ready) t.ready.stored names
 
@@ -192,10 +194,11 @@ module _ {xs : List Decoded} {used : ℕ → Bool} {s : Shape} {m : ℕ} {ws₀ 
       pub same_next : (a : ℕ) → used a ≡ false → es' a ≡ es₀ a
       same_next a bare = b.same a (λ e. absurd (apart a bare e)) ∙ t.same a bare
 
-      pub turn-over : v ≡ true → (u : Machines) → u.ending ≡ Over r → MadeBy used xs s m u ws'
-      turn-over e u o = made-over xs used s r m u ws' h o (over-next t.ready (t.is_used h) tried e)
+      pub turn-over : (o : OverCeiling) → v ≡ Err o → MadeBy used xs s m (Err o) ws'
+      turn-over o e =
+          made-over xs used s r m o ws' h (IfErr-at_err (λ o. o.at ≡ r) e b.named) (over-next t.ready (t.is_used h) tried (rw e refl))
 
-      pub turn-next : v ≡ false → length ws' ≡ length ws → {next : ℕ} → next ≡ next_of used (r + 1) (m - (r + 1)) → Turn xs used s m ws₀ es₀ es' ws' next
+      pub turn-next : IsOk v → length ws' ≡ length ws → {next : ℕ} → next ≡ next_of used (r + 1) (m - (r + 1)) → Turn xs used s m ws₀ es₀ es' ws' next
       turn-next e l n = record {
         within = omega (arith, next-within used (m - (r + 1)) (r + 1));
         is_used = λ q. ap used n ∙ next-used used (m - (r + 1)) (r + 1) (omega arith);
@@ -219,10 +222,12 @@ pub untouched_cong : (u v : ℕ → Bool) {s : Shape} {m : ℕ} {ws ws' : List �
     → Untouched u s m ws ws' → Untouched v s m ws ws'
 untouched_cong u v h w = record { same = λ r q l bare. w.same r q l (h r l ∙ bare) }
 
-pub made_cong : (xs : List Decoded) (u v : ℕ → Bool) (s : Shape) (m : ℕ) (t : Machines) (ws : List ℕ) → ((i : ℕ) → i < m → u i ≡ v i)
+pub made_cong : (xs : List Decoded) (u v : ℕ → Bool) (s : Shape) (m : ℕ) (t : Result Machines OverCeiling) (ws : List ℕ) → ((i : ℕ) → i < m → u i ≡ v i)
     → MadeBy u xs s m t ws → MadeBy v xs s m t ws
-made_cong xs u v s m t ws h w = subst (λ (o : Progress). Made v o s m t ws) (upto_cong xs u v s m h) (go (upto xs u s m) w)
+made_cong xs u v s m t ws h w = subst (λ (o : Progress). Made v o s m t ws) (upto_cong xs u v s m h) (go (upto xs u s m) t w)
   where
-    go : (o : Progress) → Made u o s m t ws → Made v o s m t ws
-    go (over k) e = e
-    go (built ms) e = (e.0, e.1, λ a l p. e.2 a l (subst T (sym (h a l)) p))
+    go : (o : Progress) (t : Result Machines OverCeiling) → Made u o s m t ws → Made v o s m t ws
+    go (over k) (Ok t) e = e
+    go (over k) (Err o) e = e
+    go (built ms) (Ok t) e = (e.0, λ a l p. e.1 a l (subst T (sym (h a l)) p))
+    go (built ms) (Err o) e = e

@@ -1,5 +1,5 @@
 -- One record built, over the machines of any records: the others stay stored, whether they come before it or after it. Assumes nothing.
-use Rattle.words.proofs.Vocabulary.{ℕ, ◌≤◌, ◌<◌, ◌+◌, ◌-◌, ◌≡◌, ◌∙◌, refl, sym, ap, List, Bool, true, false, T, get_or, set, length-set}
+use Rattle.words.proofs.Vocabulary.{ℕ, ◌≤◌, ◌<◌, ◌+◌, ◌-◌, ◌≡◌, ◌∙◌, refl, sym, ap, List, Bool, true, false, T, get_or, length}
 use Rattle.words.proofs.Vocabulary.{get_or-set_other, get_or-set_same, get_or-drop, drop, ℕ_discrete, eq-eqb, ne_eqb, arith}
 use Rattle.layout.specs.Shape.{share_of, share_at, place_in}
 use Rattle.layout.specs.declared.Shape.{Shape}
@@ -13,7 +13,11 @@ use Rattle.records.specs.declared.Decoded.{Decoded}
 use Rattle.records.specs.declared.Summary.{Summary}
 use Rattle.logic.proofs.Orders.{less, same as equal, more, ℕ-tri}
 use Rattle.building.specs.Named.{NamesUsed}
-use Rattle.building.specs.OneRecord.{kept_in, Wide, AllStored, changed, Builds}
+use Rattle.building.specs.OneRecord.{AllStored, changed, Builds}
+use Rattle.building.specs.Build.{entry_of, entered}
+use Rattle.building.specs.declared.Machines.{Machines}
+use Rattle.refusals.specs.declared.OverCeiling.{OverCeiling}
+use Rattle.std.specs.Prelude.{Result, IsOk, IsErr, IfErr}
 use Rattle.building.proofs.Marks.{all_named}
 
 -- ---- one value changed
@@ -56,27 +60,14 @@ stored_same {s} a {m} {k} {ws} {ws'} same st = record {
 }
 
 -- ---- what is kept
--- an entry stays for each possible record, whatever is put at r
-pub wide-next : {counts accepts looks : List ℕ} (r n a l : ℕ) → Wide counts accepts looks → Wide (set counts r n) (set accepts r a) (set looks r l)
-wide-next r n a l w = record {
-  counts-long = simp length-set w.counts-long;
-  accepts-long = simp length-set w.accepts-long;
-  looks-long = simp length-set w.looks-long;
-}
+module _ (t : Machines) (r : ℕ) (k : Summary) where
+  pub entered-other : (a : ℕ) → (a ≡ r → ⊥) → entry_of (entered t r k) a ≡ entry_of t a
+  entered-other a d =
+      rw (get_or-set_other t.counts r a k.count 0 d, get_or-set_other t.accepts r a k.accept 0 d, get_or-set_other t.looks r a k.looks 0 d)
 
-module _ (counts accepts looks : List ℕ) (r : ℕ) (k : Summary) where
-  pub kept-other : (a : ℕ) → (a ≡ r → ⊥)
-      → kept_in (set counts r k.count) (set accepts r k.accept) (set looks r k.looks) a ≡ kept_in counts accepts looks a
-  kept-other a d =
-      rw (get_or-set_other counts r a k.count 0 d, get_or-set_other accepts r a k.accept 0 d, get_or-set_other looks r a k.looks 0 d)
-
-  pub kept_here : Wide counts accepts looks → r < 128 → kept_in (set counts r k.count) (set accepts r k.accept) (set looks r k.looks) r ≡ k
-  kept_here w h =
-      rw (
-        get_or-set_same counts r k.count 0 (omega (arith, w.counts-long)),
-        get_or-set_same accepts r k.accept 0 (omega (arith, w.accepts-long)),
-        get_or-set_same looks r k.looks 0 (omega (arith, w.looks-long)),
-      )
+  pub entered_here : r < length t.counts → r < length t.accepts → r < length t.looks → entry_of (entered t r k) r ≡ k
+  entered_here c a l =
+      rw (get_or-set_same t.counts r k.count 0 c, get_or-set_same t.accepts r k.accept 0 a, get_or-set_same t.looks r k.looks 0 l)
 
 -- ---- one record
 -- what a record names is stored, if it is used
@@ -86,10 +77,11 @@ parts-stored x {s} {es} {ws} used ms all names =
     all_named x.kind x.first x.second (λ (i : ℕ). Stored s (share_at s i) (ms i) (es i) ws) (λ i e. all i (names i e))
 
 -- ONE RECORD: by what `build_joined` says of k, and what is kept then
-pub builds : {x : Decoded} {s : Shape} {r : ℕ} {es es' : ℕ → Summary} {k : Summary} {ws ws' : List ℕ} {over : Bool}
-    → AddsJoined x s r (es x.first) (es x.second) k ws ws' → Spared s r ws ws' → ((a : ℕ) → (a ≡ r → over ≡ true) → es' a ≡ es a)
-    → (over ≡ true → s.ceiling < k.count) → (over ≡ false → (k.count ≤ s.ceiling) × (es' r ≡ k)) → Builds x s r es es' ws ws' over
-builds {x} {s} {r} {es} {es'} {k} {ws} {ws'} {over} adds sp same many few = record {
+pub builds : {x : Decoded} {s : Shape} {r : ℕ} {es es' : ℕ → Summary} {k : Summary} {ws ws' : List ℕ} {end : Result Unit OverCeiling}
+    → AddsJoined x s r (es x.first) (es x.second) k ws ws' → Spared s r ws ws' → ((a : ℕ) → (a ≡ r → IsErr end) → es' a ≡ es a)
+    → IfErr end (λ o. o.at ≡ r) → (IsErr end → s.ceiling < k.count) → (IsOk end → (k.count ≤ s.ceiling) × (es' r ≡ k))
+    → Builds x s r es es' ws ws' end
+builds {x} {s} {r} {es} {es'} {k} {ws} {ws'} {end} adds sp same is_named many few = record {
   tried = λ used ms all names.
       let added = adds (ms x.first) (ms x.second) (parts-stored x used ms all names) in
       let others : (a : ℕ) → (a ≡ r → ⊥) → T (used a) → Stored s (share_at s a) (ms a) (es' a) ws' =
@@ -113,5 +105,6 @@ builds {x} {s} {r} {es} {es'} {k} {ws} {ws'} {over} adds sp same many few = reco
         looks = λ o. rw (few o).1 (added.looks (few o).0);
       };
   same = same;
+  named = is_named;
   spared = sp;
 }

@@ -3,13 +3,13 @@
 use Rattle.std.specs.Prelude.{ℕ, zero, suc, ◌<◌, Bool, true, false, cond, ◌≡◌, List, [], ◌∷◌, T, get_or, set}
 use Rattle.logic.specs.Reach.{elem}
 use Rattle.logic.specs.ReachedRecords.{is_reached}
-use Rattle.table.specs.declared.plan.Kind.{Kind}
-use Rattle.table.specs.declared.plan.Kind.TheVariants.{Subset, Single, Child1, Child2, Root, Not, Or, And, Exists}
+use Rattle.ops.specs.declared.Op.{Op}
+use Rattle.ops.specs.declared.Op.TheVariants.{Subset, Single, Child1, Child2, Root, Not, Or, And, Exists}
 use Rattle.records.specs.Rule.{OfParts, no_decoded}
 use Rattle.records.specs.declared.Decoded.{Decoded}
 
 -- the records that a decoded record of this kind names, by its numbers; "exists" has its record as the first of them once it is decoded
-abbrev pub named_by : Kind → ℕ → ℕ → List ℕ
+abbrev pub named_by : Op → ℕ → ℕ → List ℕ
 named_by Subset a b = []
 named_by Single a b = []
 named_by Child1 a b = []

@@ -3,24 +3,27 @@ use Rattle.words.proofs.Vocabulary.{ℕ, zero, suc, ◌+◌, ◌-◌, ◌*◌, �
 use Rattle.words.proofs.Vocabulary.{List, ◌++◌, length, drop, replicate, mul-le-mul_right, arith}
 use lib.ListN.{take-append-drop}
 use lib.Seq.{drop-nil}
+use Rattle.std.specs.Prelude.{Result, Ok, Err}
+use Rattle.std.proofs.lemmas.Grind.{common_steps}
 use Rattle.logic.specs.Rule.{last_of}
 use Rattle.logic.specs.Claims.{FirstOver}
 use Rattle.logic.proofs.Rules.{record_valid}
-use Rattle.bits.specs.declared.Fault.TheVariants.{At}
 use Rattle.rule_strip.specs.RuleStrip.{variables_of, count_of, records_of, rule_fault}
 use Rattle.rule_strip.proofs.RuleLaws.{rule-accepted}
 use Rattle.rule_strip.proofs.RulePlaces.{place-told}
-use Rattle.refusals.specs.Refusal.{answer_unless}
+use Rattle.refusals.specs.declared.Fault.{Fault}
+use Rattle.refusals.specs.declared.Reason.TheVariants as reason
 use Rattle.refusals.specs.declared.Refusal.{Refusal}
-use Rattle.refusals.specs.declared.Refusal.TheVariants.{Nothing, Placed, Plain, TooManyStates}
-use Rattle.refusals.proofs.Refusals.{checked-free, tested-free, unless-refused, checked-placed, tested_unplaced, nothing_unplaced}
+use Rattle.refusals.specs.declared.Refusal.TheVariants.{Placed, Plain, TooManyStates}
+use Rattle.refusals.proofs.Refusals.{free, checked-free, tested-free, checked-placed, tested_unplaced}
 use Rattle.records.specs.declared.Summary.{Summary}
 use Rattle.records.proofs.Shares.{drop-later}
 use Rattle.layout.specs.Shape.{share_at}
 use Rattle.reading.specs.Reading.{Satisfiable}
 use Rattle.rules.specs.Room.{room_of, cleared}
 use Rattle.rules.specs.Building.{rule_shape, Decider}
-use Rattle.rules.proofs.Rooms.{short-free, work-free, work_unplaced, room_shares}
+use Rattle.rules.proofs.Ends.{placed_early, told_early, told_late, kept_early, cleared_late}
+use Rattle.rules.proofs.Rooms.{untold, work_free, work_unplaced, room_shares}
 use Rattle.rules.proofs.Rules.{rule-shaped}
 use Rattle.parts.specs.Parts.{parts_of}
 use Rattle.trials.specs.Joins.{over14}
@@ -28,10 +31,9 @@ use Rattle.trials.specs.Answer.{ClashAnswer, refused_for, satisfiable, clashing,
 use Rattle.trials.proofs.Answer.{clash-answers, roomy-answer}
 use Rattle.trying.specs.Trying.{Triable, Confined}
 use Rattle.trying.specs.Trials.{tried_of, TriedAll}
-use Rattle.trying.specs.declared.Tried.TheVariants.{Kept}
+use Rattle.trying.specs.declared.KeptParts.{KeptParts}
 use Rattle.trying.proofs.Tries.{satisfiable-same}
-use Rattle.clash.specs.Clashes.{trial_room, parts_refusal, clash_refusal, refused_list, clashing_list, clashed_of, clash_list_of, clash_workspace, ClashClaim}
-use Rattle.clash.specs.declared.ClashList.{ClashList}
+use Rattle.clash.specs.Clashes.{trial_room, parts_refusal, clash_refusal, clashing_list, clashed_of, clash_list_of, clash_workspace, ClashClaim}
 
 -- ---- the room
 -- what m + 15 records take is no less than what m take
@@ -58,23 +60,22 @@ zeros-left (suc n) zero m e = let z : suc n ≡ m = omega arith in ap (λ (i : �
 zeros-left (suc n) (suc k) m e = zeros-left n k m (omega arith)
 
 -- those kept at the front, and zeros behind them
-pub kept-listed : (rule : List ℕ) (c k : ℕ) (list : List ℕ) → TriedAll rule c (replicate 16 0) (Kept k) list
-    → record { refusal = Nothing; count = k; parts = list } ≡ clashing_list (trials_answer (tried_of rule c))
+pub kept-listed : (rule : List ℕ) (c : ℕ) (k : KeptParts) → TriedAll rule c (Ok k) → Ok k ≡ clashing_list (trials_answer (tried_of rule c))
 unfolding trials_answer clashing_list
-kept-listed rule c k list w =
+kept-listed rule c k w =
     let K = w.0 in
-    let e : list ≡ K ++ replicate (16 - length K) 0 =
-    sym (take-append-drop k list) ∙ ap₂ (λ (a b : List ℕ). a ++ b) w.3 (w.4 ∙ zeros-left 16 k (16 - length K) (omega (arith, w.2))) in
-    rw w.1 (ap₂ (λ (i : ℕ) (L : List ℕ). record { refusal = Nothing; count = i; parts = L }) w.2 e)
+    let e : k.parts ≡ K ++ replicate (16 - length K) 0 =
+    sym (take-append-drop k.count k.parts) ∙ ap₂ (λ (a b : List ℕ). a ++ b) w.3 (w.4 ∙ zeros-left 16 k.count (16 - length K) (omega (arith, w.2))) in
+    rw w.1 (ap₂ (λ (i : ℕ) (L : List ℕ). Ok (record { count = i; parts = L })) w.2 e)
 
-pub over-listed : (rule : List ℕ) (c q : ℕ) → tried_of rule c ≡ over14 q → refused_list (TooManyStates q) ≡ clashing_list (trials_answer (tried_of rule c))
+pub over-listed : (rule : List ℕ) (c q : ℕ) → tried_of rule c ≡ over14 q → Err (TooManyStates q) ≡ clashing_list (trials_answer (tried_of rule c))
 unfolding trials_answer clashing_list
 over-listed rule c q e = rw e refl
 
 -- ---- the answer
 module _ {rule : List ℕ} {c room : ℕ} (t : Triable rule c room) where
   -- 14 of the rule itself
-  pub own-over : (r : ℕ) → FirstOver 2 (variables_of rule) (records_of rule) c r → refused_list (TooManyStates r) ≡ clashing_list (clashed_of rule c)
+  pub own-over : (r : ℕ) → FirstOver 2 (variables_of rule) (records_of rule) c r → Err (TooManyStates r) ≡ clashing_list (clashed_of rule c)
   unfolding clashing_list
   own-over r h =
       rw ((clash-answers 2 (variables_of rule) (records_of rule) (rule-accepted rule t.work.sound).records-accepted c).refused-rule r h) refl
@@ -91,7 +92,7 @@ module _ {rule : List ℕ} {c room : ℕ} (t : Triable rule c room) where
         roomy-answer 2 n (records_of rule) ok c d.roomy v (sym same ∙ e)
 
     -- 29
-    pub own-satisfiable : b ≡ true → refused_list (Plain 29) ≡ clashing_list (clashed_of rule c)
+    pub own-satisfiable : b ≡ true → Err (Plain reason.Satisfiable) ≡ clashing_list (clashed_of rule c)
     unfolding clashing_list
     own-satisfiable e = rw (answered true e) refl
 
@@ -100,29 +101,35 @@ module _ {rule : List ℕ} {c room : ℕ} (t : Triable rule c room) where
     own-tried e = ap clashing_list (sym (answered false e))
 
 -- ---- the end, by the refusals
-pub parts_free : (count : ℕ) → parts_refusal count ≡ 0 → count ≤ 16
+pub parts_free : (count : ℕ) → parts_refusal count ≡ untold → count ≤ 16
 unfolding parts_refusal
-parts_free count e = short-free 16 count 28 (omega arith) e
+parts_free count e = grind (arith, common_steps)
+
+answer_unplaced : (o : ClashAnswer) {f : Fault} → clashing_list o ≡ Err (Placed f) → ⊥
+unfolding clashing_list
+answer_unplaced (refused_for r) e = cc
+answer_unplaced satisfiable e = cc
+answer_unplaced (clashing R) e = cc
 
 module _ (rule : List ℕ) (c : ℕ) (ws : List ℕ) where
-  abbrev pub Ends : ClashList → List ℕ → Type 0
+  abbrev pub Ends : Result KeptParts Refusal → List ℕ → Type 0
   Ends a ws' = (a ≡ clash_list_of rule c (length ws)) × (ws' ≡ clash_workspace rule c ws)
 
-  abbrev pub early : Refusal
+  abbrev pub early : Result Unit Refusal
   early = clash_refusal rule c (length ws)
 
   -- it is refused
-  pub ends-refused : {r : Refusal} → r ≡ early → (r ≡ Nothing → ⊥) → Ends (refused_list r) ws
+  pub ends-refused : {r : Refusal} → early ≡ Err r → Ends (Err r) ws
   unfolding clash_list_of clash_workspace
-  ends-refused {r} e h = rw (← e) (sym (unless-refused r _ _ h), sym (unless-refused r _ _ h))
+  ends-refused e = (told_early early _ e, kept_early early ws _ e)
 
   -- it goes on
-  module _ (e : early ≡ Nothing) where
+  module _ (e : early ≡ free) where
     pub early-free : Triable rule c (length ws) × (length (parts_of (records_of rule)) ≤ 16)
     unfolding clash_refusal
     early-free =
         let s = checked-free (rule_fault rule) _ e in
-        let w = work-free (variables_of rule) (count_of rule + 15) c (length ws) _ s.1 in
+        let w = work_free (variables_of rule) (count_of rule + 15) c (length ws) _ s.1 in
         let many = length (parts_of (records_of rule)) in (
           record {
             work = record { sound = s.0; some-state = w.0; few-states = w.1; long = omega (arith, room-more rule c, w.2) };
@@ -131,29 +138,26 @@ module _ (rule : List ℕ) (c : ℕ) (ws : List ℕ) where
           parts_free many (tested-free (parts_refusal many) _ w.3).0,
         )
 
-    pub ends-told : {a : ClashList} → a ≡ clashing_list (clashed_of rule c) → {ws' : List ℕ} → ws' ≡ cleared (trial_room rule c) ws → Ends a ws'
+    pub ends-told : {a : Result KeptParts Refusal} → a ≡ clashing_list (clashed_of rule c)
+        → (made : List ℕ) → drop (trial_room rule c) made ≡ drop (trial_room rule c) ws → {ws' : List ℕ} → ws' ≡ cleared (trial_room rule c) made
+        → Ends a ws'
     unfolding clash_list_of clash_workspace
-    ends-told ea ew = rw e (ea, ew)
+    ends-told ea made same ew = (told_late early _ e ea, cleared_late early ws e (trial_room rule c) made same ew)
 
   -- a refusal that names a place is the strip's
-  placed_is : {k p : ℕ} → (clash_list_of rule c (length ws)).refusal ≡ Placed k p → rule_fault rule ≡ At k p
-  unfolding clash_list_of clash_refusal clashing_list
-  placed_is {k} {p} e =
-      ⊎_elim (λ f. f)
-      (λ f. absurd (nothing_unplaced (tested_unplaced (parts_refusal (length (parts_of (records_of rule)))) _
-      (work_unplaced (variables_of rule) (count_of rule + 15) c (length ws) _ f))))
-      (checked-placed (rule_fault rule) _ (go early (clashed_of rule c) e))
-    where
-      go : (r : Refusal) (o : ClashAnswer) → (answer_unless refused_list r (clashing_list o)).refusal ≡ Placed k p → r ≡ Placed k p
-      go (Placed l q) o f = f
-      go (Plain l) o f = f
-      go (TooManyStates r) o f = f
-      go Nothing (refused_for r) f = absurd (let z : ◌≡◌ {A = ℕ} 0 1 = cc in omega arith)
-      go Nothing satisfiable f = absurd (let z : ◌≡◌ {A = ℕ} 0 1 = cc in omega arith)
-      go Nothing (clashing R) f = absurd (nothing_unplaced f)
+  placed_is : {f : Fault} → clash_list_of rule c (length ws) ≡ Err (Placed f) → rule_fault rule ≡ Err f
+  unfolding clash_list_of clash_refusal
+  placed_is {f} e =
+      ⊎_elim (λ g. g)
+      (λ g.
+      let z : free ≡ Err (Placed f) =
+      tested_unplaced (parts_refusal (length (parts_of (records_of rule)))) _
+      (work_unplaced (variables_of rule) (count_of rule + 15) c (length ws) _ g) in
+      absurd cc)
+      (checked-placed (rule_fault rule) _ (placed_early early _ (answer_unplaced (clashed_of rule c)) e))
 
   -- A6'S CLAIM, and a place that is named is where the strip offends
-  pub claim : {a : ClashList} → a ≡ clash_list_of rule c (length ws) → ClashClaim rule c (length ws) a
+  pub claim : {a : Result KeptParts Refusal} → a ≡ clash_list_of rule c (length ws) → ClashClaim rule c (length ws) a
   unfolding clash_list_of
   claim ea = record {
     clashed = λ e.
@@ -163,10 +167,13 @@ module _ (rule : List ℕ) (c : ℕ) (ws : List ℕ) where
           answers = clash-answers 2 (variables_of rule) (records_of rule) (rule-accepted rule w.0.work.sound).records-accepted c;
           told = ea ∙ rw e;
         };
-    names = λ k p e. place-told rule (placed_is (ap (λ (a : ClashList). a.refusal) (sym ea) ∙ e));
+    names = λ f e. place-told rule (placed_is (sym ea ∙ e));
   }
 
   -- all that clash promises follows from how it ends
-  pub promised : {a : ClashList} {ws' : List ℕ} → Ends a ws'
-      → (a ≡ clash_list_of rule c (length ws)) × ((ws' ≡ clash_workspace rule c ws) × ClashClaim rule c (length ws) a)
-  promised e = (e.0, (e.1, claim e.0))
+  pub promised : {a : Result KeptParts Refusal} {ws' : List ℕ} → Ends a ws' → record {
+    value : a ≡ clash_list_of rule c (length ws);
+    ws_after : ws' ≡ clash_workspace rule c ws;
+    clash_claim : ClashClaim rule c (length ws) a;
+  }
+  promised e = record { value = e.0; ws_after = e.1; clash_claim = claim e.0 }

@@ -1,9 +1,9 @@
 // What C is told of the parts that clash: include/ws2s.h, `ws2s_clash_list`. Fields that do not apply are 0.
 ghost use Rattle.std.specs.Prelude.{◌≡◌};
-ghost use Rattle.clash.specs.Numbers.{clash_kind, clash_numbers};
+ghost use Rattle.clash.specs.Numbers.{clash_numbers};
 
-use crate::ClashList;
 use refusals::Refusal;
+use trying::KeptParts;
 
 // kind: 0 kept, 3 refused; place is the bit place that a strip's refusal names.
 #[repr(C)]
@@ -17,27 +17,31 @@ pub struct ClashNumbers {
     pub parts: [u64; 16],
 }
 
-fn kind_of(r: Refusal) -> u64
-    ensures { result ≡ clash_kind r }
-{
-    match r {
-        Refusal::Nothing => 0,
-        _ => 3,
-    }
-}
-
-pub fn clash_numbers(a: ClashList) -> ClashNumbers
+pub fn clash_numbers(a: Result<KeptParts, Refusal>) -> ClashNumbers
     ensures { result ≡ clash_numbers a }
 {
-    let r = a.refusal;
-    let parts = a.parts;
-    let x = refusals::refusal_numbers(r);
-    ClashNumbers {
-        kind: kind_of(r),
-        refusal: x.number,
-        recordnumber: x.recordnumber,
-        place: x.place,
-        count: a.count,
-        parts,
+    match a {
+        Ok(kept) => {
+            let parts = kept.parts;
+            ClashNumbers {
+                kind: 0,
+                refusal: 0,
+                recordnumber: 0,
+                place: 0,
+                count: kept.count as u64,
+                parts,
+            }
+        }
+        Err(r) => {
+            let x = refusals::refusal_numbers(r);
+            ClashNumbers {
+                kind: 3,
+                refusal: x.number,
+                recordnumber: x.recordnumber,
+                place: x.place,
+                count: 0,
+                parts: [0; 16],
+            }
+        }
     }
 }

@@ -8,26 +8,27 @@ use Rattle.rule_strip.specs.RuleStrip.{variables_of, records_of}
 use Rattle.rule_strip.proofs.RuleLaws.{rule-accepted}
 use Rattle.tree_strip.specs.TreeStrip.{strip_of_tree, parsed}
 use Rattle.tree_strip.proofs.TreeLaws.{tree-read-back}
+use Rattle.std.specs.Prelude.{Result, Ok, Err}
 use Rattle.refusals.specs.Refusal.{answer_unless}
 use Rattle.refusals.specs.declared.Refusal.{Refusal}
-use Rattle.refusals.specs.declared.Refusal.TheVariants.{Nothing, Placed, Plain, TooManyStates}
+use Rattle.refusals.proofs.Refusals.{free}
 use Rattle.decide.proofs.Verdicts.{Ends, early, early-free, strip-first, claim}
 use Rattle.decide.specs.Decide.{decided_of, outcome_verdict, verdict_of, workspace_of, out_of, DecideClaim, ShallowStrip, ShowsShallow}
 use Rattle.decide.specs.declared.Verdict.{Verdict}
-use Rattle.decide.specs.declared.Verdict.TheVariants.{Shown, Refused}
+use Rattle.decide.specs.declared.Verdict.TheVariants.{Shown}
 
 -- the outcome that shown tells
-told-tree : (n : ℕ) (o : Outcome 2) {places states bytes : ℕ} → outcome_verdict n o ≡ Shown places states bytes
+told-tree : (n : ℕ) (o : Outcome 2) {places states bytes : ℕ} → outcome_verdict n o ≡ Ok (Shown places states bytes)
     → (t : Tree 2) × (o ≡ shown places states t) × (bytes ≡ length (strip_of_tree n t))
 unfolding outcome_verdict
-told-tree n (refused14 r) e = absurd (let z : ◌≡◌ {A = ℕ} 0 1 = cc in omega arith)
+told-tree n (refused14 r) e = absurd cc
 told-tree n (shown places states t) e = (t, cc, cc)
-told-tree n (none states) e = absurd (let z : ◌≡◌ {A = ℕ} 0 1 = cc in omega arith)
-told-tree n (larger states) e = absurd (let z : ◌≡◌ {A = ℕ} 0 1 = cc in omega arith)
+told-tree n (none states) e = absurd cc
+told-tree n (larger states) e = absurd cc
 
 module _ (rule : List ℕ) (c P : ℕ) (ws out : List ℕ) where
   -- the strip of the tree that is shown
-  strip-shallow : early rule c P ws out ≡ Nothing → (places states : ℕ) (t : Tree 2) → decided_of rule c P ≡ shown places states t
+  strip-shallow : early rule c P ws out ≡ free → (places states : ℕ) (t : Tree 2) → decided_of rule c P ≡ shown places states t
       → ShallowStrip (strip_of_tree (variables_of rule) t) c places states
   strip-shallow e places states t f =
       let n = variables_of rule in
@@ -46,27 +47,33 @@ module _ (rule : List ℕ) (c P : ℕ) (ws out : List ℕ) where
         at_most = a.0.few-states;
       }
 
-  shows-shallow : {x : Verdict} → x ≡ verdict_of rule c P (length ws) (length out)
+  shows-shallow : {x : Result Verdict Refusal} → x ≡ verdict_of rule c P (length ws) (length out)
       → {out' : List ℕ} → out' ≡ out_of rule c P (length ws) out → ShowsShallow c x out'
   unfolding verdict_of
   shows-shallow ex {out' = out'} eo places states bytes f = go (early rule c P ws out) refl (sym ex ∙ f)
     where
-      go : (r : Refusal) → early rule c P ws out ≡ r
-          → answer_unless Refused r (outcome_verdict (variables_of rule) (decided_of rule c P)) ≡ Shown places states bytes
+      go : (r : Result Unit Refusal) → early rule c P ws out ≡ r
+          → answer_unless r (outcome_verdict (variables_of rule) (decided_of rule c P)) ≡ Ok (Shown places states bytes)
           → ShallowStrip (take bytes out') c places states
-      go (Placed k p) e h = absurd (let z : ◌≡◌ {A = ℕ} 0 1 = cc in omega arith)
-      go (Plain k) e h = absurd (let z : ◌≡◌ {A = ℕ} 0 1 = cc in omega arith)
-      go (TooManyStates k) e h = absurd (let z : ◌≡◌ {A = ℕ} 0 1 = cc in omega arith)
-      go Nothing e h =
+      go (Err r) e h = absurd cc
+      go (Ok u) e h =
           let w = told-tree (variables_of rule) (decided_of rule c P) h in
           let z = strip-first rule c P ws out eo e places states w.0 w.1 in
           subst (λ (s : List ℕ). ShallowStrip s c places states) (sym (ap (λ (l : ℕ). take l out') w.2 ∙ z))
           (strip-shallow e places states w.0 w.1)
 
   -- all that decide promises follows from how it ends
-  pub promised : {x : Verdict} {ws' out' : List ℕ} → Ends rule c P ws out x ws' out'
-      → (x ≡ verdict_of rule c P (length ws) (length out))
-      × ((ws' ≡ workspace_of rule c P ws (length out))
-      × ((out' ≡ out_of rule c P (length ws) out)
-      × (DecideClaim rule c P (length ws) (length out) x out' × ShowsShallow c x out')))
-  promised e = (e.0, (e.1.0, (e.1.1, (claim rule c P ws out e.0 e.1.1, shows-shallow e.0 e.1.1))))
+  pub promised : {x : Result Verdict Refusal} {ws' out' : List ℕ} → Ends rule c P ws out x ws' out' → record {
+    value : x ≡ verdict_of rule c P (length ws) (length out);
+    ws_after : ws' ≡ workspace_of rule c P ws (length out);
+    out_after : out' ≡ out_of rule c P (length ws) out;
+    decide_claim : DecideClaim rule c P (length ws) (length out) x out';
+    shows_shallow : ShowsShallow c x out';
+  }
+  promised e = record {
+    value = e.0;
+    ws_after = e.1.0;
+    out_after = e.1.1;
+    decide_claim = claim rule c P ws out e.0 e.1.1;
+    shows_shallow = shows-shallow e.0 e.1.1;
+  }

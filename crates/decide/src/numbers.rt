@@ -3,6 +3,7 @@ ghost use Rattle.std.specs.Prelude.{◌≡◌};
 ghost use Rattle.decide.specs.Numbers.{verdict_numbers};
 
 use crate::Verdict;
+use refusals::Refusal;
 
 // kind: 0 shown, 1 none, 2 larger, 3 refused; place is the bit place that a strip's refusal names.
 #[repr(C)]
@@ -32,15 +33,17 @@ fn without_tree(kind: u64, states: u64) -> VerdictNumbers
     }
 }
 
-pub fn verdict_numbers(v: Verdict) -> VerdictNumbers
+pub fn verdict_numbers(v: Result<Verdict, Refusal>) -> VerdictNumbers
     ensures { result ≡ verdict_numbers v }
 {
     match v {
-        Verdict::Shown {
-            positions,
-            states,
-            length,
-        } => VerdictNumbers {
+        Ok(
+            Verdict::Shown {
+                positions,
+                states,
+                length,
+            },
+        ) => VerdictNumbers {
             kind: 0,
             refusal: 0,
             recordnumber: 0,
@@ -49,9 +52,9 @@ pub fn verdict_numbers(v: Verdict) -> VerdictNumbers
             length,
             place: 0,
         },
-        Verdict::None(states) => without_tree(1, states),
-        Verdict::Larger(states) => without_tree(2, states),
-        Verdict::Refused(r) => {
+        Ok(Verdict::None(states)) => without_tree(1, states),
+        Ok(Verdict::Larger(states)) => without_tree(2, states),
+        Err(r) => {
             let x = refusals::refusal_numbers(r);
             VerdictNumbers {
                 kind: 3,

@@ -1,18 +1,25 @@
--- What is put behind a sentence's parts, by kind, and that a sentence never makes the records fewer. Assumes nothing.
-use Prim.Native.Nat.{ℕ, ◌+◌, ◌≤◌}
+-- What is put for an atom, and that a sentence never makes the records fewer. Assumes nothing.
+use Prim.Native.Nat.{ℕ, zero, suc, ◌+◌, ◌<◌, ◌≤◌}
 use mathlib.Core.Path.{◌≡◌, refl, sym, ◌∙◌, ap, subst}
+use mathlib.Core.Bool.{cond}
 use mathlib.Core.List.{List, ◌∷◌}
 use native.Mathlib.Nat.{le_trans}
 use native.Mathlib.Omega.{arith}
 use lib.ListN.{length}
-use borrow.Author.Tests.{eq-eqb, ne_eqb}
+use lib.Dec.{eqb}
+use Rattle.logic.specs.Meaning.{Branch as ChildOf}
 use Rattle.logic.specs.Rule.{Record, last_of}
+use Rattle.logic.specs.Two.{pair_of}
+use Rattle.ops.specs.Ops.{op_number}
+use Rattle.ops.specs.declared.Op.{Op}
+use Rattle.ops.specs.declared.Op.TheVariants as op
 use Rattle.text.specs.Syntax.{first, second, variable, branch, root, Atom, sub, member, equal, Scope}
 use Rattle.text.specs.Syntax.{Sentence, atom, denied, both, either, implies, alike, for_some, for_every}
-use Rattle.text.specs.Records.{put, put_not, put_single, put_exists, put_alike, write_atom, write}
-use Rattle.drafting.specs.Draft.{Drafted, Drafts, Puts, Joins}
-use Rattle.drafting.specs.Coded.{coded_atom, SpotBelow, AtomBelow}
-use Rattle.drafting.specs.Joined.{put_quantified, put_joined}
+use Rattle.text.specs.Records.{track_of, put, put_not, put_single, put_exists, put_alike, write_atom, write}
+use Rattle.drafting.specs.Draft.{Drafted, Drafts, Puts}
+use Rattle.drafting.specs.Coded.{branch_op, coded_atom, SpotBelow, AtomBelow}
+use Rattle.drafting.specs.declared.Branch.TheVariants.{One, Two}
+use Rattle.drafting.specs.declared.Draft.{Draft}
 use Rattle.drafting.specs.declared.Spot.{Spot as SpotCode}
 use Rattle.drafting.specs.declared.Spot.TheVariants.{Variable, Branch, Root}
 use Rattle.drafting.specs.declared.Atom.{Atom as AtomCode}
@@ -92,48 +99,13 @@ write-longer sc (for_every second x f) rs =
     le_trans (write-longer (record { name = x; order = second } ∷ sc) f rs)
     (le_trans (not_longer fs) (le_trans (exists-longer (length sc) (put_not fs)) (not_longer es)))
 
--- what the code puts, by kind
-module _ {ws ws₁ : List ℕ} {c c₁ k : ℕ} (x : ℕ) where
-  pub ex2_is : k ≡ 4 → Drafts ws c ws₁ c₁ (put_exists x) → Drafts ws c ws₁ c₁ (put_quantified k x)
-  unfolding put_quantified
-  ex2_is e p rs d = rw (ne_eqb k 3 (λ z. omega arith), eq-eqb k 4 e) (p rs d)
-
-  module _ {ws₂ : List ℕ} {c₂ : ℕ} where
-    pub ex1_is : k ≡ 3 → Drafts ws c ws₁ c₁ (put_single x) → Drafts ws₁ c₁ ws₂ c₂ (put_exists x) → Drafts ws c ws₂ c₂ (put_quantified k x)
-    unfolding put_quantified
-    ex1_is e p q rs d = rw (eq-eqb k 3 e) (q _ (p rs d))
-
-    module _ {ws₃ : List ℕ} {c₃ : ℕ} where
-      pub all2_is : (k ≡ 3 → ⊥) → (k ≡ 4 → ⊥) → (k ≡ 5 → ⊥) → Drafts ws c ws₁ c₁ put_not → Drafts ws₁ c₁ ws₂ c₂ (put_exists x) → Drafts ws₂ c₂ ws₃ c₃ put_not
-          → Drafts ws c ws₃ c₃ (put_quantified k x)
-      unfolding put_quantified
-      all2_is n₃ n₄ n₅ p q r rs d = rw (ne_eqb k 3 n₃, ne_eqb k 4 n₄, ne_eqb k 5 n₅) (r _ (q _ (p rs d)))
-
-      pub all1_is : {ws₄ : List ℕ} {c₄ : ℕ} → k ≡ 5 → Drafts ws c ws₁ c₁ put_not → Drafts ws₁ c₁ ws₂ c₂ (put_single x) → Drafts ws₂ c₂ ws₃ c₃ (put_exists x)
-          → Drafts ws₃ c₃ ws₄ c₄ put_not → Drafts ws c ws₄ c₄ (put_quantified k x)
-      unfolding put_quantified
-      all1_is e p q r s rs d = rw (ne_eqb k 3 (λ z. omega arith), ne_eqb k 4 (λ z. omega arith), eq-eqb k 5 e) (s _ (r _ (q _ (p rs d))))
-
-module _ {ws ws₁ : List ℕ} {l c c₁ k : ℕ} where
-  pub iff_is : k ≡ 19 → Joins ws l c ws₁ c₁ put_alike → Joins ws l c ws₁ c₁ (put_joined k)
-  unfolding put_joined
-  iff_is e p fs gs s m d = rw (ne_eqb k 16 (λ z. omega arith), eq-eqb k 19 e) (p fs gs s m d)
-
-  pub and_is : k ≡ 16 → Joins ws l c ws₁ c₁ (λ fs gs. put 7 (last_of fs) (last_of gs) gs) → Joins ws l c ws₁ c₁ (put_joined k)
-  unfolding put_joined
-  and_is e p fs gs s m d = rw (eq-eqb k 16 e) (p fs gs s m d)
-
-  pub or_is : (k ≡ 16 → ⊥) → (k ≡ 19 → ⊥) → Joins ws l c ws₁ c₁ (λ fs gs. put 6 (last_of fs) (last_of gs) gs) → Joins ws l c ws₁ c₁ (put_joined k)
-  unfolding put_joined
-  or_is n₁₆ n₁₉ p fs gs s m d = rw (ne_eqb k 16 n₁₆, ne_eqb k 19 n₁₉) (p fs gs s m d)
-
 -- an atom's record, as the code holds the atom
-abbrev pub atom_op : AtomCode → ℕ
-atom_op (Sub x y) = 0
-atom_op (Member x y) = 0
-atom_op (Equal x (Variable y)) = 0
-atom_op (Equal x (Branch n y)) = 2 + n
-atom_op (Equal x Root) = 4
+abbrev pub atom_op : AtomCode → Op
+atom_op (Sub x y) = op.Subset
+atom_op (Member x y) = op.Subset
+atom_op (Equal x (Variable y)) = op.Subset
+atom_op (Equal x (Branch b y)) = branch_op b
+atom_op (Equal x Root) = op.Root
 
 abbrev pub atom_first : AtomCode → ℕ
 atom_first (Sub x y) = x
@@ -144,25 +116,29 @@ abbrev pub atom_second : AtomCode → ℕ
 atom_second (Sub x y) = y
 atom_second (Member x y) = y
 atom_second (Equal x (Variable y)) = y
-atom_second (Equal x (Branch n y)) = y
+atom_second (Equal x (Branch b y)) = y
 atom_second (Equal x Root) = 0
 
+branch-number : (b : ChildOf 2) → 2 + b.number ≡ op_number (branch_op (pair_of One Two b))
+branch-number b = go b.number b.below
+  where
+    go : (n : ℕ) → n < 2 → 2 + n ≡ op_number (branch_op (cond (eqb n 0) One Two))
+    go zero h = refl
+    go (suc zero) h = refl
+    go (suc (suc n)) h = absurd (omega arith)
+
 write_coded : (sc : Scope) (a : Atom) (rs : List Record)
-    → write_atom sc a rs ≡ put (atom_op (coded_atom sc a)) (atom_first (coded_atom sc a)) (atom_second (coded_atom sc a)) rs
+    → write_atom sc a rs ≡ put (op_number (atom_op (coded_atom sc a))) (atom_first (coded_atom sc a)) (atom_second (coded_atom sc a)) rs
 unfolding write_atom
 write_coded sc (sub x y) rs = refl
 write_coded sc (member x y) rs = refl
 write_coded sc (equal x (variable y)) rs = refl
-write_coded sc (equal x (branch b y)) rs = refl
+write_coded sc (equal x (branch b y)) rs = ap (λ (n : ℕ). put n (track_of sc x) (track_of sc y) rs) (branch-number b)
 write_coded sc (equal x root) rs = refl
-
--- an equality whose place is known too
-pub place_is : {k : AtomCode} {x : ℕ} {p q : SpotCode} → k ≡ Equal x p → p ≡ q → k ≡ Equal x q
-place_is {x = x} g h = g ∙ ap (Equal x) h
 
 spot-below : (n m : ℕ) (p : SpotCode) → n ≤ m → SpotBelow n p → SpotBelow m p
 spot-below n m (Variable y) h b = omega arith
-spot-below n m (Branch k y) h b = (b.0, omega arith)
+spot-below n m (Branch k y) h b = omega arith
 spot-below n m Root h b = tt
 
 -- the tracks of a scope of at most 8 names have room in a field
@@ -171,14 +147,14 @@ atom-below n m (Sub x y) h b = (omega arith, omega arith)
 atom-below n m (Member x y) h b = (omega arith, omega arith)
 atom-below n m (Equal x p) h b = (omega arith, spot-below n m p h b.1)
 
-pub below_is : {k : AtomCode} (m : AtomCode) → k ≡ m → AtomBelow 128 k → AtomBelow 128 m
-below_is m g h = subst (AtomBelow 128) g h
+-- an equality whose place is known too
+pub place_is : {k : AtomCode} {x : ℕ} {p q : SpotCode} → k ≡ Equal x p → p ≡ q → k ≡ Equal x q
+place_is {x = x} g h = g ∙ ap (Equal x) h
 
-made : {ws ws₁ : List ℕ} {c c₁ op : ℕ} (m : AtomCode) → op ≡ atom_op m → Puts ws c op (atom_first m) (atom_second m) ws₁ c₁
-    → Drafts ws c ws₁ c₁ (put (atom_op m) (atom_first m) (atom_second m))
-made m o p rs d = rw (← o) (p rs (atom_first m) (atom_second m) d (λ _. refl) (λ _. refl))
-
-pub atom_is : {ws ws₁ : List ℕ} {c c₁ op : ℕ} {k : AtomCode} (m : AtomCode) → k ≡ m → op ≡ atom_op m → Puts ws c op (atom_first m) (atom_second m) ws₁ c₁
-    → (sc : Scope) (a : Atom) → k ≡ coded_atom sc a → Drafts ws c ws₁ c₁ (write_atom sc a)
-atom_is {ws} {ws₁} {c} {c₁} m g o p sc a e rs d =
-    rw write_coded (subst (λ (n : AtomCode). Drafted ws₁ c₁ (put (atom_op n) (atom_first n) (atom_second n) rs)) (sym g ∙ e) (made m o p rs d))
+-- an atom that is put as the code holds it
+pub atom_is : {d e : Draft} {k : AtomCode} {o : Op} (m : AtomCode) → k ≡ m → o ≡ atom_op m → Puts d o (atom_first m) (atom_second m) e
+    → (sc : Scope) (a : Atom) → k ≡ coded_atom sc a → Drafts d e (write_atom sc a)
+atom_is {e = e} m g f p sc a h rs D =
+    rw write_coded
+    (subst (λ (n : AtomCode). Drafted e (put (op_number (atom_op n)) (atom_first n) (atom_second n) rs)) (sym g ∙ h)
+    (rw (← f) (p rs (atom_first m) (atom_second m) D (λ _. refl) (λ _. refl))))

@@ -1,22 +1,40 @@
 // The records of a text, put into an array while the text is read: document 01, "How trainers type a rule".
 #![tactic(auto)]
 
-ghost use Rattle.std.specs.Prelude.{◌≡◌, ◌+◌, ◌-◌, ◌<◌, ◌≤◌, min};
-ghost use Rattle.text.specs.Token.{ex1_kind, all2_kind, and_kind, alike_kind};
+ghost use Rattle.std.specs.Prelude.{◌≡◌, [], ◌+◌, ◌-◌, ◌<◌, ◌≤◌, min};
 ghost use Rattle.text.specs.Syntax.{Scope};
 ghost use Rattle.text.specs.Syntax as syntax;
 ghost use Rattle.text.specs.Records.{put_not, put_single, put_exists, put_alike, write_atom};
-ghost use Rattle.drafting.specs.Draft.{Drafts, Puts, Joins};
-ghost use Rattle.drafting.specs.Coded.{coded_atom, AtomBelow};
-ghost use Rattle.drafting.specs.Joined.{put_quantified, put_joined};
+ghost use Rattle.drafting.specs.Draft.{Drafted, Drafts, Puts, Joins};
+ghost use Rattle.drafting.specs.Coded.{branch_op, coded_atom, AtomBelow};
+ghost use Rattle.drafting.specs.Joined.{put_some_place, put_quantified, put_joined};
 
-use text::kinds;
+use ops::Op;
 
-// A place that an atom names: a variable's, its branch 1 (number 0) or 2 (number 1), or the root.
+// A branch of a place: `.0` is the first, `.1` the second.
+#[derive(Clone, Copy, Debug, PartialEq, Eq)]
+pub enum Branch {
+    One,
+    Two,
+}
+
+impl Branch {
+    // The op that says of a place that it is this branch of another.
+    fn op(self) -> Op
+        ensures { result ≡ branch_op self }
+    {
+        match self {
+            Branch::One => Op::Child1,
+            Branch::Two => Op::Child2,
+        }
+    }
+}
+
+// A place that an atom names: a variable's, its branch, or the root.
 #[derive(Clone, Copy)]
 pub enum Spot {
     Variable { track: usize },
-    Branch { number: usize, track: usize },
+    Branch { branch: Branch, track: usize },
     Root,
 }
 
@@ -28,18 +46,29 @@ pub enum Atom {
     Equal { left: usize, place: Spot },
 }
 
-// One record more; the count after it. Past 128 records only the count tells of more, and it stays at 129.
-pub fn put(words: &mut [u64; 128], count: usize, op: usize, first: usize, second: usize) -> usize
-    requires op_bound { op < 16 }
-    requires first_bound { count < 128 → (first < 128) × (second < 128) }
-    ensures value { result ≡ min (count + 1) 129 }
-    ensures puts { Puts words.old count op first second words.new result }
-{
-    if 128 <= count {
-        return 129;
-    }
-    words[count] = rule_strip::write::record_word(op, first, second);
-    count + 1
+// The quantifier words: `ex1`, `ex2`, `all1`, `all2`.
+#[derive(Clone, Copy, Debug, PartialEq, Eq)]
+pub enum Quantifier {
+    SomePlace,
+    SomeSet,
+    EveryPlace,
+    EverySet,
+}
+
+// The marks between two sides, from the weakest to the strongest: `<=>`, `=>`, `|`, `&`.
+#[derive(Clone, Copy, Debug, PartialEq, Eq)]
+pub enum Operator {
+    Alike,
+    Implies,
+    Or,
+    And,
+}
+
+// The words of the records so far, and how many they are. Past 128 records only the count tells of more, and it stays at 129.
+#[derive(Clone, Copy)]
+pub struct Draft {
+    pub words: [u64; 128],
+    pub count: usize,
 }
 
 // The number of the last of so many records. Of none it is 0; of more than there is room for it is 0 too, which no record that is kept names.
@@ -50,103 +79,130 @@ fn last(count: usize) -> usize
     if 128 < count {
         return 0;
     }
-    if count == 0 {
-        return 0;
+    count.saturating_sub(1)
+}
+
+impl Draft {
+    // No records.
+    pub fn new() -> Draft
+        ensures { Drafted result [] }
+    {
+        Draft {
+            words: [0; 128],
+            count: 0,
+        }
     }
-    count - 1
-}
 
-// The denial of what was put last.
-pub fn put_not(words: &mut [u64; 128], count: usize) -> usize
-    ensures { Drafts words.old count words.new result put_not }
-{
-    put(words, count, 5, last(count), 0)
-}
-
-// What was put last, of a variable that is a singleton.
-pub fn put_single(words: &mut [u64; 128], count: usize, track: usize) -> usize
-    requires { track < 128 }
-    ensures { Drafts words.old count words.new result (put_single track) }
-{
-    let single = put(words, count, 1, track, 0);
-    put(words, single, 7, count, last(count))
-}
-
-// What was put last, of some value of a variable.
-pub fn put_exists(words: &mut [u64; 128], count: usize, track: usize) -> usize
-    requires { track < 128 }
-    ensures { Drafts words.old count words.new result (put_exists track) }
-{
-    put(words, count, 8, track, last(count))
-}
-
-// What was put last, under a quantifier word of that kind that binds a variable.
-pub fn put_quantified(words: &mut [u64; 128], kind: usize, track: usize, count: usize) -> usize
-    requires ex1kind_le_kind { (ex1_kind ≤ kind) × (kind ≤ all2_kind) }
-    requires track_bound { track < 128 }
-    ensures { Drafts words.old count words.new result (put_quantified kind track) }
-{
-    if kind == kinds::EX1 {
-        let single = put_single(words, count, track);
-        return put_exists(words, single, track);
+    // One record more.
+    pub fn put(&mut self, op: Op, first: usize, second: usize)
+        requires { self.old.count < 128 → (first < 128) × (second < 128) }
+        ensures value { self.new.count ≡ min (self.old.count + 1) 129 }
+        ensures puts { Puts self.old op first second self.new }
+    {
+        if 128 <= self.count {
+            self.count = 129;
+            return;
+        }
+        self.words[self.count] = rule_strip::write::record_word(op.number(), first, second);
+        self.count += 1;
     }
-    if kind == kinds::EX2 {
-        return put_exists(words, count, track);
-    }
-    let denied = put_not(words, count);
-    if kind == kinds::ALL1 {
-        let single = put_single(words, denied, track);
-        let some = put_exists(words, single, track);
-        return put_not(words, some);
-    }
-    let some = put_exists(words, denied, track);
-    put_not(words, some)
-}
 
-// Two sides that are alike: neither without the other. The count before a record is its number.
-fn put_alike(words: &mut [u64; 128], left: usize, count: usize) -> usize
-    ensures { Joins words.old left count words.new result put_alike }
-{
-    let a = last(left);
-    let b = last(count);
-    let not_b = put(words, count, 5, a, 0);
-    let b_after_a = put(words, not_b, 5, b, 0);
-    let a_after_b = put(words, b_after_a, 6, count, b);
-    let both = put(words, a_after_b, 6, not_b, a);
-    put(words, both, 7, b_after_a, a_after_b)
-}
-
-// Two sides, joined by a mark of that kind; `left` is the count after the left side, which for `=>` ends in its denial.
-pub fn put_joined(words: &mut [u64; 128], kind: usize, left: usize, count: usize) -> usize
-    requires { (and_kind ≤ kind) × (kind ≤ alike_kind) }
-    ensures { Joins words.old left count words.new result (put_joined kind) }
-{
-    if kind == kinds::ALIKE {
-        return put_alike(words, left, count);
+    // The denial of what was put last.
+    pub fn put_not(&mut self)
+        ensures { Drafts self.old self.new put_not }
+    {
+        self.put(Op::Not, last(self.count), 0);
     }
-    if kind == kinds::AND {
-        return put(words, count, 7, last(left), last(count));
-    }
-    put(words, count, 6, last(left), last(count))
-}
 
-// An atom.
-pub fn put_atom(words: &mut [u64; 128], count: usize, atom: Atom) -> usize
-    requires { AtomBelow 128 atom }
-    ensures { (sc : Scope) (a : syntax.Atom) → atom ≡ coded_atom sc a → Drafts words.old count words.new result (write_atom sc a) }
-{
-    match atom {
-        Atom::Sub { left, right } => put(words, count, 0, left, right),
-        Atom::Member { element, set } => put(words, count, 0, element, set),
-        Atom::Equal { left, place } => match place {
-            Spot::Variable { track } => put(words, count, 0, left, track),
-            Spot::Branch { number, track } => {
-                if number == 0 {
-                    return put(words, count, 2, left, track);
-                }
-                put(words, count, 3, left, track)
+    // What was put last, of a variable that is a singleton.
+    pub fn put_single(&mut self, track: usize)
+        requires { track < 128 }
+        ensures { Drafts self.old self.new (put_single track) }
+    {
+        let count = self.count;
+        self.put(Op::Single, track, 0);
+        self.put(Op::And, count, last(count));
+    }
+
+    // What was put last, of some value of a variable.
+    pub fn put_exists(&mut self, track: usize)
+        requires { track < 128 }
+        ensures { Drafts self.old self.new (put_exists track) }
+    {
+        self.put(Op::Exists, track, last(self.count));
+    }
+
+    // What was put last, of some place.
+    fn put_some_place(&mut self, track: usize)
+        requires { track < 128 }
+        ensures { Drafts self.old self.new (put_some_place track) }
+    {
+        self.put_single(track);
+        self.put_exists(track);
+    }
+
+    // What was put last, under a quantifier word that binds a variable.
+    pub fn put_quantified(&mut self, quantifier: Quantifier, track: usize)
+        requires { track < 128 }
+        ensures { Drafts self.old self.new (put_quantified quantifier track) }
+    {
+        match quantifier {
+            Quantifier::SomePlace => self.put_some_place(track),
+            Quantifier::SomeSet => self.put_exists(track),
+            Quantifier::EveryPlace => {
+                self.put_not();
+                self.put_some_place(track);
+                self.put_not();
             }
-            Spot::Root => put(words, count, 4, left, 0),
-        },
+            Quantifier::EverySet => {
+                self.put_not();
+                self.put_exists(track);
+                self.put_not();
+            }
+        }
+    }
+
+    // Two sides that are alike: neither without the other. The count before a record is its number.
+    fn put_alike(&mut self, left: usize)
+        ensures { Joins self.old left self.new put_alike }
+    {
+        let a = last(left);
+        let b = last(self.count);
+        let not_a = self.count;
+        self.put(Op::Not, a, 0);
+        let not_b = self.count;
+        self.put(Op::Not, b, 0);
+        let b_after_a = self.count;
+        self.put(Op::Or, not_a, b);
+        let a_after_b = self.count;
+        self.put(Op::Or, not_b, a);
+        self.put(Op::And, b_after_a, a_after_b);
+    }
+
+    // Two sides, joined by a mark; `left` is the count after the left side, which for `=>` ends in its denial.
+    pub fn put_joined(&mut self, operator: Operator, left: usize)
+        ensures { Joins self.old left self.new (put_joined operator) }
+    {
+        match operator {
+            Operator::Alike => self.put_alike(left),
+            Operator::And => self.put(Op::And, last(left), last(self.count)),
+            Operator::Or | Operator::Implies => self.put(Op::Or, last(left), last(self.count)),
+        }
+    }
+
+    // An atom.
+    pub fn put_atom(&mut self, atom: Atom)
+        requires { AtomBelow 128 atom }
+        ensures { (sc : Scope) (a : syntax.Atom) → atom ≡ coded_atom sc a → Drafts self.old self.new (write_atom sc a) }
+    {
+        match atom {
+            Atom::Sub { left, right } => self.put(Op::Subset, left, right),
+            Atom::Member { element, set } => self.put(Op::Subset, element, set),
+            Atom::Equal { left, place } => match place {
+                Spot::Variable { track } => self.put(Op::Subset, left, track),
+                Spot::Branch { branch, track } => self.put(branch.op(), left, track),
+                Spot::Root => self.put(Op::Root, left, 0),
+            },
+        }
     }
 }

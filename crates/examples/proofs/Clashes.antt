@@ -17,12 +17,15 @@ use Rattle.logic.specs.Search.{any_below}
 use Rattle.bits.specs.Bits.{digits, bits, any_set, first_set, bit_length}
 use Rattle.rule_strip.specs.RuleStrip.{record_at, records_from, records_of, first_use, second_use, record_fault, records_fault, head_fault, rule_fault}
 use Rattle.rules.specs.Room.{ceiling_refusal, workspace_refusal, work_refusal}
-use Rattle.refusals.specs.declared.Refusal.TheVariants.{Nothing, Placed, Plain, TooManyStates}
+use Rattle.std.specs.Prelude.{Result, Ok, Err}
+use Rattle.refusals.specs.declared.Reason.TheVariants as reason
+use Rattle.refusals.specs.declared.Refusal.{Refusal}
+use Rattle.refusals.specs.declared.Refusal.TheVariants.{Placed, Plain, TooManyStates}
 use Rattle.parts.specs.Parts.{is_and, walk, fresh, parts_of}
 use Rattle.trials.specs.Joins.{accepts, join_one, join_from, trial_says, trials}
 use Rattle.trials.specs.Answer.{trials_answer, after_built, clash_of}
-use Rattle.clash.specs.Clashes.{parts_refusal, clash_refusal, refused_list, clashing_list, clash_list_of}
-use Rattle.clash.specs.declared.ClashList.{ClashList}
+use Rattle.clash.specs.Clashes.{parts_refusal, clash_refusal, clashing_list, clash_list_of}
+use Rattle.trying.specs.declared.KeptParts.{KeptParts}
 
 -- what clash is asked
 pub record Request : Type 0 where
@@ -34,7 +37,7 @@ abbrev ask : ℕ → ℕ → List ℕ → Request
 ask c room s = record { strip = s; c = c; room = room }
 
 -- whoever unfolds it has all that clash is defined by
-unfoldable pub told : Request → ClashList
+unfoldable pub told : Request → Result KeptParts Refusal
 unfolding digits bits any_set first_set bit_length record_at records_from records_of first_use second_use record_fault records_fault head_fault rule_fault
     ceiling_refusal workspace_refusal work_refusal parts_refusal clash_refusal clashing_list clash_list_of clash_of after_built trials_answer trials trial_says
     join_from join_one accepts parts_of fresh walk is_and low bit down_from all_of any_of sum_of successor_at kind_of set_low with_bit elem below flat select
@@ -79,18 +82,18 @@ requests =
     ∷ ask 0 0 (0x21 ∷ 0x01 ∷ 0x10 ∷ 0x00 ∷ 0x00 ∷ [])
     ∷ []
 
-pub lists : List ClashList
+pub lists : List (Result KeptParts Refusal)
 lists =
-    record { refusal = Nothing; count = 3; parts = 0 ∷ 1 ∷ 6 ∷ replicate 13 0 }
-    ∷ refused_list (Plain 12)
-    ∷ refused_list (Plain 12)
-    ∷ record { refusal = Nothing; count = 2; parts = 0 ∷ 1 ∷ replicate 14 0 }
-    ∷ refused_list (TooManyStates 2)
-    ∷ record { refusal = Nothing; count = 1; parts = 0 ∷ replicate 15 0 }
-    ∷ refused_list (Plain 29)
-    ∷ refused_list (Plain 28)
-    ∷ refused_list (Plain 12)
-    ∷ refused_list (Placed 2 0)
+    Ok (record { count = 3; parts = 0 ∷ 1 ∷ 6 ∷ replicate 13 0 })
+    ∷ Err (Plain reason.Workspace)
+    ∷ Err (Plain reason.Workspace)
+    ∷ Ok (record { count = 2; parts = 0 ∷ 1 ∷ replicate 14 0 })
+    ∷ Err (TooManyStates 2)
+    ∷ Ok (record { count = 1; parts = 0 ∷ replicate 15 0 })
+    ∷ Err (Plain reason.Satisfiable)
+    ∷ Err (Plain reason.Parts)
+    ∷ Err (Plain reason.Workspace)
+    ∷ Err (Placed (record { reason = reason.RuleVersion; place = 0 }))
     ∷ []
 
 pub clashes_told : map told requests ≡ lists

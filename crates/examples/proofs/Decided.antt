@@ -21,8 +21,10 @@ use Rattle.tree_strip.specs.TreeStrip.{tree_bits, strip_of_tree}
 use Rattle.rules.specs.Room.{ceiling_refusal, places_refusal, workspace_refusal, work_refusal, out_refusal}
 use Rattle.decide.specs.Decide.{room_refusal, decide_refusal, outcome_verdict, out_after_answer, verdict_of, out_of}
 use Rattle.decide.specs.declared.Verdict.{Verdict}
-use Rattle.decide.specs.declared.Verdict.TheVariants.{Shown, None, Larger, Refused}
+use Rattle.decide.specs.declared.Verdict.TheVariants.{Shown, None, Larger}
+use Rattle.refusals.specs.declared.Refusal.{Refusal}
 use Rattle.refusals.specs.declared.Refusal.TheVariants.{TooManyStates}
+use Rattle.std.specs.Prelude.{Result, Ok, Err}
 
 -- what decide is asked: a rule strip and both ceilings
 pub record Question : Type 0 where
@@ -34,15 +36,15 @@ pub record Question : Type 0 where
 pub record Answer : Type 0 where
   pub variables : ℕ
   pub records : List Record
-  pub verdict : Verdict
+  pub verdict : Result Verdict Refusal
   pub tree : List ℕ
 
 -- the front of out that a verdict speaks of
-abbrev front : Verdict → List ℕ → List ℕ
-front (Shown places states size) out = take size out
-front (None states) out = []
-front (Larger states) out = []
-front (Refused r) out = []
+abbrev front : Result Verdict Refusal → List ℕ → List ℕ
+front (Ok (Shown places states size)) out = take size out
+front (Ok (None states)) out = []
+front (Ok (Larger states)) out = []
+front (Err r) out = []
 
 -- with the longest workspace that can be asked for, and 320 bytes of out, none of them 0; whoever unfolds it has all that decide is defined by
 unfoldable pub answer : Question → Answer
@@ -69,8 +71,21 @@ with c P s = record { strip = s; c = c; P = P }
 abbrev pub rec : ℕ → ℕ → ℕ → Record
 rec o a b = record { op = o; first = a; second = b }
 
-abbrev pub is : ℕ → List Record → Verdict → List ℕ → Answer
+abbrev pub is : ℕ → List Record → Result Verdict Refusal → List ℕ → Answer
 is n rs v t = record { variables = n; records = rs; verdict = v; tree = t }
+
+-- a verdict, and 14 of a record
+abbrev pub shown : ℕ → ℕ → ℕ → Result Verdict Refusal
+shown positions states size = Ok (Shown positions states size)
+
+abbrev pub none : ℕ → Result Verdict Refusal
+none states = Ok (None states)
+
+abbrev pub larger : ℕ → Result Verdict Refusal
+larger states = Ok (Larger states)
+
+abbrev pub over : ℕ → Result Verdict Refusal
+over r = Err (TooManyStates r)
 
 -- the strip of a: n = 1, Sing(X0)
 abbrev pub sing : List ℕ
@@ -97,20 +112,20 @@ examples =
 
 pub expected : List Answer
 expected =
-    is 1 (rec 1 0 0 ∷ []) (Shown 1 3 2) (0x11 ∷ 0xC0 ∷ [])
-    ∷ is 1 (rec 1 0 0 ∷ rec 8 0 0 ∷ []) (Shown 0 1 2) (0x11 ∷ 0x00 ∷ [])
-    ∷ is 1 (rec 1 0 0 ∷ rec 8 0 0 ∷ rec 5 1 0 ∷ []) (None 1) []
-    ∷ is 1 (rec 0 0 0 ∷ []) (Shown 0 1 2) (0x11 ∷ 0x00 ∷ [])
-    ∷ is 1 (rec 2 0 0 ∷ []) (None 1) []
-    ∷ is 2 (rec 2 0 1 ∷ []) (Shown 2 4 3) (0x12 ∷ 0xB8 ∷ 0x00 ∷ [])
-    ∷ is 2 (rec 3 0 1 ∷ []) (Shown 2 4 3) (0x12 ∷ 0xAC ∷ 0x00 ∷ [])
-    ∷ is 2 (rec 2 0 1 ∷ rec 8 1 0 ∷ []) (Shown 2 4 3) (0x12 ∷ 0x98 ∷ 0x00 ∷ [])
-    ∷ is 2 (rec 4 0 0 ∷ rec 2 0 1 ∷ rec 7 0 1 ∷ []) (None 1) []
-    ∷ is 2 (rec 0 0 1 ∷ rec 5 0 0 ∷ rec 0 1 0 ∷ rec 5 2 0 ∷ rec 6 1 3 ∷ []) (Shown 1 2 2) (0x12 ∷ 0xA0 ∷ [])
-    ∷ is 1 (rec 1 0 0 ∷ []) (Refused (TooManyStates 0)) []
-    ∷ is 1 (rec 1 0 0 ∷ []) (Shown 1 3 2) (0x11 ∷ 0xC0 ∷ [])
-    ∷ is 1 (rec 1 0 0 ∷ []) (Larger 3) []
-    ∷ is 1 (rec 1 0 0 ∷ []) (Shown 1 3 2) (0x11 ∷ 0xC0 ∷ [])
+    is 1 (rec 1 0 0 ∷ []) (shown 1 3 2) (0x11 ∷ 0xC0 ∷ [])
+    ∷ is 1 (rec 1 0 0 ∷ rec 8 0 0 ∷ []) (shown 0 1 2) (0x11 ∷ 0x00 ∷ [])
+    ∷ is 1 (rec 1 0 0 ∷ rec 8 0 0 ∷ rec 5 1 0 ∷ []) (none 1) []
+    ∷ is 1 (rec 0 0 0 ∷ []) (shown 0 1 2) (0x11 ∷ 0x00 ∷ [])
+    ∷ is 1 (rec 2 0 0 ∷ []) (none 1) []
+    ∷ is 2 (rec 2 0 1 ∷ []) (shown 2 4 3) (0x12 ∷ 0xB8 ∷ 0x00 ∷ [])
+    ∷ is 2 (rec 3 0 1 ∷ []) (shown 2 4 3) (0x12 ∷ 0xAC ∷ 0x00 ∷ [])
+    ∷ is 2 (rec 2 0 1 ∷ rec 8 1 0 ∷ []) (shown 2 4 3) (0x12 ∷ 0x98 ∷ 0x00 ∷ [])
+    ∷ is 2 (rec 4 0 0 ∷ rec 2 0 1 ∷ rec 7 0 1 ∷ []) (none 1) []
+    ∷ is 2 (rec 0 0 1 ∷ rec 5 0 0 ∷ rec 0 1 0 ∷ rec 5 2 0 ∷ rec 6 1 3 ∷ []) (shown 1 2 2) (0x12 ∷ 0xA0 ∷ [])
+    ∷ is 1 (rec 1 0 0 ∷ []) (over 0) []
+    ∷ is 1 (rec 1 0 0 ∷ []) (shown 1 3 2) (0x11 ∷ 0xC0 ∷ [])
+    ∷ is 1 (rec 1 0 0 ∷ []) (larger 3) []
+    ∷ is 1 (rec 1 0 0 ∷ []) (shown 1 3 2) (0x11 ∷ 0xC0 ∷ [])
     ∷ []
 
 pub examples-right : map answer examples ≡ expected

@@ -10,8 +10,9 @@ use Rattle.logic.specs.Claims.{Downward}
 use Rattle.bits.specs.Bits.{digits, bits, any_set, first_set, bit_length}
 use Rattle.tree_strip.specs.TreeStrip.{parsed, join, and_then, parse, end_fault, ended, read_tree}
 use Rattle.decide.specs.declared.Verdict.{Verdict}
-use Rattle.decide.specs.declared.Verdict.TheVariants.{Shown}
-use Rattle.examples.proofs.Decided.{answer, with}
+use Rattle.refusals.specs.declared.Refusal.{Refusal}
+use Rattle.std.specs.Prelude.{Result}
+use Rattle.examples.proofs.Decided.{answer, with, shown}
 
 -- the strip has a tree with a downward path of one position fewer than there are states
 pub record Reached (strip : List ℕ) (states : ℕ) : Type 0 where
@@ -27,8 +28,8 @@ pub record Reached (strip : List ℕ) (states : ℕ) : Type 0 where
 pub rules : List (List ℕ)
 rules = (0x11 ∷ 0x01 ∷ 0x00 ∷ 0x00 ∷ 0x00 ∷ []) ∷ (0x12 ∷ 0x02 ∷ 0x00 ∷ 0x00 ∷ 0x54 ∷ 0x00 ∷ 0x00 ∷ []) ∷ []
 
-pub verdicts : List Verdict
-verdicts = Shown 0 1 2 ∷ Shown 1 2 2 ∷ []
+pub verdicts : List (Result Verdict Refusal)
+verdicts = shown 0 1 2 ∷ shown 1 2 2 ∷ []
 
 pub trees : List (List ℕ)
 trees = (0x11 ∷ 0x00 ∷ []) ∷ (0x12 ∷ 0xC0 ∷ []) ∷ []

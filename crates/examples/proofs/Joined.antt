@@ -7,13 +7,15 @@ use lib.ListN.{take, replicate}
 use Rattle.bits.specs.Bits.{digits, bits, any_set, first_set, bit_length, pack}
 use Rattle.rule_strip.specs.RuleStrip.{record_at, records_from, records_of, first_use, second_use, record_fault, records_fault, head_fault, rule_fault}
 use Rattle.rule_strip.specs.RuleWriting.{record_bits, strip_of_rule}
+use Rattle.std.specs.Prelude.{Result, Ok, Err}
+use Rattle.refusals.specs.declared.Reason.{Reason}
+use Rattle.refusals.specs.declared.Reason.TheVariants as reason
 use Rattle.refusals.specs.declared.Refusal.TheVariants.{Placed, Plain}
+use Rattle.rule_strip.specs.declared.write.Written.{Written}
 use Rattle.join.specs.JoinedRule.{moved, moved_all, joined_records}
 use Rattle.join.specs.Joining.{records_refusal, rule_out_refusal, join_refusal, joined_strip, written_of, join_of, out_after_join}
-use Rattle.decide.specs.declared.Verdict.TheVariants.{Shown, None}
-use Rattle.join.specs.declared.Joined.{Joined}
-use Rattle.join.specs.declared.Joined.TheVariants.{Written, Refused}
-use Rattle.examples.proofs.Decided.{Question, Answer, answer, with, rec, is, sing}
+use Rattle.join.specs.declared.JoinFault.{JoinFault}
+use Rattle.examples.proofs.Decided.{Question, Answer, answer, with, rec, is, shown, none, sing}
 
 -- what join is asked, and with how many bytes of out, each of them 255
 pub record JoinRequest : Type 0 where
@@ -23,7 +25,7 @@ pub record JoinRequest : Type 0 where
 
 -- what it tells, and the first 18 bytes of out then
 pub record JoinTold : Type 0 where
-  pub answer : Joined
+  pub answer : Result Written JoinFault
   pub front : List ℕ
 
 abbrev ask : List ℕ → List ℕ → ℕ → JoinRequest
@@ -79,25 +81,35 @@ requests =
 abbrev untouched : List ℕ
 untouched = replicate 18 255
 
+abbrev wrote : ℕ → ℕ → ℕ → Result Written JoinFault
+wrote n m size = Ok (record { variables = n; records = m; length = size })
+
+-- a strip's fault, with its place and which strip's it is; and another refusal
+abbrev fault : Reason → ℕ → ℕ → Result Written JoinFault
+fault k p strip = Err (record { refusal = Placed (record { reason = k; place = p }); strip = strip })
+
+abbrev turned_down : Reason → Result Written JoinFault
+turned_down k = Err (record { refusal = Plain k; strip = 0 })
+
 pub answers : List JoinTold
 answers =
-    record { answer = Written 2 3 9; front = 0x12 ∷ 0x03 ∷ 0x40 ∷ 0x00 ∷ 0x08 ∷ 0x00 ∷ 0x17 ∷ 0x00 ∷ 0x04 ∷ replicate 9 255 }
+    record { answer = wrote 2 3 9; front = 0x12 ∷ 0x03 ∷ 0x40 ∷ 0x00 ∷ 0x08 ∷ 0x00 ∷ 0x17 ∷ 0x00 ∷ 0x04 ∷ replicate 9 255 }
     ∷ record {
-      answer = Written 3 6 16;
+      answer = wrote 3 6 16;
       front =
           0x13 ∷ 0x06 ∷ 0x20 ∷ 0x00 ∷ 0x44 ∷ 0x10 ∷ 0x08 ∷ 0x04 ∷ 0x05 ∷ 0x41 ∷ 0x00 ∷ 0x50 ∷ 0x60 ∷ 0x1C ∷ 0x00 ∷ 0x40 ∷ 255 ∷ 255 ∷ [];
     }
     ∷ record {
-      answer = Written 3 6 16;
+      answer = wrote 3 6 16;
       front =
           0x13 ∷ 0x06 ∷ 0x10 ∷ 0x40 ∷ 0x20 ∷ 0x10 ∷ 0x05 ∷ 0x02 ∷ 0x01 ∷ 0x41 ∷ 0x00 ∷ 0x20 ∷ 0x00 ∷ 0x5C ∷ 0x18 ∷ 0x40 ∷ 255 ∷ 255 ∷ [];
     }
-    ∷ record { answer = Written 2 3 9; front = 0x12 ∷ 0x03 ∷ 0x20 ∷ 0x00 ∷ 0x48 ∷ 0x00 ∷ 0x17 ∷ 0x00 ∷ 0x04 ∷ replicate 9 255 }
-    ∷ record { answer = Refused (Placed 2 0) 1; front = untouched }
-    ∷ record { answer = Refused (Placed 5 24) 2; front = [] }
-    ∷ record { answer = Refused (Placed 5 24) 1; front = untouched }
-    ∷ record { answer = Refused (Plain 30) 0; front = untouched }
-    ∷ record { answer = Refused (Plain 27) 0; front = untouched }
+    ∷ record { answer = wrote 2 3 9; front = 0x12 ∷ 0x03 ∷ 0x20 ∷ 0x00 ∷ 0x48 ∷ 0x00 ∷ 0x17 ∷ 0x00 ∷ 0x04 ∷ replicate 9 255 }
+    ∷ record { answer = fault reason.RuleVersion 0 1; front = untouched }
+    ∷ record { answer = fault reason.RuleLength 24 2; front = [] }
+    ∷ record { answer = fault reason.RuleLength 24 1; front = untouched }
+    ∷ record { answer = turned_down reason.JoinedRecords; front = untouched }
+    ∷ record { answer = turned_down reason.RuleOut; front = untouched }
     ∷ []
 
 pub joins-told : map told requests ≡ answers
@@ -111,8 +123,8 @@ questions = with 64 255 (joined_strip root inside) ∷ with 64 255 (joined_strip
 
 pub verdicts : List Answer
 verdicts =
-    is 2 (rec 4 0 0 ∷ rec 2 0 1 ∷ rec 7 0 1 ∷ []) (None 1) []
-    ∷ is 2 (rec 1 0 0 ∷ rec 2 0 1 ∷ rec 7 0 1 ∷ []) (Shown 2 4 3) (0x12 ∷ 0xB8 ∷ 0x00 ∷ [])
+    is 2 (rec 4 0 0 ∷ rec 2 0 1 ∷ rec 7 0 1 ∷ []) (none 1) []
+    ∷ is 2 (rec 1 0 0 ∷ rec 2 0 1 ∷ rec 7 0 1 ∷ []) (shown 2 4 3) (0x12 ∷ 0xB8 ∷ 0x00 ∷ [])
     ∷ []
 
 pub joined-decided : map answer questions ≡ verdicts

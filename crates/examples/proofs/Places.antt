@@ -4,8 +4,10 @@ use mathlib.Core.Path.{◌≡◌, refl}
 use mathlib.Core.List.{List, [], ◌∷◌, map}
 use lib.ListN.{replicate}
 use Rattle.bits.specs.Bits.{digits, bits, any_set, first_set, bit_length}
-use Rattle.bits.specs.declared.Fault.{Fault}
-use Rattle.bits.specs.declared.Fault.TheVariants.{Sound, At}
+use Rattle.std.specs.Prelude.{Result}
+use Rattle.refusals.specs.Fault.{sound, fault}
+use Rattle.refusals.specs.declared.Fault.{Fault}
+use Rattle.refusals.specs.declared.Reason.TheVariants as reason
 use Rattle.rule_strip.specs.RuleStrip.{record_at, records_from, records_of, first_use, second_use, record_fault, records_fault, head_fault, rule_fault}
 use Rattle.tree_strip.specs.TreeStrip.{join, and_then, parse, end_fault, ended, read_tree, tree_fault}
 
@@ -30,9 +32,24 @@ rule_strips =
     ∷ (0x12 ∷ 0x01 ∷ 0x80 ∷ 0x00 ∷ 0x00 ∷ [])
     ∷ []
 
-pub rule_faults : List Fault
+pub rule_faults : List (Result Unit Fault)
 rule_faults =
-    Sound ∷ At 1 8 ∷ At 2 0 ∷ At 3 4 ∷ At 4 8 ∷ At 5 32 ∷ At 6 35 ∷ At 7 16 ∷ At 8 20 ∷ At 8 27 ∷ At 8 20 ∷ At 9 20 ∷ At 9 38 ∷ At 10 27 ∷ At 9 27 ∷ []
+    sound
+    ∷ fault reason.RuleShort 8
+    ∷ fault reason.RuleVersion 0
+    ∷ fault reason.RuleVariables 4
+    ∷ fault reason.RuleRecords 8
+    ∷ fault reason.RuleLength 32
+    ∷ fault reason.RulePadding 35
+    ∷ fault reason.Op 16
+    ∷ fault reason.Variable 20
+    ∷ fault reason.Variable 27
+    ∷ fault reason.Variable 20
+    ∷ fault reason.Record 20
+    ∷ fault reason.Record 38
+    ∷ fault reason.Unused 27
+    ∷ fault reason.Record 27
+    ∷ []
 
 pub rule-places : map rule_fault rule_strips ≡ rule_faults
 unfolding rule_strips rule_faults digits bits any_set first_set bit_length record_at records_from records_of first_use second_use record_fault records_fault head_fault
@@ -56,8 +73,20 @@ tree_strips =
     ∷ (0x11 ∷ 0x10 ∷ 0x01 ∷ [])
     ∷ []
 
-pub tree_faults : List Fault
-tree_faults = Sound ∷ At 15 0 ∷ At 16 0 ∷ At 17 4 ∷ At 18 16 ∷ At 18 16 ∷ At 19 8 ∷ At 20 518 ∷ At 21 11 ∷ At 21 16 ∷ At 21 11 ∷ []
+pub tree_faults : List (Result Unit Fault)
+tree_faults =
+    sound
+    ∷ fault reason.TreeShort 0
+    ∷ fault reason.TreeVersion 0
+    ∷ fault reason.TreeVariables 4
+    ∷ fault reason.TreeCut 16
+    ∷ fault reason.TreeCut 16
+    ∷ fault reason.TreeBare 8
+    ∷ fault reason.TreePositions 518
+    ∷ fault reason.TreeLeftOver 11
+    ∷ fault reason.TreeLeftOver 16
+    ∷ fault reason.TreeLeftOver 11
+    ∷ []
 
 pub tree_places : map tree_fault tree_strips ≡ tree_faults
 unfolding tree_strips tree_faults digits bits any_set first_set bit_length join and_then parse end_fault ended read_tree tree_fault

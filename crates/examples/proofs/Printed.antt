@@ -3,12 +3,14 @@ use Prim.Native.Nat.{ℕ}
 use mathlib.Core.Path.{◌≡◌, refl}
 use mathlib.Core.List.{List, [], ◌∷◌, map}
 use Rattle.decide.specs.declared.Verdict.{Verdict}
-use Rattle.decide.specs.declared.Verdict.TheVariants.{Shown, None, Larger, Refused}
-use Rattle.refusals.specs.declared.Refusal.TheVariants.{Placed, Plain, TooManyStates}
+use Rattle.std.specs.Prelude.{Result, Err}
+use Rattle.refusals.specs.declared.Reason.TheVariants as reason
+use Rattle.refusals.specs.declared.Refusal.{Refusal}
+use Rattle.refusals.specs.declared.Refusal.TheVariants.{Placed, Plain}
 use Rattle.report.specs.Text.{decimal, hex}
 use Rattle.report.specs.Line.{refused_line, line_of}
 use Rattle.program.specs.Program.{verdict_line}
-use Rattle.examples.proofs.Decided.{answer}
+use Rattle.examples.proofs.Decided.{answer, shown, none, larger, over}
 
 -- document 01's strip of X0 = X1 1 with n = 2; example c; that strip cut short; no bytes; the one byte 11; that strip with a padding bit
 -- set, with variable 2 on the left, on the right and on both sides, and with op 9; a "not" of itself
@@ -50,8 +52,9 @@ unfolding answer verdict_line inputs outputs line_of refused_line decimal hex
 outputs-right = refl
 
 -- one verdict of each kind, over a buffer with a byte after the strip
-pub kinds : List Verdict
-kinds = Shown 2 4 3 ∷ None 6 ∷ Larger 3 ∷ Refused (Placed 10 2313) ∷ Refused (Plain 12) ∷ Refused (TooManyStates 107) ∷ []
+pub kinds : List (Result Verdict Refusal)
+kinds =
+    shown 2 4 3 ∷ none 6 ∷ larger 3 ∷ Err (Placed (record { reason = reason.Unused; place = 2313 })) ∷ Err (Plain reason.Workspace) ∷ over 107 ∷ []
 
 -- `shown 2 4 12B800`, `none 6`, `larger 3`, `refused 10 2313`, `refused 12`, `refused 14 107`
 pub texts : List (List ℕ)

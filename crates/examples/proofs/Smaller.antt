@@ -2,12 +2,12 @@
 use Prim.Native.Nat.{ℕ, ◌/◌, ◌%◌, ◌<◌}
 use mathlib.Core.Path.{◌≡◌, refl, sym, ap, ap₂, subst, ◌∙◌}
 use mathlib.Core.Logic.{◌↔◌, ◌⊎◌, inl, inr, ⊎_elim}
-use mathlib.Core.Bool.{Bool, true, false, cond, not, ◌&&◌, ◌||◌, beq, true≢false}
+use mathlib.Core.Bool.{Bool, true, false, cond, not, ◌&&◌, ◌||◌, beq}
 use mathlib.Core.List.{List, [], ◌∷◌, map}
 use native.Mathlib.Omega.{arith}
 use native.Mathlib.Decide.{dec_lt}
 use lib.Dec.{T, T_not, eqb, eqb→eq, lit<}
-use Rattle.logic.specs.Meaning.{Branch, Assignment, Formula, Holds}
+use Rattle.logic.specs.Meaning.{Branch, Formula, Holds}
 use Rattle.logic.specs.Tree.{Tree, empty, node, Proper, branches, down_from, sum_of, low, bit}
 use Rattle.logic.specs.Trim.{is_empty, bare, Trimmed}
 use Rattle.logic.specs.Rule.{Record, successor_at, formula_of, extend, formula_at, last_of, good, good_from}
@@ -19,9 +19,8 @@ use Rattle.logic.specs.Two.{one, two, pair_of, branching}
 use Rattle.logic.specs.Least.{DecidesAssigned}
 use Rattle.logic.specs.Table.{Table}
 use Rattle.logic.specs.Claims.{LeastForRule}
-use Rattle.logic.proofs.Places.{T→true, true→T}
 use Rattle.logic.proofs.Branches.{all_iff}
-use Rattle.logic.proofs.Connectives.{and_iff, or_iff}
+use Rattle.logic.proofs.Connectives.{and_iff}
 use Rattle.logic.proofs.Reach.{elem_below}
 use Rattle.logic.proofs.Two.{each, two-branches, all-elem}
 use Rattle.logic.specs.Alike.{Full}
@@ -32,9 +31,9 @@ use Rattle.logic.proofs.Rules.{record_valid}
 use Rattle.bits.specs.Bits.{digits, bits}
 use Rattle.rule_strip.specs.RuleStrip.{record_at, records_from, records_of}
 use Rattle.decide.specs.declared.Verdict.{Verdict}
-use Rattle.decide.specs.declared.Verdict.TheVariants.{None, Refused}
-use Rattle.refusals.specs.declared.Refusal.TheVariants.{TooManyStates}
-use Rattle.examples.proofs.Decided.{Question, answer, with, rec}
+use Rattle.refusals.specs.declared.Refusal.{Refusal}
+use Rattle.std.specs.Prelude.{Result}
+use Rattle.examples.proofs.Decided.{Question, answer, with, rec, none, over}
 use Rattle.examples.proofs.Drawn.{listed, grid, picked, written, short, drawn, drawn-least, short-drawn-right}
 
 -- "Refusal 14 now compares c with the reachable states of the construction": e, n = 1, X0 = X0 1, of which 2 are built and 1 is left; i, n = 2,
@@ -47,8 +46,8 @@ questions =
     ∷ with 6 255 (0x12 ∷ 0x03 ∷ 0x40 ∷ 0x00 ∷ 0x08 ∷ 0x00 ∷ 0x17 ∷ 0x00 ∷ 0x04 ∷ [])
     ∷ []
 
-pub verdicts : List Verdict
-verdicts = Refused (TooManyStates 0) ∷ None 1 ∷ Refused (TooManyStates 2) ∷ None 1 ∷ []
+pub verdicts : List (Result Verdict Refusal)
+verdicts = over 0 ∷ none 1 ∷ over 2 ∷ none 1 ∷ []
 
 pub smaller_told : map (λ q. (answer q).verdict) questions ≡ verdicts
 unfolding answer questions verdicts

@@ -1,5 +1,5 @@
 -- The table's entries: a step of the exploration writes one and keeps the others. Assumes nothing.
-use Rattle.words.proofs.Vocabulary.{ℕ, ◌≤◌, ◌<◌, ◌+◌, ◌≡◌, ◌∙◌, refl, sym, ap, subst, inl, inr, ◌⊎◌, List, [], ◌∷◌, ◌++◌, some, Option, none, le-leb, lt-leb}
+use Rattle.words.proofs.Vocabulary.{ℕ, ◌≤◌, ◌<◌, ◌+◌, ◌≡◌, ◌∙◌, refl, sym, ap, subst, List, [], ◌∷◌, ◌++◌, some, Option, none, le-leb, lt-leb, leb-true, leb-false, Bool, true, false}
 use Rattle.words.proofs.Vocabulary.{length, get_or, take, set, length-take-le, get_or-set_other, get_or-set_same, drop-set-lt, take-set-le, dec_lt, ℕ_discrete, arith}
 use Rattle.layout.specs.Shape.{labels_in, share_of, place_in, Each, nil, cons, Tuple}
 use Rattle.layout.proofs.Places.{each_append, each_imp, each_all, tuple_up, place-in, place-one}
@@ -134,26 +134,25 @@ visited-after f g = record {
   bare = λ q h. g.bare q h ∙ f.bare q (λ l is hs t. h l is hs (tuple_up g.more t));
 }
 
--- a place that is not taken is that of a new code
-pub can_put : {p : Plan} {codes ws ws' : List ℕ} {count x at : ℕ} {v : Visit} → Noted p codes count v x at ws ws' → p.shape.ceiling ≤ 64 → count ≤ at
-    → ((count ≤ p.shape.ceiling) × (p.shape.ceiling ≤ 64)) × (at ≡ position x (take count codes))
-can_put {p} {count = count} noted top h = elim (dec_lt p.shape.ceiling count) [
-  | yes y ↦ absurd (let z = (noted.passed y).0 in omega arith)
-  | no y ↦ let few : count ≤ p.shape.ceiling = omega arith in ((few, top), noted.found few)
+-- a code that counts as new is none of the codes, of which there are not too many
+pub can_put : {p : Plan} {b : Builder} {ws ws' : List ℕ} {x : ℕ} {v : Visit} → Noted p b v x true ws ws' → p.shape.ceiling ≤ 64
+    → ((b.count ≤ p.shape.ceiling) × (p.shape.ceiling ≤ 64)) × (b.count ≤ position x (take b.count b.codes))
+can_put {p} {b} noted top = elim (dec_lt p.shape.ceiling b.count) [
+  | yes y ↦ absurd (let z = (noted.passed y).0 in cc)
+  | no y ↦ let few : b.count ≤ p.shape.ceiling = omega arith in ((few, top), leb-true _ _ (sym (noted.found few)))
 ]
 
--- the code x, whose place is `at`, is new and is put in, or it is there
-abbrev pub PutIn : ℕ → ℕ → ℕ → Builder → Builder → Type 0
-PutIn c x at b r =
-    ((b.count ≤ at) × (length r.codes ≡ 64) × ((b.count ≤ r.count) × (r.count ≤ c + 1) × (listed c r ≡ insert c x (take b.count b.codes))))
-    ⊎ ((at < b.count) × (r ≡ b))
+-- the code x is new and is put in, or it is there
+pub data PutIn (c x : ℕ) (b : Builder) : Bool → Builder → Type 0 where
+  is_put : {r : Builder} → length r.codes ≡ 64 → (b.count ≤ r.count) × (r.count ≤ c + 1) × (listed c r ≡ insert c x (take b.count b.codes))
+      → PutIn c x b true r
+  was_there : {r : Builder} → r ≡ b → PutIn c x b false r
 
 -- a code is looked up, its place written, and it is put in if it is new
-module _ {succ : Step} {p : Plan} {b : Builder} {ws ws' : List ℕ} {v : Visit} {x at : ℕ} (room : PlanRoom p (length ws)) (blind : Blind succ p)
+module _ {succ : Step} {p : Plan} (b : Builder) (ws ws' : List ℕ) {v : Visit} {x : ℕ} (room : PlanRoom p (length ws)) (blind : Blind succ p)
     (hl : v.label < labels_in p.shape) (hs : v.label ≤ seen p.looks v.label) (hi : Tuple p.shape.branches b.count v.states)
     (hm : b.count ≤ p.shape.ceiling + 1) (full : length b.codes ≡ 64)
-    (ex : b.count ≤ p.shape.ceiling → x ≡ succ v.label (codes_at (take b.count b.codes) v.states))
-    (noted : Noted p b.codes b.count v x at ws ws') where
+    (ex : b.count ≤ p.shape.ceiling → x ≡ succ v.label (codes_at (take b.count b.codes) v.states)) where
   abbrev cs : List ℕ
   cs = take b.count b.codes
 
@@ -163,16 +162,16 @@ module _ {succ : Step} {p : Plan} {b : Builder} {ws ws' : List ℕ} {v : Visit} 
   abbrev spot : ℕ
   spot = p.base + place_in p.shape v.label v.states
 
-  put_in : (r : Builder) → b.count ≤ c → listed c r ≡ insert c x cs → b.count ≤ r.count → r.count ≤ c + 1 → Visited succ p (v ∷ []) b r ws ws'
+  put_in : {new : Bool} (r : Builder) → Noted p b v x new ws ws' → b.count ≤ c → listed c r ≡ insert c x cs → b.count ≤ r.count → r.count ≤ c + 1 → Visited succ p (v ∷ []) b r ws ws'
   unfolding visit visits
-  put_in r hc er more most =
+  put_in r noted hc er more most =
       let n : length cs ≡ b.count = length-take-le b.count b.codes (omega (arith, room.ranged.shape.ceiling)) in
       let eo : insert c (succ v.label (codes_at cs v.states)) cs ≡ listed c r = sym (rw (ex hc) at er) in
       let hi' : Tuple p.shape.branches (length cs) v.states = tuple_up (omega arith) hi in
       let i = subst (Inserted c (succ v.label (codes_at cs v.states)) cs) eo (inserted c _ cs) in
       let z = visit-cells succ p blind ws cs v hl hs hi' (omega arith) room.share i (insert-grows i) in
       let near = place-in p.shape v.label v.states hl (tuple_up hc hi) in
-      rw (noted.written hc, noted.found hc, ex hc) (record {
+      rw (noted.written hc, ex hc) (record {
         more = more;
         most = most;
         list = rw (le-leb b.count c hc, are-below (length cs) hi'.below) (sym eo);
@@ -182,11 +181,12 @@ module _ {succ : Step} {p : Plan} {b : Builder} {ws ws' : List ℕ} {v : Visit} 
         bare = λ q off. get_or-set_other ws spot q _ 0 (λ e. off v.label v.states hs (tuple_up more hi) e);
       })
 
-  pub entered : {r : Builder} → PutIn c x at b r → Visited succ p (v ∷ []) b r ws ws'
-  entered {r} (inl new) = put_in r (can_put noted room.ranged.shape.ceiling new.0).0.0 new.2.2 new.2.0 new.2.1
-  entered (inr old) = rw old.1 (elim (dec_lt c b.count) [
+  pub entered : {new : Bool} {r : Builder} → Noted p b v x new ws ws' → PutIn c x b new r → Visited succ p (v ∷ []) b r ws ws'
+  entered {r = r} noted (is_put long put) = put_in r noted (can_put noted room.ranged.shape.ceiling).0.0 put.2 put.0 put.1
+  entered noted (was_there old) = rw old (elim (dec_lt c b.count) [
     | yes y ↦ subst (Visited succ p (v ∷ []) b b ws) (sym (noted.passed y).1) (visited-over (v ∷ []) y hm)
     | no y ↦
         let hc : b.count ≤ c = omega arith in
-        put_in b hc (put-old c x b.count b.codes full room.ranged.shape.ceiling hc (omega (arith, noted.found hc, old.0))) (omega arith) hm
+        let there = leb-false _ _ (sym (noted.found hc)) in
+        put_in b noted hc (put-old c x b.count b.codes full room.ranged.shape.ceiling hc there) (omega arith) hm
   ])

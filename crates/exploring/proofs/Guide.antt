@@ -5,8 +5,8 @@ use Rattle.layout.specs.Shape.{Shaped, labels_in, Each, nil, cons}
 use Rattle.table.specs.Entry.{Step, through}
 use Rattle.table.specs.Rows.{RowsReady, Inside, Led}
 use Rattle.table.specs.Succ.{Ranged, first_step, second_step, kind_code, successor_of, exists_start, start_code, start_of}
-use Rattle.table.specs.declared.plan.Kind.{Kind}
-use Rattle.table.specs.declared.plan.Kind.TheVariants.{Exists}
+use Rattle.ops.specs.declared.Op.{Op}
+use Rattle.ops.specs.declared.Op.TheVariants.{Exists}
 use Rattle.table.specs.declared.plan.Plan.{Plan}
 use Rattle.table.proofs.Sets.{exists_below}
 use Rattle.table.proofs.Start.{closing-below}
@@ -41,7 +41,7 @@ inside-closed : (low : List ℕ) (p : Plan) (n : ℕ) → Shaped p.shape → p.k
     → (l : ℕ) (xs : List ℕ) → l < labels_in p.shape → length xs ≡ 2 → Each (Below n) xs → Below n (successor_of low p l xs)
 unfolding successor_of kind_code through
 inside-closed low p n shape e i l xs hl long h =
-    subst (λ (k : Kind). Below n (kind_code k (first_step low p) (second_step low p) p.wx p.wy l xs)) (sym e)
+    subst (λ (k : Op). Below n (kind_code k (first_step low p) (second_step low p) p.wx p.wy l xs)) (sym e)
     (exists_below (labels_in p.shape) n p.shape.branches (first_step low p) (first_step low p) (omega (arith, i.few, shape.ceiling))
     (λ l is hl t. (refl, i.stays l is hl t)) p.wx i.bit l xs hl (long ∙ sym shape.branches) h)
 
@@ -88,7 +88,7 @@ start-guided low p shape led = (
   (one_code (λ (x : ℕ). Unit {0}) (start_of low p) tt).distinct,
   λ e.
       let w = led e in
-      let below = subst (λ (k : Kind). Below w.0 (start_code k p.shape.branches (first_step low p) p.wx)) (sym e)
+      let below = subst (λ (k : Op). Below w.0 (start_code k p.shape.branches (first_step low p) p.wx)) (sym e)
       (closing-below low p w.0 shape w.1 64) in
       (w.0, w.1, (one_code (Below w.0) (start_of low p) below).all),
 )

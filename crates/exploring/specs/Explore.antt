@@ -3,12 +3,18 @@
 -- Assumes nothing.
 use Rattle.std.specs.Prelude.{ℕ, zero, suc, ◌<◌, Bool, true, ◌&&◌, cond, List, [], ◌∷◌, ◌++◌, map, ◌≡◌, length, get_or, ltb}
 use Rattle.std.proofs.Math.Option.{Option, none, some}
+use Rattle.std.specs.declared.option.Option.{Option as Maybe}
+use Rattle.std.specs.declared.option.Option.TheVariants.{Some, None}
 use Rattle.logic.specs.Reach.{position}
 use Rattle.table.specs.Entry.{Step}
 
 -- the list with x in it: as it is where x stands there, else with x put last. None where x is new and there are c codes already
 unfoldable pub insert : ℕ → ℕ → List ℕ → Option (List ℕ)
 insert c x cs = cond (ltb (position x cs) (length cs)) (some cs) (cond (ltb (length cs) c) (some (cs ++ (x ∷ []))) none)
+
+-- where x stands among the codes, if it does
+abbrev pub place_of : ℕ → List ℕ → Maybe ℕ
+place_of x cs = cond (ltb (position x cs) (length cs)) (Some (position x cs)) None
 
 -- no code stands twice
 abbrev pub DistinctCodes : List ℕ → Type 0

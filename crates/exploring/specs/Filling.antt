@@ -1,20 +1,16 @@
 -- How a builder stands for a list of codes, where a table's entries are, and what each turn of the exploration ensures of both.
 -- Document 01, "Machines": "A builder keeps the list of state sets found so far, at most 64 of them." Assumes nothing.
-use Rattle.std.specs.Prelude.{ℕ, ◌+◌, ◌≤◌, ◌<◌, ◌≡◌, List, cond, get_or, take, drop, set, length, leb}
+use Rattle.std.specs.Prelude.{ℕ, ◌+◌, ◌≤◌, ◌<◌, ◌≡◌, List, Bool, false, cond, get_or, take, drop, set, length, leb}
 use Rattle.std.proofs.Math.Option.{Option, none, some}
 use Rattle.layout.specs.Shape.{labels_in, share_of, place_in, Each, Tuple}
 use Rattle.words.specs.Word.{Below}
 use Rattle.logic.specs.Reach.{position}
 use Rattle.table.specs.Entry.{Step, Bare, seen}
 use Rattle.table.specs.Rows.{Inside}
-use Rattle.table.specs.declared.plan.Kind.TheVariants.{Exists}
+use Rattle.ops.specs.declared.Op.TheVariants.{Exists}
 use Rattle.table.specs.declared.plan.Plan.{Plan}
 use Rattle.exploring.specs.Explore.{Visit, codes_at, visits, explore, DistinctCodes}
 use Rattle.exploring.specs.declared.Builder.{Builder}
-
--- the builder whose codes are lent
-abbrev pub builder_of : List ℕ → ℕ → Builder
-builder_of codes count = record { codes = codes; count = count }
 
 -- the codes of a builder; none where there are more than c
 abbrev pub listed : ℕ → Builder → Option (List ℕ)
@@ -49,12 +45,12 @@ pub record Visited (succ : Step) (p : Plan) (vs : List Visit) (b r : Builder) (w
   pub cells : Each (Cell succ p (listed p.shape.ceiling r) ws') vs
   pub bare : (q : ℕ) → Bare p.shape p.base p.looks r.count q → get_or ws' q 0 ≡ get_or ws q 0
 
--- the code x is looked up among the first codes, and its place written for a visit; where there are too many codes, nothing is written,
--- and the place is one that is taken
-pub record Noted (p : Plan) (codes : List ℕ) (count : ℕ) (v : Visit) (x at : ℕ) (ws ws' : List ℕ) : Type 0 where
-  pub found : count ≤ p.shape.ceiling → at ≡ position x (take count codes)
-  pub written : count ≤ p.shape.ceiling → ws' ≡ set ws (p.base + place_in p.shape v.label v.states) at
-  pub passed : p.shape.ceiling < count → (at < count) × (ws' ≡ ws)
+-- the code x is looked up among the codes, and its place written for a visit, which is the next one where it is new; where there are too
+-- many codes, nothing is written, and no code counts as new
+pub record Noted (p : Plan) (b : Builder) (v : Visit) (x : ℕ) (new : Bool) (ws ws' : List ℕ) : Type 0 where
+  pub found : b.count ≤ p.shape.ceiling → new ≡ leb b.count (position x (take b.count b.codes))
+  pub written : b.count ≤ p.shape.ceiling → ws' ≡ set ws (p.base + place_in p.shape v.label v.states) (position x (take b.count b.codes))
+  pub passed : p.shape.ceiling < b.count → (new ≡ false) × (ws' ≡ ws)
 
 -- the pairs of state k under label l can be visited: both are there, the label is told from any earlier one, and no code stands twice
 pub record Visitable (p : Plan) (b : Builder) (l k : ℕ) : Type 0 where

@@ -1,18 +1,19 @@
 // The exploration of a record's states: one for every kind of record, which differ in the successor and the start.
 #![tactic(auto)]
 
-ghost use Rattle.std.specs.Prelude.{◌≡◌, ◌+◌, ◌≤◌, ◌<◌, [], ◌∷◌, length, set, take};
+ghost use Rattle.std.specs.Prelude.{◌≡◌, ◌+◌, ◌≤◌, ◌<◌, [], ◌∷◌, length, set, take, IfSome};
+ghost use Rattle.std.specs.Option.{unwrap_or};
 ghost use Rattle.std.proofs.Math.Option.{some};
-ghost use Rattle.exploring.specs.Explore.{DistinctCodes, insert, over, row, ring};
-ghost use Rattle.exploring.specs.Filling.{Cell, Guided, builder_of, listed, Noted, Visitable, Visited, Explored};
+ghost use Rattle.exploring.specs.Explore.{DistinctCodes, insert, place_of, over, row, ring};
+ghost use Rattle.exploring.specs.Filling.{Cell, Guided, listed, Noted, Visitable, Visited, Explored};
 ghost use Rattle.layout.specs.Shape.{labels_in, place_in, Each};
-ghost use Rattle.table.specs.Rows.{FullRows, Led, Serves};
+ghost use Rattle.table.specs.Rows.{Led, Serves};
 ghost use Rattle.table.specs.Succ.{PlanRoom, Ranged, succ_in, start_of};
 ghost use Rattle.logic.specs.Reach.{position};
 
-use table::entries::wide;
-use table::plan::{Kind, Plan};
-use table::rows::{exists_start, rows_of};
+use ops::Op;
+use table::plan::Plan;
+use table::rows::{Rows, exists_start, rows_of};
 
 // The codes found so far, in the order of discovery: those below count, where count is at most the ceiling. A count above the
 // ceiling says that there are too many.
@@ -22,136 +23,115 @@ pub struct Builder {
     pub count: usize,
 }
 
-// Where x stands among the first codes; their count where it does not.
-fn find(codes: &[u64; 64], count: usize, x: u64) -> usize
-    requires { (count ≤ 64) × (length codes.now ≡ 64) }
-    ensures { result ≡ position x (take count codes.now) }
+// Where x stands among the codes, if it does.
+fn find(b: &Builder, x: u64) -> Option<usize>
+    requires { b.now.count ≤ 64 }
+    ensures { result ≡ place_of x (take b.now.count b.now.codes) }
 {
-    let mut i = 0;
-    while i < count {
-        if codes[i] == x {
-            return i;
-        }
-        i += 1;
-    }
-    i
+    b.codes[..b.count].iter().position(|y| *y == x)
 }
 
-// The codes with x in them, where at is the place of x.
-fn put(b: Builder, x: u64, at: usize, c: usize) -> Builder
+// The codes with x, which is new, put last; where there is no room for it, the count alone goes up.
+fn put(b: Builder, x: u64, c: usize) -> Builder
     requires count_le_c { (b.count ≤ c) × (c ≤ 64) }
-    requires at_value { at ≡ position x (take b.count b.codes) }
+    requires new { b.count ≤ position x (take b.count b.codes) }
     ensures { (b.count ≤ result.count) × (result.count ≤ c + 1) × (listed c result ≡ insert c x (take b.count b.codes)) }
 {
-    let count = b.count;
-    if at < count {
-        return b;
-    }
     let mut r = b;
-    if count < c {
-        r.codes[count] = x;
+    if b.count < c {
+        r.codes[b.count] = x;
     }
-    r.count = count + 1;
+    r.count += 1;
     r
 }
 
-// Where x stands among the first codes, none of which stands twice; their count where it does not. What is kept for x among the hints is
-// tried first: it may be any number, for it is held to the codes.
-fn locate(codes: &[u64; 64], count: usize, x: u64, hints: &mut [u8; 256]) -> usize
-    requires { (count ≤ 64) × (length codes.now ≡ 64) × DistinctCodes (take count codes.now) }
-    ensures { result ≡ position x (take count codes.now) }
+// Where x stands among the codes, none of which stands twice, if it does. What is kept for x among the hints is tried first: it may be
+// any number, for it is held to the codes. For a new code the place is kept where it is going to be put.
+fn locate(b: &Builder, x: u64, hints: &mut [u8; 256]) -> Option<usize>
+    requires { (b.now.count ≤ 64) × DistinctCodes (take b.now.count b.now.codes) }
+    ensures { result ≡ place_of x (take b.now.count b.now.codes) }
 {
     let h = (x % 251) as usize;
-    let g = wide(hints[h]) as usize;
-    if g < count {
-        if codes[g] == x {
-            return g;
+    let g = usize::from(hints[h]);
+    if g < b.count {
+        if b.codes[g] == x {
+            return Some(g);
         }
     }
-    let at = find(codes, count, x);
-    hints[h] = at as u8;
+    let at = find(b, x);
+    hints[h] = at.unwrap_or(b.count) as u8;
     at
 }
 
-// The place of a code is written to the table, for states i and j and label l.
+// The place of a code is written to the table, for states i and j and label l. Here and below the workspace, the plan and the hints stay
+// parameters: a struct of two `&mut` would be no plainer, since it would have to be lent anew at each call, and this function takes no hints.
 fn enter(ws: &mut [u8], p: Plan, l: usize, i: usize, j: usize, at: usize)
     requires plan_room { PlanRoom p (length ws.old) }
     requires l_bound { (l < labels_in p.shape) × (i < p.shape.ceiling) × (j < p.shape.ceiling) × (at < 256) }
     ensures { ws.new ≡ set ws.old (p.base + place_in p.shape l (i ∷ j ∷ [])) at }
 {
-    let shape = p.shape;
-    let base = p.base;
-    let k = base + layout::place(shape, l, i, j);
+    let k = p.base + layout::place(p.shape, l, i, j);
     ws[k] = at as u8;
 }
 
-// The place of the code x is written to the table, for states i and j and label l. Nothing is done where there are too many codes.
+// The place of the code x is written to the table, for states i and j and label l: is x new? Nothing is done where there are too many
+// codes.
 fn note(
     ws: &mut [u8],
     p: Plan,
-    codes: &[u64; 64],
-    count: usize,
+    b: &Builder,
     l: usize,
     i: usize,
     j: usize,
     x: u64,
     hints: &mut [u8; 256],
-) -> usize
+) -> bool
     requires plan_room { PlanRoom p (length ws.old) }
-    requires l_bound { (l < labels_in p.shape) × (i < count) × (j < count) × (length codes.now ≡ 64) }
-    requires distinct_codes { count ≤ p.shape.ceiling → DistinctCodes (take count codes.now) }
-    ensures { Noted p codes.now count (over l i j) x result ws.old ws.new }
+    requires l_bound { (l < labels_in p.shape) × (i < b.now.count) × (j < b.now.count) }
+    requires distinct_codes { b.now.count ≤ p.shape.ceiling → DistinctCodes (take b.now.count b.now.codes) }
+    ensures { Noted p b.now (over l i j) x result ws.old ws.new }
 {
-    let shape = p.shape;
-    let c = shape.ceiling;
-    if c < count {
-        return 0;
+    if p.shape.ceiling < b.count {
+        return false;
     }
-    let at = locate(codes, count, x, hints);
-    enter(ws, p, l, i, j, at);
-    at
+    let at = locate(b, x, hints);
+    enter(ws, p, l, i, j, at.unwrap_or(b.count));
+    at.is_none()
 }
 
-// The pairs of state k with those up to k, both ways, under label l, where `right` and `left` have their successors: those before the first
-// that leads to a new code have their entries then. Which it is; k + 1 where there is none. So a label that finds nothing new, as most do,
-// needs the codes lent, and no copy of the builder.
+// The pairs of state k with those up to k, both ways, under label l, whose successors the rows have: those before the first that leads to a
+// new code have their entries then. Which it is, if there is one. So a label that finds nothing new, as most do, needs the builder lent, and
+// no copy of it.
 fn enter_known(
     ws: &mut [u8],
     p: Plan,
-    codes: &[u64; 64],
-    count: usize,
+    b: &Builder,
     l: usize,
     k: usize,
-    left: &[u64; 64],
-    right: &[u64; 64],
+    rows: &Rows,
     hints: &mut [u8; 256],
-) -> usize
+) -> Option<usize>
     requires plan_room { PlanRoom p (length ws.old) }
-    requires visitable { Visitable p (builder_of codes.now count) l k × (length codes.now ≡ 64) }
-    requires serves { Serves (succ_in ws.old p) l codes.now k left.now right.now }
-    ensures upper_bound { result ≤ k + 1 }
-    ensures visited { Visited (succ_in ws.old p) p (row l k result) (builder_of codes.now count) (builder_of codes.now count)
-        ws.old ws.new }
+    requires visitable { Visitable p b.now l k }
+    requires serves { Serves (succ_in ws.old p) l b.now.codes k rows.now.left rows.now.right }
+    ensures upper_bound { IfSome result (λ n. n ≤ k) }
+    ensures visited { Visited (succ_in ws.old p) p (row l k (unwrap_or result (k + 1))) b.now b.now ws.old ws.new }
 {
-    let mut i = 0;
-    while i <= k {
-        let at = locate(codes, count, right[i], hints);
-        if count <= at {
-            return i;
-        }
-        let to = locate(codes, count, left[i], hints);
-        if count <= to {
-            return i;
-        }
+    for i in 0..=k {
+        let Some(at) = locate(b, rows.right[i], hints) else {
+            return Some(i);
+        };
+        let Some(to) = locate(b, rows.left[i], hints) else {
+            return Some(i);
+        };
         enter(ws, p, l, i, k, at);
         enter(ws, p, l, k, i, to);
-        i += 1;
     }
-    i
+    None
 }
 
-// The pairs of state k with those up to k, both ways, under label l, where `right` and `left` have their successors. Those before pair n
-// have their entries. The builder is passed on for a new code alone.
+// The pairs of state k with those up to k, both ways, under label l, whose successors the rows have. Those before pair n have their entries.
+// The builder is passed on for a new code alone.
 fn visit_pairs(
     ws: &mut [u8],
     p: Plan,
@@ -159,73 +139,56 @@ fn visit_pairs(
     l: usize,
     k: usize,
     n: usize,
-    left: &[u64; 64],
-    right: &[u64; 64],
+    rows: &Rows,
     hints: &mut [u8; 256],
 ) -> Builder
     requires plan_room { PlanRoom p (length ws.old) }
-    requires visitable { Visitable p b l k × (n ≤ k + 1) }
+    requires visitable { Visitable p b l k × (n ≤ k) }
     requires each { Each (Cell (succ_in ws.old p) p (listed p.shape.ceiling b) ws.old) (row l k n) }
-    requires serves { Serves (succ_in ws.old p) l b.codes k left.now right.now }
+    requires serves { Serves (succ_in ws.old p) l b.codes k rows.now.left rows.now.right }
     ensures { Visited (succ_in ws.old p) p (row l k (k + 1)) b result ws.old ws.new }
 {
-    let shape = p.shape;
-    let c = shape.ceiling;
+    let c = p.shape.ceiling;
     let mut r = b;
-    let mut i = n;
-    while i <= k {
-        let x = right[i];
-        let at = note(ws, p, &r.codes, r.count, l, i, k, x, hints);
-        if r.count <= at {
-            r = put(r, x, at, c);
+    for i in n..=k {
+        let x = rows.right[i];
+        if note(ws, p, &r, l, i, k, x, hints) {
+            r = put(r, x, c);
         }
-        let y = left[i];
-        let to = note(ws, p, &r.codes, r.count, l, k, i, y, hints);
-        if r.count <= to {
-            r = put(r, y, to, c);
+        let y = rows.left[i];
+        if note(ws, p, &r, l, k, i, y, hints) {
+            r = put(r, y, c);
         }
-        i += 1;
     }
     r
 }
 
 // The pairs of state k with those up to k, both ways, under every label: there is nothing to do for a label that the record does not
-// tell from an earlier one. The builder is passed on for a label with a new code alone. `left` and `right` may hold anything.
+// tell from an earlier one. The builder is passed on for a label with a new code alone. The rows may hold anything.
 fn visit_ring(
     ws: &mut [u8],
     p: Plan,
     b: Builder,
     k: usize,
-    left: &mut [u64; 64],
-    right: &mut [u64; 64],
+    rows: &mut Rows,
     hints: &mut [u8; 256],
 ) -> Builder
     requires plan_room { PlanRoom p (length ws.old) }
     requires k_lt_count { (k < b.count) × (b.count ≤ p.shape.ceiling) }
     requires guided { Guided (take p.base ws.old) p (listed p.shape.ceiling b) }
-    requires full_rows { FullRows left.old right.old }
-    ensures visited { Visited (succ_in ws.old p) p (ring k (labels_in p.shape)) b result ws.old ws.new }
-    ensures full_rows_2 { FullRows left.new right.new }
+    ensures { Visited (succ_in ws.old p) p (ring k (labels_in p.shape)) b result ws.old ws.new }
 {
-    let shape = p.shape;
-    let c = shape.ceiling;
-    let base = p.base;
-    let labels = layout::labels(shape);
-    let looks = p.looks;
     let mut r = b;
-    let mut l = 0;
-    while l < labels {
-        if c < r.count {
+    for l in 0..layout::labels(p.shape) {
+        if p.shape.ceiling < r.count {
             return r;
         }
-        if l <= l & looks {
-            rows_of(&ws[..base], p, l, &r.codes, k, left, right);
-            let n = enter_known(ws, p, &r.codes, r.count, l, k, left, right, hints);
-            if n <= k {
-                r = visit_pairs(ws, p, r, l, k, n, left, right, hints);
+        if l <= l & p.looks {
+            rows_of(&ws[..p.base], p, l, &r.codes, k, rows);
+            if let Some(n) = enter_known(ws, p, &r, l, k, rows, hints) {
+                r = visit_pairs(ws, p, r, l, k, n, rows, hints);
             }
         }
-        l += 1;
     }
     r
 }
@@ -236,21 +199,22 @@ fn build(ws: &mut [u8], p: Plan, start: u64) -> Builder
     requires guided { Guided (take p.base ws.old) p (some (start ∷ [])) }
     ensures { Explored (succ_in ws.old p) p start result ws.old ws.new }
 {
-    let shape = p.shape;
-    let c = shape.ceiling;
-    let mut hints = [0u8; 256];
-    let mut left = [0u64; 64];
-    let mut right = [0u64; 64];
+    let mut hints = [0; 256];
+    let mut rows = Rows {
+        left: [0; 64],
+        right: [0; 64],
+    };
     let mut b = Builder {
         codes: [start; 64],
         count: 1,
     };
     let mut k = 0;
+    // A `while`, since its bound moves: a turn may find more states.
     while k < b.count {
-        if c < b.count {
+        if p.shape.ceiling < b.count {
             return b;
         }
-        b = visit_ring(ws, p, b, k, &mut left, &mut right, &mut hints);
+        b = visit_ring(ws, p, b, k, &mut rows, &mut hints);
         k += 1;
     }
     b
@@ -262,9 +226,8 @@ fn start_code(low: &[u8], p: Plan) -> u64
     requires led { Led low.now p }
     ensures { result ≡ start_of low.now p }
 {
-    let kind = p.kind;
-    match kind {
-        Kind::Exists => exists_start(low, p),
+    match p.kind {
+        Op::Exists => exists_start(low, p),
         _ => 0,
     }
 }
@@ -275,7 +238,6 @@ pub fn build_plan(ws: &mut [u8], p: Plan) -> Builder
     requires led { Led (take p.base ws.old) p }
     ensures { Explored (succ_in ws.old p) p (start_of (take p.base ws.old) p) result ws.old ws.new }
 {
-    let base = p.base;
-    let start = start_code(&ws[..base], p);
+    let start = start_code(&ws[..p.base], p);
     build(ws, p, start)
 }

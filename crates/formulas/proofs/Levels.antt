@@ -3,695 +3,583 @@ use Prim.Native.Nat.{ℕ, zero, suc, ◌+◌, ◌-◌, ◌≤◌, ◌<◌, max}
 use mathlib.Core.Path.{◌≡◌, refl, sym, ◌∙◌, ap, subst}
 use mathlib.Core.Bool.{Bool, true, false}
 use mathlib.Core.List.{List, [], ◌∷◌}
+use native.Mathlib.Decide.{dec_lt}
 use native.Mathlib.Omega.{arith}
 use borrow.Author.Tests.{eq-eqb, ne_eqb}
 use lib.Dec.{eqb}
-use lib.ListN.{length, get_or, set, length-set}
-use lib.Seq.{get_or-set_same, get_or-set_other}
+use lib.ListN.{length}
+use Rattle.std.specs.Prelude.{Option, Some, None, Result, Ok, Err}
+use Rattle.std.specs.Result.{IsErrAnd}
+use Rattle.std.proofs.lemmas.Result.{err_from_is_err_and}
 use Rattle.logic.specs.Rule.{Record}
+use Rattle.refusals.specs.declared.Reason.TheVariants as reason
 use Rattle.text.specs.Token.{Token, spells}
-use Rattle.text.specs.Syntax.{Name, Atom, sub, Sentence, atom, denied, implies, Order, Declared, Scope}
-use Rattle.text.specs.Grammar.{Read, got, peek, rest, Reader, consequent, chain, read_then, operand_of, Start, atom_of}
+use Rattle.text.specs.Kinds.{kind_number}
+use Rattle.text.specs.declared.kinds.Kind.{Kind}
+use Rattle.text.specs.declared.kinds.Kind.TheVariants as kind
+use Rattle.text.specs.Syntax.{Name, Atom, Sentence, atom, denied, implies, Order, Scope}
+use Rattle.text.specs.Grammar.{Read, got, peek, rest, Reader, chain, joined, consequent_at, read_then, atom_of}
 use Rattle.text.specs.Grammar.{refused as leaves}
 use Rattle.text.specs.Records.{tracks, write, write_atom, put_not}
-use Rattle.text.proofs.Named.{atom-some, binder_some}
+use Rattle.text.proofs.KindNumbers.{other_kind}
 use Rattle.text.proofs.Steps.{more-is}
 use Rattle.text.proofs.Written.{tracks-least}
-use Rattle.tokens.specs.Tokens.{part, Span, tokens_at, StandsNext}
-use Rattle.tokens.specs.InUse.{order_of, scope_of, NamesFit}
+use Rattle.tokens.specs.Spans.{part}
+use Rattle.tokens.specs.Tokens.{tokens_at, refused_at}
+use Rattle.tokens.specs.Named.{order_of}
+use Rattle.tokens.specs.InUse.{scope_of}
 use Rattle.tokens.specs.InUse.{Bound as NewName}
 use Rattle.tokens.specs.declared.Token.{Token as TokenRead}
-use Rattle.tokens.proofs.Reading.{stands_self}
+use Rattle.tokens.specs.declared.TokenFault.{TokenFault}
+use Rattle.tokens.specs.declared.names.Order.{Order as OrderCode}
+use Rattle.tokens.specs.declared.names.Names.{Names}
 use Rattle.tokens.proofs.Scopes.{scope-length}
-use Rattle.phrases.specs.Told.{binder_of, RefusedAt, BinderBound, BinderTold, bound, AtomIs, AtomTold, reads}
-use Rattle.phrases.specs.Told as told
+use Rattle.phrases.specs.Told.{binder_of, RefusedAt, BinderBound, AtomIs}
 use Rattle.phrases.specs.declared.Binder.{Binder}
-use Rattle.phrases.specs.declared.Binder.TheVariants.{Bound, Refused as Unbound}
 use Rattle.phrases.specs.declared.AtomRead.{AtomRead}
-use Rattle.phrases.specs.declared.AtomRead.TheVariants.{Read as AtomGot, Refused as AtomRefused}
 use Rattle.drafting.specs.Coded.{coded_atom}
-use Rattle.drafting.specs.Draft.{Drafted, Drafts}
-use Rattle.drafting.specs.Joined.{put_joined}
-use Rattle.drafting.specs.declared.Atom.{Atom as AtomCode}
+use Rattle.drafting.specs.Draft.{Drafted, Drafts, Joins}
+use Rattle.drafting.specs.Joined.{put_joined, put_quantified}
+use Rattle.drafting.specs.declared.Draft.{Draft}
+use Rattle.drafting.specs.declared.Operator.{Operator}
+use Rattle.drafting.specs.declared.Operator.TheVariants.{Implies}
+use Rattle.drafting.specs.declared.Quantifier.{Quantifier}
 use Rattle.drafting.proofs.Sentences.{write-longer}
-use Rattle.formulas.specs.Reading.{deeper_at, level_at, opens_by, bracket_at, order_by, quantifier_by, quantified_at, Joining}
-use Rattle.formulas.specs.Reading.{next_kind, start_at, stop_at, token_of, count_at, tracks_at, AtToken, Looks, refused_here}
-use Rattle.formulas.specs.Reading.{Told, told-got, told-refused, Reads, Left}
-use Rattle.formulas.specs.Reading.{Owns, Counted, Finishes, finishes, passes, Closes, closes, lacks-closing, closes-refused}
-use Rattle.formulas.specs.Reading.{Reading, Got, Refused, reading_of}
-use Rattle.formulas.proofs.Strengths.{operator_of, join_of, joining_most, tighter_within, ahead, level-starts, spells-operator}
-use Rattle.formulas.proofs.Strengths.{write-join, tracks-join, then-then}
-use Rattle.formulas.proofs.Strengths.{deeper_is, implied, level-one, implied_is, operand_is, start-atomic, start_deep, quantifier_of}
-use Rattle.formulas.proofs.Strengths.{negation_is, bracket_is, quantifier_is, closing, closing_is, bracket-starts, write_quantified, tracks_quantified}
+use Rattle.formulas.specs.declared.Opener.{Opener}
+use Rattle.formulas.specs.declared.Opener.TheVariants.{Bracket, Denial, Quantified}
+use Rattle.formulas.specs.declared.Reader.{Reader as Held}
+use Rattle.formulas.specs.Words.{opener_of, order_by, quantifier_by, mark_of}
+use Rattle.formulas.specs.Reading.{level_at, strength_of, bracket_at, quantified_at, Joining, left_at, Looks, refused_here}
+use Rattle.formulas.specs.Reading.{Told, told-got, told-refused, Reads, Leads, Closes, closes, lacks-closing}
+use Rattle.formulas.proofs.Strengths.{operator_of, join_of, mark-no_end, tighter_within, ahead, level-starts, spells-operator, write-join, tracks-join}
+use Rattle.formulas.proofs.Strengths.{then-then, implied, level-one, implied-none, implied-deep, implied_is, atom_is, operand-deep, negation_is, bracket_is}
+use Rattle.formulas.proofs.Strengths.{quantifier_is, closing, closing-there, closing-lacks, bracket-starts, write_quantified, tracks_quantified}
 
--- ---- the array
+-- what the exit of a `?` returns: the refusal that it met
+pub passed : {x : TokenFault} {r : Result Unit TokenFault} → IsErrAnd r (λ y. y ≡ x) → r ≡ Err x
+passed {x} {r} e = let p = err_from_is_err_and r e in p.1 ∙ ap Err p.2
 
-token-path : (t u : TokenRead) → t.kind ≡ u.kind → t.start ≡ u.start → t.stop ≡ u.stop → t ≡ u
-token-path t u e f g = λ i. record { kind = e i; start = f i; stop = g i }
+-- a refusal is one of whatever is read on
+pub refused-then : {A B : Type 0} {R : Read A} {x : TokenFault} (go : A → List Token → Read B) → RefusedAt R x → RefusedAt (read_then R go) x
+refused-then {A} go w = record {
+  token = w.token;
+  refuses = ap (λ (S : Read A). read_then S go) w.refuses;
+  start_is = w.start_is;
+  stop_is = w.stop_is;
+}
 
--- a token is put into it
-pub looked : {s h : List ℕ} {at : ℕ} {t : TokenRead} → length h ≡ 5 → StandsNext s at t
-    → Looks s at h (set (set (set h 0 t.kind) 2 t.start) 4 t.stop)
-looked {s} {h} {at} {t} l st =
-    let a = set h 0 t.kind in
-    let b = set a 2 t.start in
-    let c = set b 4 t.stop in
-    let la = length-set h 0 t.kind in
-    let lb = length-set a 2 t.start in
-    let lc = length-set b 4 t.stop in
-    let past : (j : ℕ) → (j ≡ 4 → ⊥) → get_or c j 0 ≡ get_or b j 0 = (λ j z. get_or-set_other b 4 j t.stop 0 z) in
-    let back : (j : ℕ) → (j ≡ 2 → ⊥) → get_or b j 0 ≡ get_or a j 0 = (λ j z. get_or-set_other a 2 j t.start 0 z) in
-    let e0 : next_kind c ≡ t.kind = past 0 (λ z. omega arith) ∙ back 0 (λ z. omega arith) ∙ get_or-set_same h 0 t.kind 0 (omega arith) in
-    let e1 : start_at c ≡ t.start = past 2 (λ z. omega arith) ∙ get_or-set_same a 2 t.start 0 (omega arith) in
-    let e2 : stop_at c ≡ t.stop = get_or-set_same b 4 t.stop 0 (omega arith) in
-    record {
-      size = omega arith;
-      stands = subst (λ (u : TokenRead). StandsNext s at u) (sym (token-path (token_of c) t e0 e1 e2)) st;
-      count_is = past 1 (λ z. omega arith) ∙ back 1 (λ z. omega arith) ∙ get_or-set_other h 0 1 t.kind 0 (λ z. omega arith);
-      tracks_is = past 3 (λ z. omega arith) ∙ back 3 (λ z. omega arith) ∙ get_or-set_other h 0 3 t.kind 0 (λ z. omega arith);
-    }
+-- the tokens of one text
+pub same-text : {ns ms : Names} → ms ≡ ns → (i : ℕ) → tokens_at ms.text.now i ≡ tokens_at ns.text.now i
+same-text e i = ap (λ (ns : Names). tokens_at ns.text.now i) e
 
--- a count is put into it
-pub counted : {h : List ℕ} {c : ℕ} → length h ≡ 5 → Counted h c (set h 1 c)
-counted {h} {c} l =
-    let k = length-set h 1 c in
-    record {
-      size = omega arith;
-      token_is =
-          token-path (token_of (set h 1 c)) (token_of h) (get_or-set_other h 1 0 c 0 (λ z. omega arith)) (get_or-set_other h 1 2 c 0 (λ z. omega arith))
-          (get_or-set_other h 1 4 c 0 (λ z. omega arith));
-      count_is = get_or-set_same h 1 c 0 (omega arith);
-      tracks_is = get_or-set_other h 1 3 c 0 (λ z. omega arith);
-    }
+-- only records were put since: all else is as before
+pub record Same (h h' : Held) : Type 0 where
+  pub names_are : h'.names ≡ h.names
+  pub next_is : h'.next ≡ h.next
+  pub tracks_is : h'.tracks ≡ h.tracks
 
--- tracks are put into it
-pub record Tracked (h : List ℕ) (n : ℕ) (h' : List ℕ) : Type 0 where
-  pub size : length h' ≡ 5
-  pub token_is : token_of h' ≡ token_of h
-  pub count_is : count_at h' ≡ count_at h
-  pub tracks_is : tracks_at h' ≡ n
+pub same : {h h' : Held} → h'.names ≡ h.names → h'.next ≡ h.next → h'.tracks ≡ h.tracks → Same h h'
+same n e t = record { names_are = n; next_is = e; tracks_is = t }
 
-pub tracked : {h : List ℕ} {n : ℕ} → length h ≡ 5 → Tracked h n (set h 3 n)
-tracked {h} {n} l =
-    let k = length-set h 3 n in
-    record {
-      size = omega arith;
-      token_is =
-          token-path (token_of (set h 3 n)) (token_of h) (get_or-set_other h 3 0 n 0 (λ z. omega arith)) (get_or-set_other h 3 2 n 0 (λ z. omega arith))
-          (get_or-set_other h 3 4 n 0 (λ z. omega arith));
-      count_is = get_or-set_other h 3 1 n 0 (λ z. omega arith);
-      tracks_is = get_or-set_same h 3 n 0 (omega arith);
-    }
+-- ---- the token that stands next
+module _ (h : Held) where
+  pub kind_is : (peek (left_at h)).kind ≡ kind_number h.next.kind
+  kind_is = ap (λ (u : Token). u.kind) h.stands.stands
 
--- ---- the number
+  pub kind-other : {k : Kind} → (h.next.kind ≡ k → ⊥) → eqb (peek (left_at h)).kind (kind_number k) ≡ false
+  kind-other {k} z = ne_eqb _ (kind_number k) (λ e. other_kind z (sym kind_is ∙ e))
 
-pub got-zero : {k : ℕ} (h : List ℕ) → k ≡ 0 → reading_of k h ≡ Got
-got-zero h e = rw e refl
-
-pub refused-some : (k : ℕ) (h : List ℕ) → (k ≡ 0 → ⊥) → reading_of k h ≡ Refused k (start_at h) (stop_at h)
-refused-some zero h z = absurd (z refl)
-refused-some (suc k) h z = refl
-
--- a refusal at another token, which is put into the array
-pub refused-put : (k b e : ℕ) (h : List ℕ) → (k ≡ 0 → ⊥) → length h ≡ 5
-    → (reading_of k (set (set h 2 b) 4 e) ≡ Refused k b e) × (length (set (set h 2 b) 4 e) ≡ 5)
-refused-put k b e h z l =
-    let a = set h 2 b in
-    let la = length-set h 2 b in
-    let lb = length-set a 4 e in
-    let x : start_at (set a 4 e) ≡ b = get_or-set_other a 4 2 e 0 (λ z. omega arith) ∙ get_or-set_same h 2 b 0 (omega arith) in
-    let y : stop_at (set a 4 e) ≡ e = get_or-set_same a 4 e 0 (omega arith) in
-    (refused-some k (set a 4 e) z ∙ rw (x, y) refl, omega arith)
-
--- what is looked at stands next
-pub looks-ready : {s h h' : List ℕ} {at : ℕ} → Looks s at h h' → AtToken s h'
-looks-ready w = record { size = w.size; stands = stands_self w.stands }
-
--- the token that stands next
-module _ {s h : List ℕ} (y : AtToken s h) where
-  pub kind_is : (peek (tokens_at s (start_at h))).kind ≡ next_kind h
-  kind_is = ap (λ (u : Token). u.kind) y.stands.stands
-
-  -- unless it is the end, it is taken: what is looked at behind it is what is left
-  pub taken : {h' : List ℕ} → next_kind h < 25 → Looks s (stop_at h) h h' → rest (tokens_at s (start_at h)) ≡ tokens_at s (start_at h')
-  taken l w = y.stands.goes_on (λ e. let z : next_kind h ≡ 25 = e in omega arith) ∙ w.stands.skips
-
-  pub beyond : {h' : List ℕ} → next_kind h < 25 → Looks s (stop_at h) h h' → (start_at h < start_at h') × (start_at h < length s)
-  beyond l w =
-      let o = y.stands.onward (λ e. let z : next_kind h ≡ 25 = e in omega arith) in
-      let a = o.0 in
-      let b = o.1 in
-      let f = w.stands.forward in
-      (omega arith, omega arith)
+  pub kind-same : {k : Kind} → h.next.kind ≡ k → eqb (peek (left_at h)).kind (kind_number k) ≡ true
+  kind-same {k} e = eq-eqb _ (kind_number k) (kind_is ∙ ap kind_number e)
 
   -- a refusal at it
-  pub refused-there : {sc : Scope} {rs : List Record} {h₀ ws h' : List ℕ} {R : Read Sentence} → R ≡ leaves 23 (peek (tokens_at s (start_at h)))
-      → Told s sc rs h₀ ws h' R (refused_here h)
-  refused-there e =
-      let a = ap (λ (u : Token). u.start) y.stands.stands in
-      let b = ap (λ (u : Token). u.stop) y.stands.stands in
-      told-refused 23 (peek (tokens_at s (start_at h))) e (rw (a, b) refl)
+  pub refused_next : {A : Type 0} {R : Read A} → R ≡ leaves 23 (peek (left_at h)) → RefusedAt R (refused_at h.next reason.TextGrammar)
+  refused_next e = record {
+    token = peek (left_at h);
+    refuses = e;
+    start_is = ap (λ (u : Token). u.start) h.stands.stands;
+    stop_is = ap (λ (u : Token). u.stop) h.stands.stands;
+  }
+
+  refused-there : {sc : Scope} {rs : List Record} {i h' : Held} {R : Read Sentence} → R ≡ leaves 23 (peek (left_at h))
+      → Told sc rs i h' R (refused_here h)
+  refused-there e = told-refused _ (refused_next e) refl
+
+  -- unless it is the end, it is taken: what is looked at behind it is what is left
+  module _ (z : h.next.kind ≡ kind.End → ⊥) {h' : Held} (L : Looks h.next.stop h h') where
+    pub taken : rest (left_at h) ≡ left_at h'
+    taken = h.stands.goes_on z ∙ L.stands.skips ∙ same-text (sym L.names_are) h'.next.start
+
+    pub beyond : (h.next.start < h'.next.start) × (h.next.start < length h.names.text.now)
+    beyond = let o = h.stands.onward z in let f = L.stands.forward in (omega arith, omega arith)
 
 -- ---- the answers
 
-pub got-refused : {k b e : ℕ} → Got ≡ Refused k b e → ⊥
-got-refused q = let z : ◌≡◌ {A = ℕ} 0 1 = cc in omega arith
-
 -- what was read, where something was
-pub record Is (s : List ℕ) (sc : Scope) (rs : List Record) (h ws h' : List ℕ) (R : Read Sentence) : Type 0 where
+pub record Is (sc : Scope) (rs : List Record) (h h' : Held) (R : Read Sentence) : Type 0 where
   pub sentence : Sentence
-  pub reads : R ≡ got sentence (tokens_at s (start_at h'))
-  pub drafts : Drafted ws (count_at h') (write sc sentence rs)
-  pub counts : tracks_at h' ≡ max (tracks_at h) (tracks (length sc) sentence)
+  pub reads : R ≡ got sentence (left_at h')
+  pub drafts : Drafted h'.draft (write sc sentence rs)
+  pub counts : h'.tracks ≡ max h.tracks (tracks (length sc) sentence)
 
-module _ {s : List ℕ} {sc : Scope} {rs : List Record} {h ws h' : List ℕ} {R : Read Sentence} {r : Reading} where
-  pub told_is : Told s sc rs h ws h' R r → r ≡ Got → Is s sc rs h ws h' R
-  told_is (told-got f e q d m) p = record { sentence = f; reads = e; drafts = d; counts = m }
-  told_is (told-refused k t e q) p = absurd (got-refused (sym p ∙ q))
+module _ {sc : Scope} {rs : List Record} {h h' : Held} {R : Read Sentence} where
+  pub told_is : Told sc rs h h' R (Ok tt) → Is sc rs h h' R
+  told_is (told-got f e q d m) = record { sentence = f; reads = e; drafts = d; counts = m }
+  told_is (told-refused x w q) = absurd cc
 
   -- a refusal is passed up by whatever comes after
-  pub told_up : {k b e : ℕ} (sd : Scope) (ss : List Record) (h₀ vs h₁ : List ℕ) (go : Sentence → List Token → Read Sentence)
-      → Told s sc rs h ws h' R r → r ≡ Refused k b e → Told s sd ss h₀ vs h₁ (read_then R go) r
-  told_up sd ss h₀ vs h₁ go (told-got f e q d m) p = absurd (got-refused (sym q ∙ p))
-  told_up sd ss h₀ vs h₁ go (told-refused k t e q) p = told-refused k t (ap (λ (S : Read Sentence). read_then S go) e) q
+  pub told_up : {x : TokenFault} {sd : Scope} {ss : List Record} {i i' : Held} (go : Sentence → List Token → Read Sentence) → Told sc rs h h' R (Err x)
+      → Told sd ss i i' (read_then R go) (Err x)
+  told_up go (told-got f e q d m) = absurd cc
+  told_up go (told-refused x w q) = told-refused x (refused-then go w) q
 
--- a strength by another name
-pub level_as : (d a b : ℕ) {s : List ℕ} {sc : Scope} {ws h ws' h' : List ℕ} {r : Reading} → a ≡ b → Reads (level_at d a) s sc ws h ws' h' r
-    → Reads (level_at d b) s sc ws h ws' h' r
-level_as d a b {s} {sc} {ws} {h} {ws'} {h'} {r} e X = subst (λ (k : ℕ). Reads (level_at d k) s sc ws h ws' h' r) e X
+-- a part was read, and records of the construct's own were put behind its records
+pub told_made : {sc sd : Scope} {rs ss : List Record} {h m h₂ h₃ : Held} {X : Read Sentence} (make : Sentence → Sentence) → left_at h₃ ≡ left_at h₂
+    → h₃.tracks ≡ h₂.tracks → ((g : Sentence) → Drafted h₂.draft (write sd g ss) → Drafted h₃.draft (write sc (make g) rs))
+    → ((g : Sentence) → max m.tracks (tracks (length sd) g) ≡ max h.tracks (tracks (length sc) (make g)))
+    → Told sd ss m h₂ X (Ok tt) → Told sc rs h h₃ (read_then X (λ g us. got (make g) us)) (Ok tt)
+told_made make l t D M w =
+    let i = told_is w in
+    let g = i.sentence in
+    told-got (make g) (ap (λ (S : Read Sentence). read_then S (λ g us. got (make g) us)) i.reads ∙ ap (λ (us : List Token). got (make g) us) (sym l)) refl
+    (D g i.drafts) (t ∙ i.counts ∙ M g)
 
--- a part was read, and the construct's own records were put behind it
-module _ {s : List ℕ} {sc sd : Scope} {rs ss : List Record} {h m ws₂ h₂ ws₃ h₃ : List ℕ} {X : Read Sentence} {right r : Reading} {kind beside : ℕ} where
-  pub told_finished : (make : Sentence → Sentence)
-      → ((g : Sentence) → Drafted ws₂ (count_at h₂) (write sd g ss) → (c : ℕ) → Owns ws₂ kind beside (count_at h₂) ws₃ c → Drafted ws₃ c (write sc (make g) rs))
-      → ((g : Sentence) → max (tracks_at m) (tracks (length sd) g) ≡ max (tracks_at h) (tracks (length sc) (make g)))
-      → Told s sd ss m ws₂ h₂ X right → Finishes ws₂ kind beside ws₃ h₂ h₃ right r → Told s sc rs h ws₃ h₃ (read_then X (λ g us. got (make g) us)) r
-  told_finished make D M w (finishes c qi qr p o) =
-      let i = told_is w qi in
-      let g = i.sentence in
-      let n = ap (λ (u : TokenRead). u.start) p.token_is in
-      told-got (make g) (ap (λ (S : Read Sentence). read_then S (λ g us. got (make g) us)) i.reads ∙ ap (λ (n : ℕ). got (make g) (tokens_at s n)) (sym n)) qr
-      (subst (λ (x : ℕ). Drafted ws₃ x (write sc (make g) rs)) (sym p.count_is) (D g i.drafts c o)) (p.tracks_is ∙ i.counts ∙ M g)
-  told_finished make D M w (passes k b e qi qr x) =
-      subst (λ (q : Reading). Told s sc rs h ws₃ h₃ (read_then X (λ g us. got (make g) us)) q) (qi ∙ sym qr)
-      (told_up sc rs h ws₃ h₃ (λ g us. got (make g) us) w qi)
+left-same : {h h' : Held} → Same h h' → left_at h' ≡ left_at h
+left-same {h} {h'} S = rw (S.names_are, S.next_is) refl
 
--- and what holds of the array then
-module _ {ws₂ h₂ ws₃ h₃ : List ℕ} {right r : Reading} {kind beside : ℕ} (F : Finishes ws₂ kind beside ws₃ h₂ h₃ right r) where
-  pub finished_size : length h₂ ≡ 5 → length h₃ ≡ 5
-  finished_size l = go F
-    where
-      go : Finishes ws₂ kind beside ws₃ h₂ h₃ right r → length h₃ ≡ 5
-      go (finishes c qi qr p o) = p.size
-      go (passes k b e qi qr x) = ap length x ∙ l
+-- a strength by another number
+pub level_as : (d : ℕ) {a b : ℕ} {h h' : Held} {r : Result Unit TokenFault} → a ≡ b → Reads (level_at d a) h h' r → Reads (level_at d b) h h' r
+level_as d {h = h} {h'} {r} e X = subst (λ (k : ℕ). Reads (level_at d k) h h' r) e X
 
-  pub finished_got : r ≡ Got → (right ≡ Got) × (token_of h₃ ≡ token_of h₂)
-  finished_got q = go F
-    where
-      go : Finishes ws₂ kind beside ws₃ h₂ h₃ right r → (right ≡ Got) × (token_of h₃ ≡ token_of h₂)
-      go (finishes c qi qr p o) = (qi, p.token_is)
-      go (passes k b e qi qr x) = absurd (got-refused (sym q ∙ qr))
+-- ---- a refusal of a part is one of the whole formula
 
-  pub finished_ready : {s : List ℕ} → length h₂ ≡ 5 → (right ≡ Got → AtToken s h₂) → r ≡ Got → AtToken s h₃
-  finished_ready {s} l y q =
-      let w = finished_got q in
-      record { size = finished_size l; stands = subst (λ (u : TokenRead). StandsNext s u.start u) (sym w.1) (y w.0).stands }
+refused-up : {part whole : Reader} {h h' : Held} {x : TokenFault} (go : Scope → Sentence → List Token → Read Sentence)
+    → ((sc : Scope) (ts : List Token) → whole sc ts ≡ read_then (part sc ts) (go sc)) → Reads part h h' (Err x) → Reads whole h h' (Err x)
+refused-up go e X = record { tells = λ rs D l. rw (e _ _) (told_up _ (X.tells rs D l)); names_are = X.names_are; onward = λ q. absurd cc }
 
-  pub finished_onward : {n : ℕ} → (right ≡ Got → n ≤ start_at h₂) → r ≡ Got → n ≤ start_at h₃
-  finished_onward {n} l q = let w = finished_got q in subst (λ (u : TokenRead). n ≤ u.start) (sym w.1) (l w.0)
+module _ (d : ℕ) {h h' : Held} {x : TokenFault} where
+  weaker : (k : ℕ) → Reads (level_at d (suc k)) h h' (Err x) → Reads (level_at d k) h h' (Err x)
+  unfolding level_at joined consequent_at
+  weaker zero X = refused-up _ (λ sc ts. refl) X
+  weaker (suc zero) X = refused-up _ (λ sc ts. refl) X
+  weaker (suc (suc zero)) X = refused-up _ (λ sc ts. refl) X
+  weaker (suc (suc (suc zero))) X = refused-up _ (λ sc ts. refl) X
+  weaker (suc (suc (suc (suc k)))) X = X
+
+  pub refused-down : (m k : ℕ) → k ≤ m → Reads (level_at d m) h h' (Err x) → Reads (level_at d k) h h' (Err x)
+  refused-down zero k l X = level_as d (omega arith) X
+  refused-down (suc m) k l X = elim (dec_lt k (suc m)) [ yes p ↦ refused-down m k (omega arith) (weaker m X) | no q ↦ level_as d (omega arith) X ]
 
 -- ---- operands that an operator joins
 
-module _ (d : ℕ) {k : ℕ} (j : Joining k) {s : List ℕ} {sc : Scope} {rs : List Record} {h ws h' : List ℕ} {R : Read Sentence} {r : Reading} where
-  -- a refusal ends the reading
-  pub ahead-refused : {n b e : ℕ} → Told s sc rs h ws h' R r → r ≡ Refused n b e → Told s sc rs h ws h' (ahead d j sc R) r
-  unfolding ahead
-  ahead-refused w q = told_up sc rs h ws h' (λ f us. chain (length us) (operator_of j) (join_of j) (level_at d (suc k)) sc f us) w q
+module _ (d : ℕ) {o : Operator} (j : Joining o) {sc : Scope} {rs : List Record} {h h' : Held} {R : Read Sentence} (w : Told sc rs h h' R (Ok tt)) where
+  -- what comes after another operand g
+  after : Sentence → Sentence → List Token → Read Sentence
+  after f g us = chain (length us) (operator_of j) (join_of j) (level_at d (suc (strength_of o))) sc (join_of j f g) us
 
-  module _ (w : Told s sc rs h ws h' R r) (q : r ≡ Got) (y : AtToken s h') where
-    ahead_is : (f : Sentence) → R ≡ got f (tokens_at s (start_at h')) → (v : Bool) → eqb (next_kind h') (19 - k) ≡ v
-        → ahead d j sc R ≡ (elim v as (λ _. Read Sentence) [
-          | true ↦ read_then (level_at d (suc k) sc (rest (tokens_at s (start_at h'))))
-              (λ g us. chain (length us) (operator_of j) (join_of j) (level_at d (suc k)) sc (join_of j f g) us)
-          | false ↦ got f (tokens_at s (start_at h'))
-        ])
-    unfolding ahead
-    ahead_is f e v x =
-        let us = tokens_at s (start_at h') in
-        let p : spells (operator_of j) (peek us) ≡ v = spells-operator j (peek us) ∙ ap (λ (n : ℕ). eqb n (19 - k)) (kind_is y) ∙ x in
-        rw e (more-is (operator_of j) (join_of j) (level_at d (suc k)) (tighter_within d j) sc (no_end j) f us ∙ rw p refl)
-      where
-        no_end : {k : ℕ} (j : Joining k) → spells (operator_of j) (peek []) ≡ false
-        no_end {k} j = spells-operator j (peek []) ∙ ne_eqb 25 (19 - k) (λ z. omega arith)
+  ahead_is : (v : Bool) → eqb (peek (left_at h')).kind (kind_number (mark_of o)) ≡ v
+      → ahead d j sc R ≡ (elim v as (λ _. Read Sentence) [
+        | true ↦ read_then (level_at d (suc (strength_of o)) sc (rest (left_at h'))) (after (told_is w).sentence)
+        | false ↦ got (told_is w).sentence (left_at h')
+      ])
+  unfolding ahead after
+  ahead_is v x =
+      let i = told_is w in
+      let us = left_at h' in
+      let p : spells (operator_of j) (peek us) ≡ v = spells-operator j (peek us) ∙ x in
+      rw i.reads (more-is (operator_of j) (join_of j) (level_at d (suc (strength_of o))) (tighter_within d j) sc (no_end j) i.sentence us ∙ rw p refl)
+    where
+      no_end : {o : Operator} (j : Joining o) → spells (operator_of j) (peek []) ≡ false
+      no_end {o} j = spells-operator j (peek []) ∙ ne_eqb 25 (kind_number (mark_of o)) (other_kind (λ e. mark-no_end j (sym e)))
 
-    -- no operator: all is read
-    pub ahead-ends : (next_kind h' ≡ 19 - k → ⊥) → Told s sc rs h ws h' (ahead d j sc R) Got
-    ahead-ends n =
-        let i = told_is w q in
-        told-got i.sentence (ahead_is i.sentence i.reads false (ne_eqb (next_kind h') (19 - k) n)) refl i.drafts i.counts
+  -- no operator: all is read
+  pub ahead-ends : (h'.next.kind ≡ mark_of o → ⊥) → Told sc rs h h' (ahead d j sc R) (Ok tt)
+  ahead-ends n = let i = told_is w in told-got i.sentence (ahead_is false (kind-other h' n)) refl i.drafts i.counts
 
-    -- one operand more
-    module _ {m ws₂ h₂ ws₃ h₃ : List ℕ} {right r' : Reading} (e : next_kind h' ≡ 19 - k) (L : Looks s (stop_at h') h' m) where
-      pub ahead_on : length sc ≤ tracks_at h → Reads (level_at d (suc k)) s sc ws m ws₂ h₂ right → Finishes ws₂ (19 - k) (count_at h') ws₃ h₂ h₃ right r'
-          → (R' : Read Sentence) × (ahead d j sc R ≡ ahead d j sc R') × Told s sc rs h ws₃ h₃ R' r'
-      unfolding ahead
-      ahead_on l X A =
-          let i = told_is w q in
-          let f = i.sentence in
-          let c = i.counts in
-          let kl = joining_most j in
-          let X₀ = level_at d (suc k) sc (tokens_at s (start_at m)) in
-          let a = ahead_is f i.reads true (eq-eqb (next_kind h') (19 - k) e) in
-          let b = ap (λ (us : List Token). read_then (level_at d (suc k) sc us)
-          (λ g us. chain (length us) (operator_of j) (join_of j) (level_at d (suc k)) sc (join_of j f g) us))
-          (taken y (omega arith) L) in
-          let tr = tracks-join j (length sc) in
-          let hi : 16 ≤ 19 - k = omega arith in
-          let mt = L.tracks_is in (
-            read_then X₀ (λ g us. got (join_of j f g) us),
-            a ∙ b ∙ sym (then-then X₀ (join_of j f) (λ g us. chain (length us) (operator_of j) (join_of j) (level_at d (suc k)) sc g us)),
-            told_finished (join_of j f)
-                (λ g D c o. let ss = write sc f rs in rw (← write-join j sc f g rs) (o.joins hi ss (write sc g ss) i.drafts.size (write-longer sc g ss) D))
-                (λ g. rw (tr f g) (omega arith))
-                (X.tells (write sc f rs) (subst (λ (n : ℕ). Drafted ws n (write sc f rs)) (sym L.count_is) i.drafts) (omega arith)) A,
-          )
+  -- one operand more is read behind the operator
+  module _ (e : h'.next.kind ≡ mark_of o) {m : Held} (L : Looks h'.next.stop h' m) (sc_is : scope_of h'.names ≡ sc) where
+    on : ahead d j sc R ≡ read_then (level_at d (suc (strength_of o)) sc (left_at m)) (after (told_is w).sentence)
+    on = ahead_is true (kind-same h' e)
+        ∙ ap (λ (us : List Token). read_then (level_at d (suc (strength_of o)) sc us) (after (told_is w).sentence))
+        (taken h' (λ z. mark-no_end j (sym e ∙ z)) L)
+
+    inside : {h₂ : Held} {r : Result Unit TokenFault} → length sc ≤ h.tracks → Reads (level_at d (suc (strength_of o))) m h₂ r
+        → Told sc (write sc (told_is w).sentence rs) m h₂ (level_at d (suc (strength_of o)) sc (left_at m)) r
+    inside {h₂} {r} l X =
+        let i = told_is w in
+        let t = L.tracks_is in
+        let c = i.counts in
+        let s : scope_of m.names ≡ sc = ap scope_of L.names_are ∙ sc_is in
+        subst (λ (sd : Scope). Told sd (write sc i.sentence rs) m h₂ (level_at d (suc (strength_of o)) sd (left_at m)) r) s
+        (X.tells _ (rw L.draft_is i.drafts) (rw s (omega arith)))
+
+    pub ahead-refused : {h₂ : Held} {x : TokenFault} → length sc ≤ h.tracks → Reads (level_at d (suc (strength_of o))) m h₂ (Err x)
+        → Told sc rs h h₂ (ahead d j sc R) (Err x)
+    ahead-refused l X = rw on (told_up _ (inside l X))
+
+    pub ahead_on : {h₂ h₃ : Held} → length sc ≤ h.tracks → Reads (level_at d (suc (strength_of o))) m h₂ (Ok tt) → Same h₂ h₃
+        → Joins h₂.draft h'.draft.count h₃.draft (put_joined o)
+        → (S : Read Sentence) × (ahead d j sc R ≡ ahead d j sc S) × Told sc rs h h₃ S (Ok tt)
+    unfolding ahead after
+    ahead_on {h₂} {h₃} l X A P =
+        let i = told_is w in
+        let f = i.sentence in
+        let c = i.counts in
+        let t = L.tracks_is in
+        let tr = tracks-join j (length sc) in
+        let Y = level_at d (suc (strength_of o)) sc (left_at m) in (
+          read_then Y (λ g us. got (join_of j f g) us),
+          on ∙ sym (then-then Y (join_of j f) (λ g us. chain (length us) (operator_of j) (join_of j) (level_at d (suc (strength_of o))) sc g us)),
+          told_made (join_of j f) (left-same A) A.tracks_is
+              (λ g D. let ss = write sc f rs in rw (← write-join j sc f g rs) (P ss (write sc g ss) i.drafts.size (write-longer sc g ss) D))
+              (λ g. rw (tr f g) (omega arith)) (inside l X),
+        )
 
 -- ---- the loop over an operator's operands
 
--- how much of the text is left
-pub left_of : List ℕ → List ℕ → Reading → ℕ
-left_of s h Got = suc (length s - start_at h)
-left_of s h (Refused k b e) = 0
+-- from the first operand, at h₀, reading has come to h
+pub record Joined (d : ℕ) (o : Operator) (h₀ h : Held) : Type 0 where
+  pub operator : Joining o
+  pub tells : (rs : List Record) (i : Held) (R₀ : Read Sentence) → Told (scope_of h₀.names) rs i h₀ R₀ (Ok tt) → length (scope_of h₀.names) ≤ i.tracks
+      → (R : Read Sentence) × (ahead d operator (scope_of h₀.names) R₀ ≡ ahead d operator (scope_of h₀.names) R) × Told (scope_of h₀.names) rs i h R (Ok tt)
+  pub names_are : h.names ≡ h₀.names
+  pub onward : h₀.next.start ≤ h.next.start
 
--- from the first operand, r₀, reading has come to r
-pub record Joined (s : List ℕ) (sc : Scope) (d k : ℕ) (ws₀ h₀ : List ℕ) (r₀ : Reading) (ws h : List ℕ) (r : Reading) : Type 0 where
-  pub operator : Joining k
-  pub tells : (rs : List Record) (i : List ℕ) (R₀ : Read Sentence) → Told s sc rs i ws₀ h₀ R₀ r₀ → length sc ≤ tracks_at i
-      → (R : Read Sentence) × (ahead d operator sc R₀ ≡ ahead d operator sc R) × Told s sc rs i ws h R r
-  pub size : length h ≡ 5
-  pub ready : r ≡ Got → AtToken s h
-  pub onward : r ≡ Got → (r₀ ≡ Got) × (start_at h₀ ≤ start_at h)
+pub joined-first : {d : ℕ} {o : Operator} {h : Held} → Joining o → Joined d o h h
+joined-first j = record { operator = j; tells = λ rs i R w x. (R, refl, w); names_are = refl; onward = omega arith }
 
-pub joined-first : {s : List ℕ} {sc : Scope} {d k : ℕ} {ws h : List ℕ} {r : Reading} → Joining k → length h ≡ 5 → (r ≡ Got → AtToken s h)
-    → Joined s sc d k ws h r ws h r
-joined-first j l y = record { operator = j; tells = λ rs i R w x. (R, refl, w); size = l; ready = y; onward = λ q. (q, omega arith) }
-
-module _ {s : List ℕ} {sc : Scope} {d k : ℕ} {ws₀ h₀ ws h : List ℕ} {r₀ r : Reading} (J : Joined s sc d k ws₀ h₀ r₀ ws h r) where
-  module _ (q : r ≡ Got) where
-    module _ {m ws₂ h₂ ws₃ h₃ : List ℕ} {right r' : Reading} (e : next_kind h ≡ 19 - k) (L : Looks s (stop_at h) h m)
-        (X : Reads (level_at d (suc k)) s sc ws m ws₂ h₂ right) (A : Finishes ws₂ (19 - k) (count_at h) ws₃ h₂ h₃ right r') where
-      pub joined_on : Joined s sc d k ws₀ h₀ r₀ ws₃ h₃ r'
-      joined_on = record {
-        operator = J.operator;
-        tells = λ rs i R₀ w l.
-            let z = J.tells rs i R₀ w l in
-            let y = ahead_on d J.operator z.2 q (J.ready q) e L l X A in
-            (y.0, z.1 ∙ y.1, y.2);
-        size = finished_size A X.size;
-        ready = finished_ready A X.size X.ready;
-        onward = λ p.
-            let o = J.onward q in
-            let kl = joining_most J.operator in
-            let b = beyond (J.ready q) (omega arith) L in
-            let f = o.1 in
-            let g = b.0 in
-            (o.0, finished_onward A (λ x. let a = X.onward x in omega arith) p);
-      }
-
-      pub joined-less : left_of s h₃ r' < left_of s h r
-      unfolding left_of
-      joined-less = rw q (go r' refl)
-        where
-          go : (v : Reading) → r' ≡ v → left_of s h₃ v < left_of s h Got
-          go Got p =
-              let kl = joining_most J.operator in
-              let b = beyond (J.ready q) (omega arith) L in
-              let f = b.0 in
-              let g = b.1 in
-              let n : start_at m ≤ start_at h₃ = finished_onward A (λ x. X.onward x) p in
-              omega arith
-          go (Refused n b e) p = omega arith
-
-    pub joined-ends : {ws' h' : List ℕ} → Reads (level_at d (suc k)) s sc ws' h' ws₀ h₀ r₀ → (next_kind h ≡ 19 - k → ⊥) → Reads (level_at d k) s sc ws' h' ws h Got
-    joined-ends {ws'} {h'} X n = record {
-      tells = λ rs D l.
-          let z = J.tells rs h' _ (X.tells rs D l) l in
-          rw (level-starts d J.operator sc (tokens_at s (start_at h')) ∙ z.1) (ahead-ends d J.operator z.2 q (J.ready q) n);
-      size = J.size;
-      ready = λ p. J.ready q;
-      onward = λ p. let o = J.onward q in let a = X.onward o.0 in let b = o.1 in omega arith;
-    }
-
-  pub joined-refused : {ws' h' : List ℕ} {n b e : ℕ} → Reads (level_at d (suc k)) s sc ws' h' ws₀ h₀ r₀ → r ≡ Refused n b e
-      → Reads (level_at d k) s sc ws' h' ws h r
-  joined-refused {ws'} {h'} X q = record {
+module _ {d : ℕ} {o : Operator} {h₀ h : Held} (J : Joined d o h₀ h) where
+  -- what comes of what was read so far comes of the first operand, which any reader left
+  lifted : {h' : Held} {r : Result Unit TokenFault}
+      → ((rs : List Record) (i : Held) (R : Read Sentence) → Told (scope_of h₀.names) rs i h R (Ok tt) → length (scope_of h₀.names) ≤ i.tracks
+      → Told (scope_of h₀.names) rs i h' (ahead d J.operator (scope_of h₀.names) R) r)
+      → h'.names ≡ h₀.names → (r ≡ Ok tt → h₀.next.start ≤ h'.next.start)
+      → Leads (level_at d (suc (strength_of o))) (level_at d (strength_of o)) h₀ h' r
+  lifted {h'} {r} go n f i Y = record {
     tells = λ rs D l.
-        let z = J.tells rs h' _ (X.tells rs D l) l in
-        rw (level-starts d J.operator sc (tokens_at s (start_at h')) ∙ z.1) (ahead-refused d J.operator z.2 q);
-    size = J.size;
-    ready = λ p. absurd (got-refused (sym p ∙ q));
-    onward = λ p. absurd (got-refused (sym p ∙ q));
+        let s : scope_of i.names ≡ scope_of h₀.names = sym (ap scope_of Y.names_are) in
+        let first : Reader → Scope → Read Sentence = (λ (rd : Reader) (sd : Scope). rd sd (left_at i)) in
+        let part = level_at d (suc (strength_of o)) in
+        let w = subst (λ (sd : Scope). Told sd rs i h₀ (first part sd) (Ok tt)) s (Y.tells rs D l) in
+        let z = J.tells rs i (first part (scope_of h₀.names)) w (rw (← s) l) in
+        subst (λ (sd : Scope). Told sd rs i h' (first (level_at d (strength_of o)) sd) r) (sym s)
+        (rw (level-starts d J.operator (scope_of h₀.names) (left_at i) ∙ z.1) (go rs i z.0 z.2 (rw (← s) l)));
+    names_are = n ∙ Y.names_are;
+    onward = λ q. let a = Y.onward refl in let b = f q in omega arith;
   }
 
--- ---- the right side of `=>`
+  module _ (e : h.next.kind ≡ mark_of o) {m : Held} (L : Looks h.next.stop h m) where
+    no_end : h.next.kind ≡ kind.End → ⊥
+    no_end z = mark-no_end J.operator (sym e ∙ z)
 
-module _ (d : ℕ) {s : List ℕ} {sc : Scope} {ws h ws₂ h₂ : List ℕ} {r : Reading} (X : Reads (level_at d 2) s sc ws h ws₂ h₂ r) where
-  pub implication_refused : {k b e : ℕ} → r ≡ Refused k b e → Reads (level_at d 1) s sc ws h ws₂ h₂ r
-  implication_refused q = record {
-    tells = λ rs D l. rw (level-one d sc (tokens_at s (start_at h))) (told_up sc rs h ws₂ h₂ (λ f us. implied d sc f us) (X.tells rs D l) q);
-    size = X.size;
-    ready = X.ready;
+    pub joined_on : {h₂ h₃ : Held} → Reads (level_at d (suc (strength_of o))) m h₂ (Ok tt) → Same h₂ h₃
+        → Joins h₂.draft h.draft.count h₃.draft (put_joined o) → Joined d o h₀ h₃
+    joined_on X A P = record {
+      operator = J.operator;
+      tells = λ rs i R₀ w l.
+          let z = J.tells rs i R₀ w l in
+          let y = ahead_on d J.operator z.2 e L (ap scope_of J.names_are) l X A P in
+          (y.0, z.1 ∙ y.1, y.2);
+      names_are = A.names_are ∙ X.names_are ∙ L.names_are ∙ J.names_are;
+      onward = let a = J.onward in let b = beyond h no_end L in let c = X.onward refl in rw A.next_is (omega arith);
+    }
+
+    pub joined-less : {h₂ : Held} → Reads (level_at d (suc (strength_of o))) m h₂ (Ok tt)
+        → length h₂.names.text.now - h₂.next.start < length h.names.text.now - h.next.start
+    joined-less X = let b = beyond h no_end L in let c = X.onward refl in rw (X.names_are ∙ L.names_are) (omega arith)
+
+    pub joined-refused : {h₂ : Held} {x : TokenFault} → Reads (level_at d (suc (strength_of o))) m h₂ (Err x)
+        → Leads (level_at d (suc (strength_of o))) (level_at d (strength_of o)) h₀ h₂ (Err x)
+    joined-refused X =
+        lifted (λ rs i R w l. ahead-refused d J.operator w e L (ap scope_of J.names_are) l X) (X.names_are ∙ L.names_are ∙ J.names_are) (λ q. absurd cc)
+
+  pub joined-ends : (h.next.kind ≡ mark_of o → ⊥) → Leads (level_at d (suc (strength_of o))) (level_at d (strength_of o)) h₀ h (Ok tt)
+  joined-ends n = lifted (λ rs i R w l. ahead-ends d J.operator w n) J.names_are (λ q. J.onward)
+
+-- ---- the right side of `=>`, which goes on from h
+
+module _ {h : Held} where
+  -- what the whole is, by the token behind its left side
+  whole_is : (d : ℕ) {sc : Scope} {rs : List Record} {i : Held} (w : Told sc rs i h (level_at d 2 sc (left_at i)) (Ok tt))
+      → level_at d 1 sc (left_at i) ≡ implied d sc (told_is w).sentence (left_at h)
+  whole_is d {sc} {i = i} w = level-one d sc (left_at i) ∙ ap (λ (R : Read Sentence). read_then R (λ f us. implied d sc f us)) (told_is w).reads
+
+  pub arrow-none : (d : ℕ) → (h.next.kind ≡ kind.Implies → ⊥) → Leads (level_at d 2) (level_at d 1) h h (Ok tt)
+  arrow-none d n i X = record {
+    tells = λ rs D l.
+        let w = X.tells rs D l in
+        let f = told_is w in
+        told-got f.sentence (whole_is d w ∙ implied-none _ f.sentence (left_at h) d (kind-other h n)) refl f.drafts f.counts;
+    names_are = X.names_are;
     onward = X.onward;
   }
 
-  module _ (q : r ≡ Got) where
-    y : AtToken s h₂
-    y = X.ready q
+  module _ (e : h.next.kind ≡ kind.Implies) where
+    pub arrow-deep : (d : ℕ) → d ≡ 0 → Leads (level_at d 2) (level_at d 1) h h (refused_here h)
+    arrow-deep d z = rw z (λ i X. record {
+      tells = λ rs D l. let w = X.tells rs D l in refused-there h (whole_is 0 w ∙ implied-deep _ (told_is w).sentence (left_at h) (kind-same h e));
+      names_are = X.names_are;
+      onward = λ q. absurd cc;
+    })
 
-    -- what the whole is, by the token behind the left side
-    whole_is : (rs : List Record) (w : Told s sc rs h ws₂ h₂ (level_at d 2 sc (tokens_at s (start_at h))) r) (v deep : Bool)
-        → eqb (next_kind h₂) 18 ≡ v → eqb d 0 ≡ deep
-        → level_at d 1 sc (tokens_at s (start_at h)) ≡ (elim v as (λ _. Read Sentence) [
-          | true ↦ elim deep as (λ _. Read Sentence) [
-            | true ↦ leaves 23 (peek (tokens_at s (start_at h₂)))
-            | false ↦ read_then (deeper_at d consequent sc (rest (tokens_at s (start_at h₂)))) (λ g us. got (implies (told_is w q).sentence g) us)
-          ]
-          | false ↦ got (told_is w q).sentence (tokens_at s (start_at h₂))
-        ])
-    whole_is rs w v deep e x =
-        let i = told_is w q in
-        level-one d sc (tokens_at s (start_at h)) ∙ ap (λ (R : Read Sentence). read_then R (λ f us. implied d sc f us)) i.reads
-        ∙ implied_is d sc i.sentence (tokens_at s (start_at h₂)) v (ap (λ (n : ℕ). eqb n 18) (kind_is y) ∙ e) deep x
+    module _ {m n : Held} (S : Same h m) (N : Drafts h.draft m.draft put_not) (L : Looks m.next.stop m n) where
+      no-end : m.next.kind ≡ kind.End → ⊥
+      no-end z = let y = ap (λ (t : TokenRead). t.kind) S.next_is in absurd cc
 
-    pub implication_none : (next_kind h₂ ≡ 18 → ⊥) → Reads (level_at d 1) s sc ws h ws₂ h₂ Got
-    implication_none n = record {
-      tells = λ rs D l.
-          let w = X.tells rs D l in
-          let i = told_is w q in
-          told-got i.sentence (whole_is rs w false (eqb d 0) (ne_eqb (next_kind h₂) 18 n) refl) refl i.drafts i.counts;
-      size = X.size;
-      ready = λ p. X.ready q;
-      onward = λ p. X.onward q;
-    }
+      module _ (d : ℕ) {sc : Scope} {rs : List Record} {i : Held} (w : Told sc rs i h (level_at (suc d) 2 sc (left_at i)) (Ok tt)) where
+        arrow-starts : level_at (suc d) 1 sc (left_at i) ≡ read_then (level_at d 1 sc (left_at n)) (λ g us. got (implies (told_is w).sentence g) us)
+        arrow-starts =
+            whole_is (suc d) w ∙ implied_is _ (told_is w).sentence (left_at h) d (kind-same h e)
+            ∙ ap (λ (us : List Token). read_then (level_at d 1 sc us) (λ g us. got (implies (told_is w).sentence g) us))
+            (ap rest (sym (left-same S)) ∙ taken m no-end L)
 
-    pub implication_deep : next_kind h₂ ≡ 18 → d ≡ 0 → Reads (level_at d 1) s sc ws h ws₂ h₂ (refused_here h₂)
-    implication_deep e z = record {
-      tells = λ rs D l. refused-there y (whole_is rs (X.tells rs D l) true true (eq-eqb (next_kind h₂) 18 e) (eq-eqb d 0 z));
-      size = X.size;
-      ready = λ p. absurd (got-refused (sym p));
-      onward = λ p. absurd (got-refused (sym p));
-    }
+        right-side : {h₂ : Held} {r : Result Unit TokenFault} → scope_of h.names ≡ sc → length sc ≤ i.tracks → Reads (level_at d 1) n h₂ r
+            → Told sc (put_not (write sc (told_is w).sentence rs)) n h₂ (level_at d 1 sc (left_at n)) r
+        right-side {h₂} {r} x l Y =
+            let s : scope_of n.names ≡ sc = ap scope_of (L.names_are ∙ S.names_are) ∙ x in
+            let c = (told_is w).counts in
+            let t = L.tracks_is ∙ S.tracks_is in
+            let fs = put_not (write sc (told_is w).sentence rs) in
+            subst (λ (sd : Scope). Told sd fs n h₂ (level_at d 1 sd (left_at n)) r) s
+            (Y.tells fs (subst (λ (e : Draft). Drafted e fs) (sym L.draft_is) (N _ (told_is w).drafts)) (rw s (omega arith)))
 
-    module _ {c : ℕ} {m n : List ℕ} (C : Counted h₂ c m) (L : Looks s (stop_at h₂) m n) where
-      behind : Looks s (stop_at m) m n
-      behind = rw (ap (λ (u : TokenRead). u.stop) C.token_is) L
+      pub arrow-refused : {d k : ℕ} {h₂ : Held} {x : TokenFault} → d ≡ suc k → Reads (level_at k 1) n h₂ (Err x)
+          → Leads (level_at d 2) (level_at d 1) h h₂ (Err x)
+      arrow-refused {k = k} q Y = rw q (λ i X. record {
+        tells = λ rs D l. let w = X.tells rs D l in rw (arrow-starts k w) (told_up _ (right-side k w (ap scope_of X.names_are) l Y));
+        names_are = Y.names_are ∙ L.names_are ∙ S.names_are ∙ X.names_are;
+        onward = λ q. absurd cc;
+      })
 
-      again : AtToken s m
-      again = record { size = C.size; stands = subst (λ (u : TokenRead). StandsNext s u.start u) (sym C.token_is) y.stands }
-
-      pub implication_on : {ws₃ ws₄ h₄ ws₅ h₅ : List ℕ} {right r' : Reading} → next_kind h₂ ≡ 18 → (d ≡ 0 → ⊥) → Drafts ws₂ (count_at h₂) ws₃ c put_not
-          → Reads (level_at (d - 1) 1) s sc ws₃ n ws₄ h₄ right
-          → Finishes ws₄ 18 c ws₅ h₄ h₅ right r' → Reads (level_at d 1) s sc ws h ws₅ h₅ r'
-      unfolding write tracks put_joined
-      implication_on {ws₃} {ws₄} {h₄} {ws₅} {h₅} {right} {r'} e z N Y A = record {
-        tells = tells;
-        size = finished_size A Y.size;
-        ready = finished_ready A Y.size Y.ready;
-        onward = finished_onward A (λ x.
-            let a = Y.onward x in let b = X.onward q in let k = same_kind in let t = (beyond again (omega arith) behind).0 in
-            let g = same_start in omega arith);
-      }
-        where
-          same_kind : next_kind m ≡ next_kind h₂
-          same_kind = ap (λ (u : TokenRead). u.kind) C.token_is
-
-          same_start : start_at m ≡ start_at h₂
-          same_start = ap (λ (u : TokenRead). u.start) C.token_is
-
-          tells : (rs : List Record) → Drafted ws (count_at h) rs → length sc ≤ tracks_at h → Told s sc rs h ws₅ h₅ (level_at d 1 sc (tokens_at s (start_at h))) r'
-          tells rs D l =
-              let w = X.tells rs D l in
-              let i = told_is w q in
-              let f = i.sentence in
-              let fs = put_not (write sc f rs) in
-              let mt = i.counts in
-              let P = N (write sc f rs) i.drafts in
-              let whole = whole_is rs w true false (eq-eqb (next_kind h₂) 18 e) (ne_eqb d 0 z) in
-              let k = same_kind in
-              let tk : rest (tokens_at s (start_at h₂)) ≡ tokens_at s (start_at n) =
-              ap (λ (x : ℕ). rest (tokens_at s x)) (sym same_start) ∙ taken again (omega arith) behind in
-              let there = ap (λ (us : List Token). read_then (deeper_at d consequent sc us) (λ g us. got (implies f g) us)) tk
-              ∙ ap (λ (rd : Reader). read_then (rd sc (tokens_at s (start_at n))) (λ g us. got (implies f g) us)) (deeper_is d z).to_consequent in
-              let hi : 16 ≤ 18 = omega arith in
-              let ct : tracks_at n ≡ tracks_at h₂ = L.tracks_is ∙ C.tracks_is in
-              let cc' : count_at n ≡ c = L.count_is ∙ C.count_is in
-              rw (whole ∙ there) (told_finished (implies f)
-              (λ g G c₃ o. o.joins hi fs (write sc g fs) P.size (write-longer sc g fs) G)
-              (λ g. omega arith) (Y.tells fs (subst (λ (x : ℕ). Drafted ws₃ x fs) (sym cc') P) (omega arith)) A)
+      pub arrow_on : {d k : ℕ} {h₂ h₃ : Held} → d ≡ suc k → Reads (level_at k 1) n h₂ (Ok tt) → Same h₂ h₃
+          → Joins h₂.draft m.draft.count h₃.draft (put_joined Implies) → Leads (level_at d 2) (level_at d 1) h h₃ (Ok tt)
+      unfolding write tracks
+      arrow_on {k = k} {h₂ = h₂} {h₃} q Y A P = rw q (λ i X. record {
+        tells = λ rs D l.
+            let w = X.tells rs D l in
+            let sc = scope_of i.names in
+            let f = (told_is w).sentence in
+            let c = (told_is w).counts in
+            let t = L.tracks_is ∙ S.tracks_is in
+            let fs = put_not (write sc f rs) in
+            rw (arrow-starts k w) (told_made (implies f) (left-same A) A.tracks_is
+            (λ g G. P fs (write sc g fs) (N _ (told_is w).drafts).size (write-longer sc g fs) G) (λ g. omega arith)
+            (right-side k w (ap scope_of X.names_are) l Y));
+        names_are = A.names_are ∙ Y.names_are ∙ L.names_are ∙ S.names_are ∙ X.names_are;
+        onward = λ q.
+            let a = X.onward refl in
+            let b = Y.onward refl in
+            let c = (beyond m no-end L).0 in
+            let t = ap (λ (t : TokenRead). t.start) S.next_is in
+            rw A.next_is (omega arith);
+      })
 
 -- ---- operands
 
-module _ (d : ℕ) {s : List ℕ} {sc : Scope} {ws h : List ℕ} (y : AtToken s h) where
-  -- by another reader of the same tokens
-  by : {read : Reader} {ws' h' : List ℕ} {r : Reading} → level_at d 4 sc (tokens_at s (start_at h)) ≡ read sc (tokens_at s (start_at h))
-      → Reads read s sc ws h ws' h' r
-      → Reads (level_at d 4) s sc ws h ws' h' r
-  by e X = record { tells = λ rs D l. rw e (X.tells rs D l); size = X.size; ready = X.ready; onward = X.onward }
+-- by another reader of the same tokens
+by : {read whole : Reader} {h h' : Held} {r : Result Unit TokenFault} → ((sc : Scope) → whole sc (left_at h) ≡ read sc (left_at h)) → Reads read h h' r
+    → Reads whole h h' r
+by e X = record { tells = λ rs D l. rw (e _) (X.tells rs D l); names_are = X.names_are; onward = X.onward }
 
-  pub operand-atom : {ws' h' : List ℕ} {r : Reading} → opens_by (next_kind h) ≡ false → Reads atom_of s sc ws h ws' h' r → Reads (level_at d 4) s sc ws h ws' h' r
-  unfolding operand_of
-  operand-atom x X =
-      let ts = tokens_at s (start_at h) in
-      by {read = atom_of} (operand_is d sc ts (next_kind h) (kind_is y) ∙ ap (λ (b : Start). operand_of (deeper_at d) b sc ts) (start-atomic d (next_kind h) x)) X
+opens-no_end : {k : Kind} {p : Opener} → opener_of k ≡ Some p → k ≡ kind.End → ⊥
+opens-no_end {k} {p} e z = let y : ◌≡◌ {A = Option Opener} (Some p) None = sym e ∙ ap opener_of z in absurd cc
 
-  pub operand_deep : opens_by (next_kind h) ≡ true → d ≡ 0 → Reads (level_at d 4) s sc ws h ws h (refused_here h)
-  unfolding operand_of
-  operand_deep x z = record {
-    tells = λ rs D l.
-        refused-there y
-        (rw z (operand_is 0 sc (tokens_at s (start_at h)) (next_kind h) (kind_is y)
-        ∙ ap (λ (b : Start). operand_of (deeper_at 0) b sc (tokens_at s (start_at h))) (start_deep (next_kind h) x)));
-    size = y.size;
-    ready = λ p. absurd (got-refused (sym p));
-    onward = λ p. absurd (got-refused (sym p));
-  }
+-- the token behind one that opens a level
+module _ {h m : Held} {p : Opener} (e : opener_of h.next.kind ≡ Some p) (L : Looks h.next.stop h m) where
+  inner-left : rest (left_at h) ≡ left_at m
+  inner-left = taken h (opens-no_end e) L
 
-  module _ (z : d ≡ 0 → ⊥) where
-    pub operand-bracket : {ws' h' : List ℕ} {r : Reading} → next_kind h ≡ 13 → Reads (bracket_at (d - 1)) s sc ws h ws' h' r
-        → Reads (level_at d 4) s sc ws h ws' h' r
-    operand-bracket e X = by {read = bracket_at (d - 1)} (bracket_is d z sc (tokens_at s (start_at h)) (kind_is y ∙ e)) X
+  -- what is read from there on
+  inner-told : {part : Reader} {h₂ : Held} {r : Result Unit TokenFault} → Reads part m h₂ r → (rs : List Record) → Drafted h.draft rs
+      → length (scope_of h.names) ≤ h.tracks → Told (scope_of h.names) rs m h₂ (part (scope_of h.names) (left_at m)) r
+  inner-told {part} {h₂} {r} X rs D l =
+      let s : scope_of m.names ≡ scope_of h.names = ap scope_of L.names_are in
+      let t = L.tracks_is in
+      subst (λ (sd : Scope). Told sd rs m h₂ (part sd (left_at m)) r) s (X.tells rs (rw L.draft_is D) (rw s (omega arith)))
 
-    pub operand-quantifier : {ws' h' : List ℕ} {r : Reading} → 3 ≤ next_kind h → next_kind h ≤ 6 → Reads (quantified_at (d - 1) (next_kind h)) s sc ws h ws' h' r
-        → Reads (level_at d 4) s sc ws h ws' h' r
-    operand-quantifier l g X =
-        by {read = quantified_at (d - 1) (next_kind h)} (quantifier_is d z sc (tokens_at s (start_at h)) _ (quantifier_of _ l g) (kind_is y)) X
+  inner-onward : h.next.start ≤ m.next.start
+  inner-onward = let b = (beyond h (opens-no_end e) L).0 in omega arith
 
-    pub operand_not : {m ws₂ h₂ ws₃ h₃ : List ℕ} {beside : ℕ} {inner r : Reading} → next_kind h ≡ 15 → Looks s (stop_at h) h m
-        → Reads (level_at (d - 1) 4) s sc ws m ws₂ h₂ inner → Finishes ws₂ 15 beside ws₃ h₂ h₃ inner r → Reads (level_at d 4) s sc ws h ws₃ h₃ r
+module _ {h : Held} where
+  pub operand-atom : (d : ℕ) {h' : Held} {r : Result Unit TokenFault} → opener_of h.next.kind ≡ None → Reads atom_of h h' r → Reads (level_at d 4) h h' r
+  operand-atom d e X = by {read = atom_of} (λ sc. atom_is sc (left_at h) h.next.kind (kind_is h) e d refl) X
+
+  module _ {p : Opener} (e : opener_of h.next.kind ≡ Some p) where
+    pub operand_deep : (d : ℕ) → d ≡ 0 → Reads (level_at d 4) h h (refused_here h)
+    operand_deep d z = rw z (record {
+      tells = λ rs D l. refused-there h (operand-deep _ (left_at h) h.next.kind (kind_is h) e p refl);
+      names_are = refl;
+      onward = λ q. absurd cc;
+    })
+
+  module _ {d k : ℕ} (q : d ≡ suc k) {h' : Held} {r : Result Unit TokenFault} where
+    pub operand-bracket : opener_of h.next.kind ≡ Some Bracket → Reads (bracket_at k) h h' r → Reads (level_at d 4) h h' r
+    operand-bracket e X = rw q (by {read = bracket_at k} (λ sc. bracket_is sc (left_at h) h.next.kind (kind_is h) e k refl) X)
+
+    pub operand-quantifier : {w : Quantifier} → opener_of h.next.kind ≡ Some (Quantified w) → Reads (quantified_at k w) h h' r → Reads (level_at d 4) h h' r
+    operand-quantifier {w} e X = rw q (by {read = quantified_at k w} (λ sc. quantifier_is sc (left_at h) h.next.kind (kind_is h) e k w refl) X)
+
+  module _ {d k : ℕ} (q : d ≡ suc k) {m : Held} (e : opener_of h.next.kind ≡ Some Denial) (L : Looks h.next.stop h m) where
+    denial-starts : (sc : Scope) → level_at (suc k) 4 sc (left_at h) ≡ read_then (level_at k 4 sc (left_at m)) (λ f us. got (denied f) us)
+    denial-starts sc =
+        negation_is sc (left_at h) h.next.kind (kind_is h) e k refl
+        ∙ ap (λ (us : List Token). read_then (level_at k 4 sc us) (λ f us. got (denied f) us)) (inner-left e L)
+
+    pub operand_not-refused : {h₂ : Held} {x : TokenFault} → Reads (level_at k 4) m h₂ (Err x) → Reads (level_at d 4) h h₂ (Err x)
+    operand_not-refused X = rw q (record {
+      tells = λ rs D l. rw denial-starts (told_up _ (inner-told e L X rs D l));
+      names_are = X.names_are ∙ L.names_are;
+      onward = λ q. absurd cc;
+    })
+
+    pub operand_not : {h₂ h₃ : Held} → Reads (level_at k 4) m h₂ (Ok tt) → Same h₂ h₃ → Drafts h₂.draft h₃.draft put_not → Reads (level_at d 4) h h₃ (Ok tt)
     unfolding write tracks
-    operand_not e L X A = record {
+    operand_not X A P = rw q (record {
       tells = λ rs D l.
-          let mt = L.tracks_is in
-          rw (negation_is d z sc (tokens_at s (start_at h)) (kind_is y ∙ e), taken y (omega arith) L)
-          (told_finished denied (λ g G c o. o.denies refl (write sc g rs) G) (λ g. omega arith)
-          (X.tells rs (subst (λ (n : ℕ). Drafted ws n rs) (sym L.count_is) D) (omega arith)) A);
-      size = finished_size A X.size;
-      ready = finished_ready A X.size X.ready;
-      onward = finished_onward A (λ x. let a = X.onward x in let b = (beyond y (omega arith) L).0 in omega arith);
-    }
+          let t = L.tracks_is in
+          rw denial-starts (told_made denied (left-same A) A.tracks_is (λ g G. P _ G) (λ g. omega arith) (inner-told e L X rs D l));
+      names_are = A.names_are ∙ X.names_are ∙ L.names_are;
+      onward = λ q. let a = X.onward refl in let b = inner-onward e L in rw A.next_is (omega arith);
+    })
 
 -- ---- brackets
 
-module _ (d : ℕ) {s : List ℕ} {sc : Scope} {ws h m ws₂ h₂ : List ℕ} {inner : Reading} (y : AtToken s h) (e : next_kind h ≡ 13) (L : Looks s (stop_at h) h m)
-    (X : Reads (level_at d 0) s sc ws m ws₂ h₂ inner) where
-  starts : bracket_at d sc (tokens_at s (start_at h)) ≡ read_then (level_at d 0 sc (tokens_at s (start_at m))) (λ f us. closing f us)
-  starts = bracket-starts d sc (tokens_at s (start_at h)) ∙ ap (λ (us : List Token). read_then (level_at d 0 sc us) closing) (taken y (omega arith) L)
+module _ (d : ℕ) {h m : Held} (e : opener_of h.next.kind ≡ Some Bracket) (L : Looks h.next.stop h m) where
+  starts : (sc : Scope) → bracket_at d sc (left_at h) ≡ read_then (level_at d 0 sc (left_at m)) (λ f us. closing f us)
+  starts sc = bracket-starts d sc (left_at h) ∙ ap (λ (us : List Token). read_then (level_at d 0 sc us) closing) (inner-left e L)
 
-  inside : (rs : List Record) → Drafted ws (count_at h) rs → length sc ≤ tracks_at h → Told s sc rs m ws₂ h₂ (level_at d 0 sc (tokens_at s (start_at m))) inner
-  inside rs D l = let mt = L.tracks_is in X.tells rs (subst (λ (n : ℕ). Drafted ws n rs) (sym L.count_is) D) (omega arith)
-
-  pub bracket-reads : {h₃ : List ℕ} {r : Reading} → Closes s h₂ h₃ inner r → Reads (bracket_at d) s sc ws h ws₂ h₃ r
-  bracket-reads (closes qi qr k M) =
-      let y₂ = X.ready qi in
-      record {
-        tells = λ rs D l.
-            let i = told_is (inside rs D l) qi in
-            let f = i.sentence in
-            let us = tokens_at s (start_at h₂) in
-            let ct = L.tracks_is in
-            let mt = M.tracks_is in
-            let c = i.counts in
-            told-got f (starts ∙ ap (λ (S : Read Sentence). read_then S (λ f us. closing f us)) i.reads
-            ∙ closing_is f us true (eq-eqb (peek us).kind 14 (kind_is y₂ ∙ k))
-            ∙ ap (λ (vs : List Token). got f vs) (taken y₂ (omega arith) M)) qr
-            (subst (λ (n : ℕ). Drafted ws₂ n (write sc f rs)) (sym M.count_is) i.drafts) (omega arith);
-        size = M.size;
-        ready = λ p. looks-ready M;
-        onward = λ p. let a = X.onward qi in let b = (beyond y (omega arith) L).0 in let c = (beyond y₂ (omega arith) M).0 in omega arith;
-      }
-  bracket-reads (lacks-closing qi qr n x) =
-      let y₂ = X.ready qi in
-      record {
-        tells = λ rs D l.
-            let i = told_is (inside rs D l) qi in
-            let us = tokens_at s (start_at h₂) in
-            rw (qr, x) (refused-there y₂ (starts ∙ ap (λ (S : Read Sentence). read_then S (λ f us. closing f us)) i.reads
-            ∙ closing_is i.sentence us false (ne_eqb (peek us).kind 14 (λ z. n (sym (kind_is y₂) ∙ z)))));
-        size = ap length x ∙ X.size;
-        ready = λ p. absurd (got-refused (sym p ∙ qr));
-        onward = λ p. absurd (got-refused (sym p ∙ qr));
-      }
-  bracket-reads {h₃} (closes-refused k b e qi qr x) = record {
-    tells = λ rs D l.
-        rw starts (subst (λ (q : Reading). Told s sc rs h ws₂ h₃ (read_then (level_at d 0 sc (tokens_at s (start_at m))) (λ f us. closing f us)) q) (qi ∙ sym qr)
-        (told_up sc rs h ws₂ h₃ (λ f us. closing f us) (inside rs D l) qi));
-    size = ap length x ∙ X.size;
-    ready = λ p. absurd (got-refused (sym p ∙ qr));
-    onward = λ p. absurd (got-refused (sym p ∙ qr));
+  pub bracket-refused : {h₂ : Held} {x : TokenFault} → Reads (level_at d 0) m h₂ (Err x) → Reads (bracket_at d) h h₂ (Err x)
+  bracket-refused X = record {
+    tells = λ rs D l. rw starts (told_up _ (inner-told e L X rs D l));
+    names_are = X.names_are ∙ L.names_are;
+    onward = λ q. absurd cc;
   }
 
--- ---- what the phrases tell
-
-pub binder_there : {s : List ℕ} {n at b e p : ℕ} {m : Binder} → BinderTold s n at m → m ≡ Bound b e p → BinderBound s n at b e p
-binder_there {s} {n} {at} {b} {e} {p} (bound {b = b'} {e = e'} {p = p'} w) q =
-    let x : b' ≡ b = cc in
-    let y : e' ≡ e = cc in
-    let z : p' ≡ p = cc in
-    rw (← x, ← y, ← z) w
-binder_there (told.refuses w) q = absurd (let z : ◌≡◌ {A = ℕ} 0 1 = cc in omega arith)
-
-binder_lacks : {s : List ℕ} {n at k b e : ℕ} {m : Binder} → BinderTold s n at m → m ≡ Unbound k b e
-    → (sc : Scope) → length sc ≡ n → (go : Name → List Token → Read Sentence) → RefusedAt (binder_of sc (tokens_at s at) go) k b e
-binder_lacks (bound w) q sc l go = absurd (let z : ◌≡◌ {A = ℕ} 0 1 = cc in omega arith)
-binder_lacks {s} {n} {at} {k} {b} {e} (told.refuses {k = k'} {b = b'} {e = e'} w) q sc l go =
-    let x : k' ≡ k = cc in
-    let y : b' ≡ b = cc in
-    let z : e' ≡ e = cc in
-    rw (← x, ← y, ← z) (w sc l go)
-
-pub atom-there : {s : List ℕ} {sc : Scope} {at n : ℕ} {R : Read Sentence} {a : AtomCode} {m : AtomRead} → AtomTold s sc at R m → m ≡ AtomGot a n
-    → AtomIs s sc at R a n
-atom-there {s} {sc} {at} {n} {R} {a} (reads {c = c} {p = p} w) q = let x : c ≡ a = cc in let y : p ≡ n = cc in rw (← x, ← y) w
-atom-there (told.refuses w) q = absurd (let z : ◌≡◌ {A = ℕ} 0 1 = cc in omega arith)
-
-atom-lacks : {s : List ℕ} {sc : Scope} {at k b e : ℕ} {R : Read Sentence} {m : AtomRead} → AtomTold s sc at R m → m ≡ AtomRefused k b e → RefusedAt R k b e
-atom-lacks (reads w) q = absurd (let z : ◌≡◌ {A = ℕ} 0 1 = cc in omega arith)
-atom-lacks {k = k} {b = b} {e = e} {R = R} (told.refuses {k = k'} {b = b'} {e = e'} w) q =
-    let x : k' ≡ k = cc in
-    let y : b' ≡ b = cc in
-    let z : e' ≡ e = cc in
-    rw (← x, ← y, ← z) w
+  pub bracket-reads : {h₂ h₃ : Held} {r : Result Unit TokenFault} → Reads (level_at d 0) m h₂ (Ok tt) → Closes h₂ h₃ r → Reads (bracket_at d) h h₃ r
+  bracket-reads {h₂} X (closes q k M) = record {
+    tells = λ rs D l.
+        let i = told_is (inner-told e L X rs D l) in
+        let t = L.tracks_is in
+        let u = M.tracks_is in
+        let c = i.counts in
+        told-got i.sentence (starts _ ∙ ap (λ (S : Read Sentence). read_then S (λ f us. closing f us)) i.reads
+        ∙ closing-there i.sentence (left_at h₂) (kind_is h₂ ∙ ap kind_number k)
+        ∙ ap (λ (vs : List Token). got i.sentence vs) (taken h₂ (λ z. absurd cc) M)) q
+        (rw M.draft_is i.drafts) (omega arith);
+    names_are = M.names_are ∙ X.names_are ∙ L.names_are;
+    onward = λ q. let a = X.onward refl in let b = inner-onward e L in let c = (beyond h₂ (λ z. absurd cc) M).0 in omega arith;
+  }
+  bracket-reads {h₂} X (lacks-closing q z s) = rw (q, s) (record {
+    tells = λ rs D l.
+        let i = told_is (inner-told e L X rs D l) in
+        refused-there h₂ (starts _ ∙ ap (λ (S : Read Sentence). read_then S (λ f us. closing f us)) i.reads
+        ∙ closing-lacks i.sentence (left_at h₂) (kind-other h₂ z));
+    names_are = X.names_are ∙ L.names_are;
+    onward = λ q. absurd cc;
+  })
 
 -- ---- atoms
 
+pub atom-refused : {h h' : Held} {x : TokenFault} → Same h h' → RefusedAt (atom_of (scope_of h.names) (left_at h)) x → Reads atom_of h h' (Err x)
+atom-refused S w = record { tells = λ rs D l. told-refused _ w refl; names_are = S.names_are; onward = λ q. absurd cc }
+
 -- its record is put, and the token behind it looked at
-pub atom-reads : {s : List ℕ} {sc : Scope} {ws h ws' m h' : List ℕ} {a : AtomCode} {n c : ℕ}
-    → AtomIs s sc (start_at h) (atom_of sc (tokens_at s (start_at h))) a n
-    → ((rs : List Record) (b : Atom) → a ≡ coded_atom sc b → Drafted ws (count_at h) rs → Drafted ws' c (write_atom sc b rs))
-    → Counted h c m → Looks s n m h' → Reads atom_of s sc ws h ws' h' Got
+pub atom-reads : {h m h' : Held} {a : AtomRead} → AtomIs h.names.text.now (scope_of h.names) h.next.start (atom_of (scope_of h.names) (left_at h)) a
+    → Same h m → ((sc : Scope) (b : Atom) → a.atom ≡ coded_atom sc b → Drafts h.draft m.draft (write_atom sc b)) → Looks a.next m h' → Reads atom_of h h' (Ok tt)
 unfolding write tracks
-atom-reads {s} {sc} {ws} {h} {ws'} {m} {h'} {a} {n} {c} w p C L = record {
+atom-reads {h} {m} {h'} {a} w S P L = record {
   tells = λ rs D l.
-      let t = L.tracks_is ∙ C.tracks_is in
-      told-got (atom w.said) (w.reads ∙ ap (λ (us : List Token). got (atom w.said) us) L.stands.skips) refl
-      (subst (λ (x : ℕ). Drafted ws' x (write_atom sc w.said rs)) (sym (L.count_is ∙ C.count_is)) (p rs w.said w.code_is D)) (omega arith);
-  size = L.size;
-  ready = λ q. looks-ready L;
+      let t = L.tracks_is ∙ S.tracks_is in
+      let n = L.names_are ∙ S.names_are in
+      let us : tokens_at h.names.text.now a.next ≡ left_at h' =
+      same-text (sym S.names_are) a.next ∙ L.stands.skips ∙ same-text (sym L.names_are) h'.next.start in
+      told-got (atom w.said) (w.reads ∙ ap (λ (us : List Token). got (atom w.said) us) us) refl
+      (rw L.draft_is (P (scope_of h.names) w.said w.code_is rs D)) (omega arith);
+  names_are = L.names_are ∙ S.names_are;
   onward = λ q. let a = w.onward in let f = L.stands.forward in omega arith;
 }
 
-pub atom-refused : {s : List ℕ} {sc : Scope} {ws h : List ℕ} {k b e : ℕ} {m : AtomRead} → length h ≡ 5
-    → AtomTold s sc (start_at h) (atom_of sc (tokens_at s (start_at h))) m
-    → m ≡ AtomRefused k b e → Reads atom_of s sc ws h ws (set (set h 2 b) 4 e) (reading_of k (set (set h 2 b) 4 e))
-atom-refused {s} {sc} {ws} {h} {k} {b} {e} l v q =
-    let w = atom-lacks v q in
-    let p = refused-put k b e h (atom-some sc (tokens_at s (start_at h)) k w.token w.refuses) l in
-    record {
-      tells = λ rs D l. told-refused _ w.token w.refuses (p.0 ∙ rw (w.start_is, w.stop_is) refl);
-      size = p.1;
-      ready = λ x. absurd (got-refused (sym x ∙ p.0));
-      onward = λ x. absurd (got-refused (sym x ∙ p.0));
-    }
-
 -- ---- quantifiers
 
-module _ (d : ℕ) {s h : List ℕ} (y : AtToken s h) (l : 3 ≤ next_kind h) (g : next_kind h ≤ 6) where
-  quantified_starts : (sc : Scope) → quantified_at d (next_kind h) sc (tokens_at s (start_at h))
-      ≡ binder_of sc (tokens_at s (stop_at h)) (λ x vs. read_then (level_at d 0 (record { name = x; order = order_by (next_kind h) } ∷ sc) vs)
-      (λ f us. got (quantifier_by (next_kind h) (order_by (next_kind h)) x f) us))
+-- the names in use under a quantifier, and the sentence that it makes
+abbrev bound_scope : Quantifier → Binder → Held → Scope
+bound_scope q b h = record { name = part h.names.text.now b.start b.stop; order = order_by q } ∷ scope_of h.names
+
+abbrev bound-sentence : Quantifier → Binder → Held → Sentence → Sentence
+bound-sentence q b h f = quantifier_by q (order_by q) (part h.names.text.now b.start b.stop) f
+
+-- the name of b is in use too, and its track is taken
+pub record Inner (q : Quantifier) (b : Binder) (h m : Held) : Type 0 where
+  pub text_is : m.names.text.now ≡ h.names.text.now
+  pub scope_is : scope_of m.names ≡ bound_scope q b h
+  pub draft_is : m.draft ≡ h.draft
+  pub tracks_is : m.tracks ≡ max h.tracks (h.names.count + 1)
+
+pub inner_is : {q : Quantifier} {b : Binder} {h m : Held} {o : OrderCode} → NewName h.names (record { start = b.start; stop = b.stop; order = o }) m.names
+    → order_of o ≡ order_by q → m.draft ≡ h.draft → m.tracks ≡ max h.tracks (h.names.count + 1) → Inner q b h m
+inner_is {b = b} {h} B e d t = record {
+  text_is = B.text;
+  scope_is = B.scope ∙ ap (λ (o : Order). record { name = part h.names.text.now b.start b.stop; order = o } ∷ scope_of h.names) e;
+  draft_is = d;
+  tracks_is = t;
+}
+
+module _ (d : ℕ) {q : Quantifier} (h : Held) (e : opener_of h.next.kind ≡ Some (Quantified q)) where
+  quantified_starts : (sc : Scope) → quantified_at d q sc (left_at h) ≡ binder_of sc (tokens_at h.names.text.now h.next.stop)
+      (λ x vs. read_then (level_at d 0 (record { name = x; order = order_by q } ∷ sc) vs) (λ f us. got (quantifier_by q (order_by q) x f) us))
   unfolding quantified_at
-  quantified_starts sc = let e = y.stands.goes_on (λ e. let z : next_kind h ≡ 25 = e in omega arith) in rw e refl
+  quantified_starts sc = rw (h.stands.goes_on (opens-no_end e)) refl
 
-  pub quantified_unbound : (ns : List ℕ) (n : ℕ) {ws : List ℕ} {k b e : ℕ} {m : Binder} → BinderTold s n (stop_at h) m → m ≡ Unbound k b e
-      → Reads (quantified_at d (next_kind h)) s (scope_of s ns n) ws h ws (set (set h 2 b) 4 e) (reading_of k (set (set h 2 b) 4 e))
-  quantified_unbound ns n {k = k} {b = b} {e = e} w q =
-      let sc = scope_of s ns n in
-      let v = binder_lacks w q sc (scope-length s ns n) in
-      let u = v (λ x vs. got (atom (sub x x)) vs) in
-      let p = refused-put k b e h (binder_some sc (tokens_at s (stop_at h)) k u.token u.refuses) y.size in
-      record {
-        tells = λ rs D x. let u = v _ in told-refused _ u.token (quantified_starts sc ∙ u.refuses) (p.0 ∙ rw (u.start_is, u.stop_is) refl);
-        size = p.1;
-        ready = λ x. absurd (got-refused (sym x ∙ p.0));
-        onward = λ x. absurd (got-refused (sym x ∙ p.0));
-      }
+  pub quantified_unbound : {h' : Held} {x : TokenFault} → Same h h'
+      → ((sc : Scope) → length sc ≡ h.names.count → (go : Name → List Token → Read Sentence)
+      → RefusedAt (binder_of sc (tokens_at h.names.text.now h.next.stop) go) x)
+      → Reads (quantified_at d q) h h' (Err x)
+  quantified_unbound S w = record {
+    tells = λ rs D l. rw (quantified_starts (scope_of h.names)) (told-refused _ (w (scope_of h.names) (scope-length h.names) _) refl);
+    names_are = S.names_are;
+    onward = λ q. absurd cc;
+  }
 
-  -- the name is in use in its formula, which was read, and the quantifier's own records were put
-  module _ (ns : List ℕ) (n : ℕ) {ws ms m k ws₂ h₂ ws₃ h₃ : List ℕ} {b e o p : ℕ} {body r : Reading} (w : BinderBound s n (stop_at h) b e p)
-      (B : NewName ns n b e o ms) (q : order_of o ≡ order_by (next_kind h)) (T : Tracked h (max (tracks_at h) (n + 1)) m) (L : Looks s p m k)
-      (X : Reads (level_at d 0) s (scope_of s ms (n + 1)) ws k ws₂ h₂ body) (A : Finishes ws₂ (next_kind h) n ws₃ h₂ h₃ body r) where
-    inner-scope : scope_of s ms (n + 1) ≡ record { name = part s b e; order = order_by (next_kind h) } ∷ scope_of s ns n
-    inner-scope =
-        let x : n + 1 ≡ suc n = omega arith in
-        ap (λ (i : ℕ). scope_of s ms i) x ∙ B.scope s ∙ ap (λ (a : Order). record { name = part s b e; order = a } ∷ scope_of s ns n) q
+  module _ {m n : Held} {b : Binder} (w : BinderBound h.names.text.now h.names.count h.next.stop b) (I : Inner q b h m) (L : Looks b.next m n) where
+    body-starts : quantified_at d q (scope_of h.names) (left_at h)
+        ≡ read_then (level_at d 0 (bound_scope q b h) (left_at n)) (λ f us. got (bound-sentence q b h f) us)
+    body-starts =
+        quantified_starts (scope_of h.names) ∙ w.reads (scope_of h.names) (scope-length h.names) _
+        ∙ ap (λ (us : List Token). read_then (level_at d 0 (bound_scope q b h) us) (λ f us. got (bound-sentence q b h f) us))
+        (ap (λ (s : List ℕ). tokens_at s b.next) (sym I.text_is) ∙ L.stands.skips ∙ same-text (sym L.names_are) n.next.start)
 
-    pub quantified_reads : Reads (quantified_at d (next_kind h)) s (scope_of s ns n) ws h ws₃ h₃ r
-    quantified_reads = record {
-      tells = tells;
-      size = finished_size A X.size;
-      ready = finished_ready A X.size X.ready;
-      onward = finished_onward A (λ x. let a = X.onward x in let f = L.stands.forward in let o = w.onward in let z = y.stands.ordered in omega arith);
+    body-told : {h₂ : Held} {r : Result Unit TokenFault} → Reads (level_at d 0) n h₂ r → (rs : List Record) → Drafted h.draft rs
+        → length (scope_of h.names) ≤ h.tracks → Told (bound_scope q b h) rs n h₂ (level_at d 0 (bound_scope q b h) (left_at n)) r
+    body-told {h₂} {r} X rs D l =
+        let s : scope_of n.names ≡ (bound_scope q b h) = ap scope_of L.names_are ∙ I.scope_is in
+        let t = L.tracks_is ∙ I.tracks_is in
+        let ln = scope-length h.names in
+        subst (λ (sx : Scope). Told sx rs n h₂ (level_at d 0 sx (left_at n)) r) s
+        (X.tells rs (rw (L.draft_is ∙ I.draft_is) D) (rw s (omega arith)))
+
+    pub quantified-refused : {h₂ h₃ : Held} {x : TokenFault} → Reads (level_at d 0) n h₂ (Err x) → h₃.names ≡ h.names → Reads (quantified_at d q) h h₃ (Err x)
+    quantified-refused X back = record {
+      tells = λ rs D l. rw body-starts (told_up _ (body-told X rs D l));
+      names_are = back;
+      onward = λ q. absurd cc;
     }
-      where
-        tells : (rs : List Record) → Drafted ws (count_at h) rs → length (scope_of s ns n) ≤ tracks_at h
-            → Told s (scope_of s ns n) rs h ws₃ h₃ (quantified_at d (next_kind h) (scope_of s ns n) (tokens_at s (start_at h))) r
-        tells rs D u =
-            let sc = scope_of s ns n in
-            let x = part s b e in
-            let sd : List Declared = record { name = x; order = order_by (next_kind h) } ∷ sc in
-            let kq = quantifier_of (next_kind h) l g in
-            let ln = scope-length s ns n in
-            let make = quantifier_by (next_kind h) (order_by (next_kind h)) x in
-            let tm = L.tracks_is ∙ T.tracks_is in
-            let ct = L.count_is ∙ T.count_is in
-            let started = quantified_starts sc
-            ∙ w.reads sc ln (λ x vs. read_then (level_at d 0 (record { name = x; order = order_by (next_kind h) } ∷ sc) vs)
-            (λ f us. got (quantifier_by (next_kind h) (order_by (next_kind h)) x f) us))
-            ∙ ap (λ (us : List Token). read_then (level_at d 0 sd us) (λ f us. got (make f) us)) L.stands.skips in
-            let inside : Told s sd rs k ws₂ h₂ (level_at d 0 sd (tokens_at s (start_at k))) body =
-            subst (λ (sx : List Declared). Told s sx rs k ws₂ h₂ (level_at d 0 sx (tokens_at s (start_at k))) body) inner-scope
-            (X.tells rs (subst (λ (i : ℕ). Drafted ws i rs) (sym ct) D) (let il = scope-length s ms (n + 1) in omega arith)) in
-            rw started (told_finished make (λ f G c o. rw (← write_quantified kq sc x f rs, ln) (o.binds g (write sd f rs) G))
-            (λ f. rw (tracks_quantified kq (length sc) (order_by (next_kind h)) x f) (let t = tracks-least f (suc (length sc)) in omega arith)) inside A)
 
-pub bound-fits : {s ns ms : List ℕ} {n b e o : ℕ} → NewName ns n b e o ms → NamesFit s ns n → Span s b e → NamesFit s ms (n + 1)
-bound-fits {s} {ns} {ms} {n} w f p = let x : suc n ≡ n + 1 = omega arith in subst (λ (i : ℕ). NamesFit s ms i) x (w.fit s f p)
-
-pub tracked_as : {h : List ℕ} {n m : ℕ} → length h ≡ 5 → n ≡ m → Tracked h m (set h 3 n)
-tracked_as {h} {n} l e = subst (λ (k : ℕ). Tracked h k (set h 3 n)) e (tracked l)
-
-pub size-after : (h : List ℕ) (i c : ℕ) → length h ≡ 5 → length (set h i c) ≡ 5
-size-after h i c l = length-set h i c ∙ l
-
--- what is known of the array after a first part
-pub left-of : {read : Reader} {s : List ℕ} {sc : Scope} {ws h ws' h' : List ℕ} (r : ℕ) → Reads read s sc ws h ws' h' (reading_of r h') → Left s h' r
-left-of {h' = h'} r X = record { size = X.size; ready = λ z. X.ready (got-zero h' z) }
-
--- where the operands of an operator begin
-pub joined-left : {s : List ℕ} {sc : Scope} {d k : ℕ} {ws h : List ℕ} {r : ℕ} → Joining k → Left s h r
-    → Joined s sc d k ws h (reading_of r h) ws h (reading_of r h)
-joined-left {h = h} {r = r} j L = joined-first j L.size (λ q. L.ready (zero-got r q))
-  where
-    zero-got : (n : ℕ) → reading_of n h ≡ Got → n ≡ 0
-    zero-got zero e = refl
-    zero-got (suc n) e = absurd (got-refused (sym e))
+    -- the name is in use in its formula, which was read, and the quantifier's own records were put
+    pub quantified_reads : {h₂ h₃ : Held} → Reads (level_at d 0) n h₂ (Ok tt) → h₃.names ≡ h.names → h₃.next ≡ h₂.next → h₃.tracks ≡ h₂.tracks
+        → Drafts h₂.draft h₃.draft (put_quantified q h.names.count) → Reads (quantified_at d q) h h₃ (Ok tt)
+    quantified_reads {h₂} {h₃} X back e t P = record {
+      tells = λ rs D l.
+          let ln = scope-length h.names in
+          let x = part h.names.text.now b.start b.stop in
+          let k = L.tracks_is ∙ I.tracks_is in
+          let us : left_at h₃ ≡ left_at h₂ =
+          same-text back h₃.next.start ∙ ap (λ (u : TokenRead). tokens_at h.names.text.now u.start) e
+          ∙ ap (λ (s : List ℕ). tokens_at s h₂.next.start) (sym (ap (λ (ns : Names). ns.text.now) (X.names_are ∙ L.names_are) ∙ I.text_is)) in
+          rw body-starts (told_made (bound-sentence q b h) us t
+          (λ f G. rw (← write_quantified q (scope_of h.names) x f rs, ln) (P _ G))
+          (λ f. rw (tracks_quantified q (length (scope_of h.names)) (order_by q) x f)
+          (let z = tracks-least f (suc (length (scope_of h.names))) in omega arith))
+          (body-told X rs D l));
+      names_are = back;
+      onward = λ q. let a = X.onward refl in let f = L.stands.forward in let o = w.onward in let z = h.stands.ordered in rw e (omega arith);
+    }

@@ -1,3 +1,2 @@
-pub mod TokenKinds
 pub mod Strengths
 pub mod Levels

@@ -1,387 +1,257 @@
 // Formulas of a text, read and drafted. "A bracketed formula holds formulas, which hold bracketed ones": the readers call each other, and at each
-// call what is left of the text, the levels that may still open, or the operators that may still join fall. Where reading has come to is one
-// array, lent to all of them: the kind, start and stop of the token that stands next, the records so far (129 for any more than 128), and how
-// many tracks were taken. A reader answers 0, or the number of a refusal, whose token is then the array's. The names in use are entries of
-// three numbers (`tokens::names`).
+// call what is left of the text, the levels that may still open, or the operators that may still join fall.
 #![tactic(auto)]
 
-ghost use Rattle.std.specs.Prelude.{◌≡◌, suc, ◌<◌, ◌≤◌, max, length};
-ghost use Rattle.text.specs.Token.{ex1_kind, all2_kind, opening_kind, not_kind, alike_kind};
+ghost use Rattle.std.specs.Prelude.{◌≡◌, suc, [], MatchResult};
+ghost use Rattle.refusals.specs.declared.Reason.TheVariants as reason;
 ghost use Rattle.text.specs.Grammar.{atom_of};
-ghost use Rattle.tokens.specs.InUse.{order_of, scope_of, NamesFit};
-ghost use Rattle.formulas.specs.Reading.{level_at, opens_by, bracket_at, place_by, order_by, quantified_at, Joining};
-ghost use Rattle.formulas.specs.Reading.{next_kind, AtToken, Looks, reading_of, Reads, Left, Leads, Owns, Finishes, Closes};
+ghost use Rattle.tokens.specs.Named.{order_of};
+ghost use Rattle.tokens.specs.Tokens.{StandsNext, refused_at};
+ghost use Rattle.drafting.specs.Draft.{Drafted};
+ghost use Rattle.formulas.specs.declared.Opener.TheVariants.{Bracket, Quantified};
+ghost use Rattle.formulas.specs.Words.{opener_of, order_by, mark_of};
 
-use text::kinds;
-use tokens::Token;
+use drafting::{Draft, Operator, Quantifier};
+use refusals::Reason;
+use text::kinds::Kind;
+use tokens::names::{Name, Names, Order};
+use tokens::{Token, TokenFault};
 
-// The places of that array. Those of a token are apart: side by side they would be moved in pairs, which a processor does slower than one by one.
-pub const KIND: usize = 0;
-
-pub const COUNT: usize = 1;
-
-pub const START: usize = 2;
-
-pub const TRACKS: usize = 3;
-
-pub const STOP: usize = 4;
-
-// The token that stands next from a place on.
-pub fn look(text: &[u8], here: &mut [usize; 5], at: usize)
-    requires { length here.old ≡ 5 }
-    ensures { Looks text.now at here.old here.new }
-{
-    let t = tokens::token_at(text, at);
-    here[KIND] = t.kind;
-    here[START] = t.start;
-    here[STOP] = t.stop;
+// Where reading has come to in a text: the names in use, the token that stands next, the records so far, and how many tracks were taken.
+#[derive(Drop)]
+pub struct Reader<'t> {
+    pub names: Names<'t>,
+    pub next: Token,
+    pub draft: Draft,
+    pub tracks: usize,
+    pub ghost stands: { StandsNext names.text.now next.start next },
 }
 
-// Whether a token of that kind opens a level before an operand: a quantifier word, a bracket or `~`.
-fn opens(kind: usize) -> bool
-    ensures { result ≡ opens_by kind }
-{
-    if kind < kinds::EX1 {
-        return false;
-    }
-    if kind <= kinds::ALL2 {
-        return true;
-    }
-    if kind == kinds::OPENING {
-        return true;
-    }
-    kind == kinds::NOT
+// What opens a level before an operand: a bracket, `~`, or a quantifier word.
+#[derive(Clone, Copy)]
+enum Opener {
+    Bracket,
+    Denial,
+    Quantified(Quantifier),
 }
 
-// Whether a quantifier word of that kind binds a place, as `ex1` and `all1` do, or else a set.
-fn binds_place(kind: usize) -> bool
-    ensures { result ≡ place_by kind }
+// What a token of that kind opens, if it opens a level.
+fn opens(kind: Kind) -> Option<Opener>
+    ensures { result ≡ opener_of kind }
 {
-    if kind == kinds::EX1 {
-        return true;
+    match kind {
+        Kind::Opening => Some(Opener::Bracket),
+        Kind::Not => Some(Opener::Denial),
+        Kind::Ex1 => Some(Opener::Quantified(Quantifier::SomePlace)),
+        Kind::Ex2 => Some(Opener::Quantified(Quantifier::SomeSet)),
+        Kind::All1 => Some(Opener::Quantified(Quantifier::EveryPlace)),
+        Kind::All2 => Some(Opener::Quantified(Quantifier::EverySet)),
+        _ => None,
     }
-    kind == kinds::ALL1
 }
 
-fn greater(a: usize, b: usize) -> usize
-    ensures { result ≡ max a b }
+// What the name that a quantifier word binds stands for.
+fn order(quantifier: Quantifier) -> Order
+    ensures { order_of result ≡ order_by quantifier }
 {
-    if a < b {
-        return b;
+    match quantifier {
+        Quantifier::SomePlace | Quantifier::EveryPlace => Order::First,
+        Quantifier::SomeSet | Quantifier::EverySet => Order::Second,
     }
-    a
 }
 
-// The records that a construct puts behind those of its last part. Beside it stands the count after its left side, or the track that it binds.
-fn own_records(words: &mut [u64; 128], kind: usize, beside: usize, count: usize) -> usize
-    requires ex1kind_le_kind { (ex1_kind ≤ kind) × (kind ≤ alike_kind) }
-    requires kind_le_all2kind { kind < not_kind → (kind ≤ all2_kind) × (beside < 128) }
-    ensures { Owns words.old kind beside count words.new result }
+// The mark of an operator.
+fn mark(operator: Operator) -> Kind
+    ensures { result ≡ mark_of operator }
 {
-    if kind == kinds::NOT {
-        return drafting::put_not(words, count);
+    match operator {
+        Operator::Alike => Kind::Alike,
+        Operator::Implies => Kind::Implies,
+        Operator::Or => Kind::Or,
+        Operator::And => Kind::And,
     }
-    if kind < kinds::NOT {
-        return drafting::put_quantified(words, kind, beside, count);
-    }
-    drafting::put_joined(words, kind, beside, count)
 }
 
-// A construct whose last part was read.
-fn finish(
-    words: &mut [u64; 128],
-    here: &mut [usize; 5],
-    kind: usize,
-    beside: usize,
-    inner: u64,
-) -> u64
-    requires here_len { length here.old ≡ 5 }
-    requires ex1kind_le_kind { (ex1_kind ≤ kind) × (kind ≤ alike_kind) }
-    requires kind_le_all2kind { kind < not_kind → (kind ≤ all2_kind) × (beside < 128) }
-    ensures { Finishes words.old kind beside words.new here.old here.new
-        (reading_of inner here.old) (reading_of result here.new) }
-{
-    if inner != 0 {
-        return inner;
-    }
-    here[COUNT] = own_records(words, kind, beside, here[COUNT]);
-    0
-}
+impl<'t> Reader<'t> {
+    ghost use Rattle.formulas.specs.Reading.{level_at, strength_of, bracket_at, quantified_at, Joining};
+    ghost use Rattle.formulas.specs.Reading.{Looks, refused_here, Reads, Leads, Closes};
 
-// The bracket that closes a formula.
-fn close(text: &[u8], here: &mut [usize; 5], inner: u64) -> u64
-    requires { length here.old ≡ 5 }
-    ensures { Closes text.now here.old here.new (reading_of inner here.old)
-        (reading_of result here.new) }
-{
-    if inner != 0 {
-        return inner;
-    }
-    if here[KIND] != kinds::CLOSING {
-        return 23;
-    }
-    let behind = here[STOP];
-    look(text, here, behind);
-    0
-}
-
-// An atom, with its record.
-fn atom(
-    text: &[u8],
-    names: &[usize; 24],
-    in_use: usize,
-    words: &mut [u64; 128],
-    here: &mut [usize; 5],
-) -> u64
-    requires names_fit { NamesFit text.now names.now in_use }
-    requires at_token { AtToken text.now here.old }
-    ensures { Reads atom_of text.now (scope_of text.now names.now in_use) words.old here.old
-        words.new here.new (reading_of result here.new) }
-{
-    let left = Token {
-        kind: here[KIND],
-        start: here[START],
-        stop: here[STOP],
-    };
-    match phrases::read_atom(text, names, in_use, left) {
-        phrases::AtomRead::Read { atom, next } => {
-            here[COUNT] = drafting::put_atom(words, here[COUNT], atom);
-            look(text, here, next);
-            0
-        }
-        phrases::AtomRead::Refused {
-            number,
-            start,
-            stop,
-        } => {
-            here[START] = start;
-            here[STOP] = stop;
-            number
+    // At a text's first token, with nothing read.
+    pub fn new(text: &'t [u8]) -> Reader<'t>
+        ensures text_value { result.names.text.now ≡ text.now }
+        ensures none { Drafted result.draft [] }
+    {
+        Reader {
+            names: Names::new(text),
+            next: tokens::token_at(text, 0),
+            draft: Draft::new(),
+            tracks: 0,
         }
     }
-}
 
-// A formula in which no operator weaker than that of a strength joins: 0 is `<=>`, 1 `=>`, 2 `|`, 3 `&`. Its first operand is read once, and then
-// each operator may go on from there, the strongest first.
-#[cycle(formula)]
-pub fn formula(
-    text: &[u8],
-    names: &[usize; 24],
-    in_use: usize,
-    words: &mut [u64; 128],
-    here: &mut [usize; 5],
-    depth: usize,
-    strength: usize,
-) -> u64
-    requires names_fit { NamesFit text.now names.now in_use }
-    requires at_token { AtToken text.now here.old }
-    requires strength_bound { strength ≤ 3 }
-    ensures { Reads (level_at depth strength) text.now (scope_of text.now names.now in_use) words.old
-        here.old words.new here.new (reading_of result here.new) }
-{
-    let first = operand(text, names, in_use, words, here, depth);
-    let both = more(text, names, in_use, words, here, depth, 3, first);
-    if strength == 3 {
-        return both;
+    // The token that stands next from a place on.
+    pub fn look(&mut self, at: usize)
+        ensures { Looks at self.old self.new }
+    {
+        self.next = tokens::token_at(self.names.text, at);
     }
-    let either = more(text, names, in_use, words, here, depth, 2, both);
-    if strength == 2 {
-        return either;
-    }
-    let implied = arrow(text, names, in_use, words, here, depth, either);
-    if strength == 1 {
-        return implied;
-    }
-    more(text, names, in_use, words, here, depth, 0, implied)
-}
 
-// The operands that the operator of that strength, `<=>`, `|` or `&`, joins to the first: "`=>` groups to the right, the others to the left".
-#[cycle(formula)]
-fn more(
-    text: &[u8],
-    names: &[usize; 24],
-    in_use: usize,
-    words: &mut [u64; 128],
-    here: &mut [usize; 5],
-    depth: usize,
-    strength: usize,
-    first: u64,
-) -> u64
-    requires names_fit { NamesFit text.now names.now in_use }
-    requires left { Left text.now here.old first }
-    requires joining { Joining strength }
-    ensures { Leads (level_at depth (suc strength)) (level_at depth strength) text.now
-        (scope_of text.now names.now in_use) words.old here.old (reading_of first here.old)
-        words.new here.new (reading_of result here.new) }
-{
-    let mut reading = first;
-    loop {
-        if reading != 0 {
-            return reading;
+    // The levels that may open inside one more, which opens at the token that stands next.
+    fn deeper(&self, depth: usize) -> Result<usize, TokenFault>
+        ensures { MatchResult result (λ d. depth ≡ suc d) (λ x. (depth ≡ 0) × (x ≡ refused_at self.now.next reason.TextGrammar)) }
+    {
+        depth
+            .checked_sub(1)
+            .ok_or(self.next.refused(Reason::TextGrammar))
+    }
+
+    // The bracket that closes a formula.
+    fn close(&mut self) -> Result<(), TokenFault>
+        ensures { Closes self.old self.new result }
+    {
+        if self.next.kind != Kind::Closing {
+            return Err(self.next.refused(Reason::TextGrammar));
         }
-        if here[KIND] != kinds::ALIKE - strength {
-            return 0;
+        self.look(self.next.stop);
+        Ok(())
+    }
+
+    // An atom, with its record.
+    fn atom(&mut self) -> Result<(), TokenFault>
+        ensures { Reads atom_of self.old self.new result }
+    {
+        let read = phrases::read_atom(&self.names, self.next)?;
+        self.draft.put_atom(read.atom);
+        self.look(read.next);
+        Ok(())
+    }
+
+    // A formula in which no operator weaker than this one joins. Its first operand is read once, and then each operator may go on from there, the
+    // strongest first. Its helpers are inlined, so that a level takes two frames, this one and an operand's.
+    #[cycle(formula)]
+    pub fn formula(&mut self, depth: usize, weakest: Operator) -> Result<(), TokenFault>
+        ensures { Reads (level_at depth (strength_of weakest)) self.old self.new result }
+    {
+        self.operand(depth)?;
+        self.more(depth, Operator::And)?;
+        if weakest == Operator::And {
+            return Ok(());
         }
-        let left = here[COUNT];
-        let behind = here[STOP];
-        look(text, here, behind);
-        let right = tighter(text, names, in_use, words, here, depth, strength);
-        reading = finish(words, here, kinds::ALIKE - strength, left, right);
-    }
-}
-
-// An operand of the operator of that strength.
-#[cycle(formula)]
-fn tighter(
-    text: &[u8],
-    names: &[usize; 24],
-    in_use: usize,
-    words: &mut [u64; 128],
-    here: &mut [usize; 5],
-    depth: usize,
-    strength: usize,
-) -> u64
-    requires names_fit { NamesFit text.now names.now in_use }
-    requires at_token { AtToken text.now here.old }
-    requires strength_bound { strength ≤ 3 }
-    ensures { Reads (level_at depth (suc strength)) text.now (scope_of text.now names.now in_use)
-        words.old here.old words.new here.new (reading_of result here.new) }
-{
-    if strength == 3 {
-        return operand(text, names, in_use, words, here, depth);
-    }
-    formula(text, names, in_use, words, here, depth, strength + 1)
-}
-
-// "`=>` groups to the right", and its right side is a level of its own.
-#[cycle(formula)]
-fn arrow(
-    text: &[u8],
-    names: &[usize; 24],
-    in_use: usize,
-    words: &mut [u64; 128],
-    here: &mut [usize; 5],
-    depth: usize,
-    left: u64,
-) -> u64
-    requires names_fit { NamesFit text.now names.now in_use }
-    requires left { Left text.now here.old left }
-    ensures { Leads (level_at depth 2) (level_at depth 1) text.now (scope_of text.now names.now in_use)
-        words.old here.old (reading_of left here.old) words.new here.new
-        (reading_of result here.new) }
-{
-    if left != 0 {
-        return left;
-    }
-    if here[KIND] != kinds::IMPLIES {
-        return 0;
-    }
-    if depth == 0 {
-        return 23;
-    }
-    let denied = drafting::put_not(words, here[COUNT]);
-    let behind = here[STOP];
-    here[COUNT] = denied;
-    look(text, here, behind);
-    let right = formula(text, names, in_use, words, here, depth - 1, 1);
-    finish(words, here, kinds::IMPLIES, denied, right)
-}
-
-// What `~` denies: an atom, or what stands behind a token that opens a level.
-#[cycle(formula)]
-fn operand(
-    text: &[u8],
-    names: &[usize; 24],
-    in_use: usize,
-    words: &mut [u64; 128],
-    here: &mut [usize; 5],
-    depth: usize,
-) -> u64
-    requires names_fit { NamesFit text.now names.now in_use }
-    requires at_token { AtToken text.now here.old }
-    ensures { Reads (level_at depth 4) text.now (scope_of text.now names.now in_use) words.old
-        here.old words.new here.new (reading_of result here.new) }
-{
-    let kind = here[KIND];
-    if !opens(kind) {
-        return atom(text, names, in_use, words, here);
-    }
-    if depth == 0 {
-        return 23;
-    }
-    if kind == kinds::OPENING {
-        return bracket(text, names, in_use, words, here, depth - 1);
-    }
-    if kind == kinds::NOT {
-        let behind = here[STOP];
-        look(text, here, behind);
-        let inner = operand(text, names, in_use, words, here, depth - 1);
-        return finish(words, here, kinds::NOT, 0, inner);
-    }
-    if binds_place(kind) {
-        return quantified(text, names, in_use, words, here, depth - 1, 1);
-    }
-    quantified(text, names, in_use, words, here, depth - 1, 2)
-}
-
-// An opening bracket, a formula and its closing bracket.
-#[cycle(formula)]
-fn bracket(
-    text: &[u8],
-    names: &[usize; 24],
-    in_use: usize,
-    words: &mut [u64; 128],
-    here: &mut [usize; 5],
-    depth: usize,
-) -> u64
-    requires names_fit { NamesFit text.now names.now in_use }
-    requires at_token { AtToken text.now here.old }
-    requires here_value { next_kind here.old ≡ opening_kind }
-    ensures { Reads (bracket_at depth) text.now (scope_of text.now names.now in_use) words.old
-        here.old words.new here.new (reading_of result here.new) }
-{
-    let behind = here[STOP];
-    look(text, here, behind);
-    let inner = formula(text, names, in_use, words, here, depth, 0);
-    close(text, here, inner)
-}
-
-// A quantifier word, what it binds, of that order, and the formula that it reaches over. The names in use are copied here alone, which happens
-// at most eight times on the way down.
-#[cycle(formula)]
-fn quantified(
-    text: &[u8],
-    names: &[usize; 24],
-    in_use: usize,
-    words: &mut [u64; 128],
-    here: &mut [usize; 5],
-    depth: usize,
-    order: usize,
-) -> u64
-    requires names_fit { NamesFit text.now names.now in_use }
-    requires at_token { AtToken text.now here.old }
-    requires ex1kind_bound { (ex1_kind ≤ next_kind here.old) × (next_kind here.old ≤ all2_kind) }
-    requires order_value { order_of order ≡ order_by (next_kind here.old) }
-    ensures { Reads (quantified_at depth (next_kind here.old)) text.now (scope_of text.now names.now in_use)
-        words.old here.old words.new here.new (reading_of result here.new) }
-{
-    let kind = here[KIND];
-    match phrases::read_binder(text, in_use, here[STOP]) {
-        phrases::Binder::Bound { start, stop, next } => {
-            let inner = tokens::names::bound(names, in_use, start, stop, order);
-            here[TRACKS] = greater(here[TRACKS], in_use + 1);
-            look(text, here, next);
-            let body = formula(text, &inner, in_use + 1, words, here, depth, 0);
-            finish(words, here, kind, in_use, body)
+        self.more(depth, Operator::Or)?;
+        if weakest == Operator::Or {
+            return Ok(());
         }
-        phrases::Binder::Refused {
-            number,
-            start,
-            stop,
-        } => {
-            here[START] = start;
-            here[STOP] = stop;
-            number
+        self.arrow(depth)?;
+        if weakest == Operator::Implies {
+            return Ok(());
         }
+        self.more(depth, Operator::Alike)
+    }
+
+    // The operands that the operator, `<=>`, `|` or `&`, joins to the first: "`=>` groups to the right, the others to the left".
+    #[cycle(formula)]
+    #[inline(always)]
+    fn more(&mut self, depth: usize, operator: Operator) -> Result<(), TokenFault>
+        requires { Joining operator }
+        ensures { Leads (level_at depth (suc (strength_of operator))) (level_at depth (strength_of operator)) self.old self.new result }
+    {
+        let mark = mark(operator);
+        while self.next.kind == mark {
+            let left = self.draft.count;
+            self.look(self.next.stop);
+            self.tighter(depth, operator)?;
+            self.draft.put_joined(operator, left);
+        }
+        Ok(())
+    }
+
+    // An operand of the operator.
+    #[cycle(formula)]
+    #[inline(always)]
+    fn tighter(&mut self, depth: usize, operator: Operator) -> Result<(), TokenFault>
+        ensures { Reads (level_at depth (suc (strength_of operator))) self.old self.new result }
+    {
+        match operator {
+            Operator::And => self.operand(depth),
+            Operator::Or => self.formula(depth, Operator::And),
+            Operator::Implies => self.formula(depth, Operator::Or),
+            Operator::Alike => self.formula(depth, Operator::Implies),
+        }
+    }
+
+    // "`=>` groups to the right", and its right side is a level of its own.
+    #[cycle(formula)]
+    #[inline(always)]
+    fn arrow(&mut self, depth: usize) -> Result<(), TokenFault>
+        ensures { Leads (level_at depth 2) (level_at depth 1) self.old self.new result }
+    {
+        if self.next.kind != Kind::Implies {
+            return Ok(());
+        }
+        let deeper = self.deeper(depth)?;
+        self.draft.put_not();
+        let denied = self.draft.count;
+        self.look(self.next.stop);
+        self.formula(deeper, Operator::Implies)?;
+        self.draft.put_joined(Operator::Implies, denied);
+        Ok(())
+    }
+
+    // What `~` denies: an atom, or what stands behind a token that opens a level.
+    #[cycle(formula)]
+    fn operand(&mut self, depth: usize) -> Result<(), TokenFault>
+        ensures { Reads (level_at depth 4) self.old self.new result }
+    {
+        let Some(opener) = opens(self.next.kind) else {
+            return self.atom();
+        };
+        let deeper = self.deeper(depth)?;
+        match opener {
+            Opener::Bracket => self.bracket(deeper),
+            Opener::Quantified(quantifier) => self.quantified(deeper, quantifier),
+            Opener::Denial => {
+                self.look(self.next.stop);
+                self.operand(deeper)?;
+                self.draft.put_not();
+                Ok(())
+            }
+        }
+    }
+
+    // An opening bracket, a formula and its closing bracket.
+    #[cycle(formula)]
+    fn bracket(&mut self, depth: usize) -> Result<(), TokenFault>
+        requires { opener_of self.old.next.kind ≡ Some Bracket }
+        ensures { Reads (bracket_at depth) self.old self.new result }
+    {
+        self.look(self.next.stop);
+        self.formula(depth, Operator::Alike)?;
+        self.close()
+    }
+
+    // A quantifier word, what it binds, and the formula that it reaches over. The names in use are copied here alone, which happens at most eight
+    // times on the way down: inlined, the copies would lie in every level's frame.
+    #[cycle(formula)]
+    #[inline(never)]
+    fn quantified(&mut self, depth: usize, quantifier: Quantifier) -> Result<(), TokenFault>
+        requires { opener_of self.old.next.kind ≡ Some (Quantified quantifier) }
+        ensures { Reads (quantified_at depth quantifier) self.old self.new result }
+    {
+        let binder = phrases::read_binder(&self.names, self.next.stop)?;
+        let name = Name {
+            start: binder.start,
+            stop: binder.stop,
+            order: order(quantifier),
+        };
+        let outer = self.names;
+        let track = outer.count;
+        self.names = outer.with(name);
+        self.tracks = self.tracks.max(track + 1);
+        self.look(binder.next);
+        let body = self.formula(depth, Operator::Alike);
+        self.names = outer;
+        body?;
+        self.draft.put_quantified(quantifier, track);
+        Ok(())
     }
 }

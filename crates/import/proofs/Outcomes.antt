@@ -1,5 +1,5 @@
 -- What import answers and leaves in out, by what was read; and that the claim follows. Assumes nothing.
-use Prim.Native.Nat.{ℕ, ◌+◌, ◌-◌, ◌*◌, ◌/◌, ◌≤◌, ◌<◌}
+use Prim.Native.Nat.{ℕ, ◌+◌, ◌≤◌, ◌<◌}
 use mathlib.Core.Path.{◌≡◌, refl, sym, ◌∙◌, ap, subst}
 use mathlib.Core.Bool.{Bool, true, false}
 use mathlib.Core.List.{List}
@@ -8,9 +8,17 @@ use borrow.Author.Tests.{le-leb, lt-leb, le-ltb, lt-ltb, leb-true, leb-false, lt
 use lib.Dec.{leb, ltb}
 use lib.ListN.{length, take, drop}
 use lib.Seq.{sets, sets-eq, take_at}
+use Rattle.std.specs.Prelude.{Result, Ok, Err}
+use Rattle.std.proofs.lemmas.List.{get_or-take, length-take-le}
+use Rattle.logic.specs.Rule.{Record}
+use Rattle.refusals.specs.Reason.{number_of}
+use Rattle.refusals.specs.declared.Reason.{Reason}
+use Rattle.refusals.specs.declared.Reason.TheVariants as reason
 use Rattle.rule_strip.specs.RuleStrip.{rule_bytes}
 use Rattle.rule_strip.specs.RuleWriting.{strip_of_rule, records_of_words}
+use Rattle.rule_strip.specs.declared.write.Written.{Written}
 use Rattle.rule_strip.proofs.RuleWriting.{AllSmall, good-small}
+use Rattle.rule_strip.proofs.Words.{words_are}
 use Rattle.text.specs.Token.{Token}
 use Rattle.text.specs.Syntax.{Text}
 use Rattle.text.specs.Grammar.{Read, got, text_of}
@@ -19,17 +27,53 @@ use Rattle.text.specs.Records.{variables_in, count_in, records_in}
 use Rattle.text.specs.Import.{written, rule_of, import, out_after_import}
 use Rattle.text.specs.Import.{Import as Answer, refused as turned_down}
 use Rattle.text.proofs.Texts.{text-right}
+use Rattle.text.proofs.Named.{refusal-named}
 use Rattle.text.proofs.Readers.{read-good}
 use Rattle.text.proofs.Claimed.{claimed}
-use Rattle.drafting.proofs.Kept.{drafted_count, drafted_words}
-use Rattle.formulas.specs.Reading.{count_at, tracks_at}
-use Rattle.formulas.specs.Reading.{Reading, Got}
-use Rattle.formulas.specs.Reading.{Refused as Unread}
-use Rattle.formulas.proofs.Levels.{got-refused}
-use Rattle.import.specs.Answers.{imported_of, fault_of, Claimed, TextTold, text-got, text-refused}
-use Rattle.import.specs.declared.Import.{Import}
-use Rattle.import.specs.declared.Import.TheVariants.{Written, Refused}
+use Rattle.tokens.specs.declared.TokenFault.{TokenFault}
+use Rattle.drafting.specs.Draft.{Drafted}
+use Rattle.drafting.specs.declared.Draft.{Draft}
+use Rattle.drafting.proofs.Kept.{drafted_count}
+use Rattle.phrases.specs.Told.{RefusedAt}
+use Rattle.formulas.specs.declared.Reader.{Reader as Held}
+use Rattle.import.specs.Answers.{reason_of, imported_of, fault_at, fault_of, Claimed, TextTold, text-got, text-refused}
 use Rattle.import.specs.declared.TextFault.{TextFault}
+
+-- ---- the reason of a refusal, by its number
+reason_is : (r : Reason) → 23 ≤ number_of r → number_of r ≤ 25 → reason_of (number_of r) ≡ r
+reason_is reason.RuleShort l h = absurd (omega arith)
+reason_is reason.RuleVersion l h = absurd (omega arith)
+reason_is reason.RuleVariables l h = absurd (omega arith)
+reason_is reason.RuleRecords l h = absurd (omega arith)
+reason_is reason.RuleLength l h = absurd (omega arith)
+reason_is reason.RulePadding l h = absurd (omega arith)
+reason_is reason.Op l h = absurd (omega arith)
+reason_is reason.Variable l h = absurd (omega arith)
+reason_is reason.Record l h = absurd (omega arith)
+reason_is reason.Unused l h = absurd (omega arith)
+reason_is reason.Ceiling l h = absurd (omega arith)
+reason_is reason.Workspace l h = absurd (omega arith)
+reason_is reason.Out l h = absurd (omega arith)
+reason_is reason.States l h = absurd (omega arith)
+reason_is reason.TreeShort l h = absurd (omega arith)
+reason_is reason.TreeVersion l h = absurd (omega arith)
+reason_is reason.TreeVariables l h = absurd (omega arith)
+reason_is reason.TreeCut l h = absurd (omega arith)
+reason_is reason.TreeBare l h = absurd (omega arith)
+reason_is reason.TreePositions l h = absurd (omega arith)
+reason_is reason.TreeLeftOver l h = absurd (omega arith)
+reason_is reason.TreeOther l h = absurd (omega arith)
+reason_is reason.TextGrammar l h = refl
+reason_is reason.TextName l h = refl
+reason_is reason.TextVariables l h = refl
+reason_is reason.TextRecords l h = absurd (omega arith)
+reason_is reason.RuleOut l h = absurd (omega arith)
+reason_is reason.Parts l h = absurd (omega arith)
+reason_is reason.Satisfiable l h = absurd (omega arith)
+reason_is reason.JoinedRecords l h = absurd (omega arith)
+
+text_reason : (s : List ℕ) {x : TokenFault} → RefusedAt (text_of s) x → reason_of (number_of x.reason) ≡ x.reason
+text_reason s {x} w = let n = refusal-named s (number_of x.reason) w.token w.refuses in reason_is x.reason n.0 n.1
 
 -- ---- an accepted text
 
@@ -103,21 +147,33 @@ written-room s size n m strip e = subst (WrittenFits size) e (go (ltb size 290) 
     go true l = tt
     go false l = of_read (ltb-false size 290 l) (text_of s) refl
 
-abbrev pub ImportOutcome : List ℕ → List ℕ → Import → List ℕ → Type 0
+-- the first words, as many as there are records, are the records
+module _ {d : Draft} {rs : List Record} (D : Drafted d rs) (h : d.count ≤ 128) where
+  kept : List ℕ
+  kept = take d.count d.words
+
+  kept-length : length kept ≡ length rs
+  unfolding kept
+  kept-length = let c = drafted_count D h in let r = D.room in length-take-le d.count d.words (omega arith) ∙ c
+
+  kept-records : AllSmall rs → records_of_words (length kept) kept ≡ rs
+  unfolding kept
+  kept-records s =
+      let c = drafted_count D h in
+      rw kept-length (words_are kept rs (λ i l. get_or-take d.count d.words i 0 (omega arith) ∙ D.each i l (omega arith)) s)
+
+abbrev pub ImportOutcome : List ℕ → List ℕ → Result Written Reason → List ℕ → Type 0
 ImportOutcome s out r out' = (r ≡ imported_of (import s (length out))) × ((out' ≡ out_after_import (import s (length out)) out) × Claimed s r out')
 
 claim_follows : (s out : List ℕ) (a : Answer) → import s (length out) ≡ a → Claimed s (imported_of a) (out_after_import a out)
 unfolding out_after_import
-claim_follows s out (written n' m' strip) e n m len q =
-    let x : n' ≡ n = cc in
-    let y : m' ≡ m = cc in
-    let z : length strip ≡ len = cc in
-    let w = claimed s (length out) n' m' strip e in
-    let f = front-set out strip (written-room s (length out) n' m' strip e) in
-    rw (← x, ← y, ← z, f) w
-claim_follows s out (turned_down k) e n m len q = absurd (let z : ◌≡◌ {A = ℕ} 0 1 = cc in omega arith)
+claim_follows s out (written n m strip) e w q =
+    let x : record { variables = n; records = m; length = length strip } ≡ w = cc in
+    let f = front-set out strip (written-room s (length out) n m strip e) in
+    rw (← x, f) (claimed s (length out) n m strip e)
+claim_follows s out (turned_down k) e w q = absurd cc
 
-outcome : (s out : List ℕ) (a : Answer) (r : Import) (out' : List ℕ) → import s (length out) ≡ a → r ≡ imported_of a
+outcome : (s out : List ℕ) (a : Answer) (r : Result Written Reason) (out' : List ℕ) → import s (length out) ≡ a → r ≡ imported_of a
     → out' ≡ out_after_import a out → ImportOutcome s out r out'
 outcome s out a r out' e q p =
     (q ∙ ap imported_of (sym e), (p ∙ ap (λ (b : Answer). out_after_import b out) (sym e), rw (q, p) (claim_follows s out a e)))
@@ -131,65 +187,62 @@ unfolding out_after_import
 unchanged out k = refl
 
 module _ (s out : List ℕ) where
-  pub outcome-small : length out < 290 → ImportOutcome s out (Refused 27) out
-  outcome-small h = outcome s out (turned_down 27) (Refused 27) out (import-small s (length out) h) refl (unchanged out 27)
+  pub outcome-small : length out < 290 → ImportOutcome s out (Err reason.RuleOut) out
+  outcome-small h = outcome s out (turned_down 27) (Err reason.RuleOut) out (import-small s (length out) h) refl (unchanged out 27)
 
-  module _ {ws h : List ℕ} {r : Reading} (roomy : 290 ≤ length out) where
-    pub outcome-refused : {k b e : ℕ} → TextTold ws h (text_of s) r → r ≡ Unread k b e → ImportOutcome s out (Refused k) out
-    outcome-refused {k} (text-got t us e q m D) p = absurd (got-refused (sym q ∙ p))
-    outcome-refused {k} (text-refused k' t e q) p =
-        let x : k' ≡ k = cc in
-        outcome s out (turned_down k) (Refused k) out
-        (import-roomy s (length out) roomy ∙ ap rule_of e ∙ rule-refused k' t ∙ ap turned_down x) refl (unchanged out k)
+  module _ {h : Held} (roomy : 290 ≤ length out) where
+    pub outcome-refused : {x : TokenFault} → TextTold h (text_of s) (Err x) → ImportOutcome s out (Err x.reason) out
+    outcome-refused (text-got t us e q m D) = absurd cc
+    outcome-refused {x} (text-refused y w q) =
+        let z : y ≡ x = cc in
+        let k = number_of y.reason in
+        outcome s out (turned_down k) (Err x.reason) out (import-roomy s (length out) roomy ∙ ap rule_of w.refuses ∙ rule-refused k w.token)
+        (ap Err (ap (λ (x : TokenFault). x.reason) (sym z) ∙ sym (text_reason s w))) (unchanged out k)
 
-    pub outcome-many : TextTold ws h (text_of s) r → r ≡ Got → 128 < count_at h → ImportOutcome s out (Refused 26) out
-    outcome-many (text-got t us e q m D) p l =
+    pub outcome-many : TextTold h (text_of s) (Ok tt) → 128 < h.draft.count → ImportOutcome s out (Err reason.TextRecords) out
+    outcome-many (text-got t us e q m D) l =
         let c = (text-sound s t us e).counted in
         let d = D.size in
-        outcome s out (turned_down 26) (Refused 26) out (import-roomy s (length out) roomy ∙ ap rule_of e ∙ rule-many t us (omega arith)) refl (unchanged out 26)
-    outcome-many (text-refused k t e q) p l = absurd (got-refused (sym p ∙ q))
+        outcome s out (turned_down 26) (Err reason.TextRecords) out (import-roomy s (length out) roomy ∙ ap rule_of e ∙ rule-many t us (omega arith)) refl
+        (unchanged out 26)
+    outcome-many (text-refused x w q) l = absurd cc
 
-    pub outcome-written : {out' : List ℕ} → TextTold ws h (text_of s) r → r ≡ Got → count_at h ≤ 128
-        → out' ≡ sets out 0 (strip_of_rule (tracks_at h) (records_of_words (count_at h) ws))
-        → ImportOutcome s out (Written (tracks_at h) (count_at h) ((16 + 18 * count_at h + 7) / 8)) out'
-    outcome-written {out'} (text-got t us e q m D) p l w =
+    pub outcome-written : TextTold h (text_of s) (Ok tt) → h.draft.count ≤ 128 → {ws out' : List ℕ} {w : Written} → ws ≡ take h.draft.count h.draft.words
+        → out' ≡ sets out 0 (strip_of_rule h.tracks (records_of_words (length ws) ws))
+        → w ≡ record { variables = h.tracks; records = length ws; length = rule_bytes (length ws) } → ImportOutcome s out (Ok w) out'
+    unfolding kept
+    outcome-written (text-got t us e q m D) l {ws} {out'} {w} f p g =
         let S = text-sound s t us e in
-        let k : count_at h ≡ count_in t = drafted_count D l ∙ S.counted in
-        let few : count_in t ≤ 128 = omega arith in
-        let words = drafted_words D l (S.small few) in
-        let z : (16 + 18 * count_at h + 7) / 8 ≡ length (strip_of_rule (variables_in t) (records_in t)) = rw k (sym (strip-size s t us e few)) in
-        outcome s out (written (variables_in t) (count_in t) (strip_of_rule (variables_in t) (records_in t))) _ out'
-        (import-roomy s (length out) roomy ∙ ap rule_of e ∙ rule-written t us few) (rw (m, z, k) refl)
-        (w ∙ rw (m, words) (front-put out (variables_in t) (count_in t) (strip_of_rule (variables_in t) (records_in t))))
-    outcome-written (text-refused k t e q) p l w = absurd (got-refused (sym p ∙ q))
+        let k : length ws ≡ count_in t = ap length f ∙ kept-length D l ∙ S.counted in
+        let c = drafted_count D l in
+        let few : count_in t ≤ 128 = let n = S.counted in omega arith in
+        let words : records_of_words (length ws) ws ≡ records_in t = rw f (kept-records D l (S.small few)) in
+        let z = strip-size s t us e few in
+        outcome s out (written (variables_in t) (count_in t) (strip_of_rule (variables_in t) (records_in t))) (Ok w) out'
+        (import-roomy s (length out) roomy ∙ ap rule_of e ∙ rule-written t us few) (ap Ok (g ∙ rw (m, k, z) refl))
+        (p ∙ rw (m, words) (front-put out (variables_in t) (count_in t) (strip_of_rule (variables_in t) (records_in t))))
+    outcome-written (text-refused x w q) l f p g = absurd cc
 
 -- ---- the fault
 
-module _ (s : List ℕ) where
-  fault-of : {f : TextFault} {R : Read Text} → text_of s ≡ R → f ≡ fault_of R → f ≡ fault_of (text_of s)
-  fault-of e q = q ∙ ap fault_of (sym e)
-
-  pub fault-many : {ws h : List ℕ} {r : Reading} → TextTold ws h (text_of s) r → r ≡ Got → 128 < count_at h
-      → ◌≡◌ {A = TextFault} (record { refusal = 26; start = 0; length = 0 }) (fault_of (text_of s))
-  fault-many (text-got t us e q m D) p l =
+module _ (s : List ℕ) {h : Held} where
+  pub fault-many : TextTold h (text_of s) (Ok tt) → 128 < h.draft.count
+      → ◌≡◌ {A = Result Unit TextFault} (Err (record { reason = reason.TextRecords; start = 0; length = 0 })) (fault_of (text_of s))
+  fault-many (text-got t us e q m D) l =
       let c = (text-sound s t us e).counted in
       let d = D.size in
-      fault-of e (rw (lt-leb (count_in t) 128 (omega arith)) refl)
-  fault-many (text-refused k t e q) p l = absurd (got-refused (sym p ∙ q))
+      rw (e, lt-leb (count_in t) 128 (omega arith)) refl
+  fault-many (text-refused x w q) l = absurd cc
 
-  pub fault-none : {ws h : List ℕ} {r : Reading} → TextTold ws h (text_of s) r → r ≡ Got → count_at h ≤ 128
-      → ◌≡◌ {A = TextFault} (record { refusal = 0; start = 0; length = 0 }) (fault_of (text_of s))
-  fault-none (text-got t us e q m D) p l =
+  pub fault-none : TextTold h (text_of s) (Ok tt) → h.draft.count ≤ 128 → ◌≡◌ {A = Result Unit TextFault} (Ok tt) (fault_of (text_of s))
+  fault-none (text-got t us e q m D) l =
       let c = (text-sound s t us e).counted in
       let d = D.size in
-      fault-of e (rw (le-leb (count_in t) 128 (omega arith)) refl)
-  fault-none (text-refused k t e q) p l = absurd (got-refused (sym p ∙ q))
+      rw (e, le-leb (count_in t) 128 (omega arith)) refl
+  fault-none (text-refused x w q) l = absurd cc
 
-  pub fault-token : {ws h : List ℕ} {r : Reading} {k b e n : ℕ} → TextTold ws h (text_of s) r → r ≡ Unread k b e → n ≡ e - b
-      → ◌≡◌ {A = TextFault} (record { refusal = k; start = b; length = n }) (fault_of (text_of s))
-  fault-token (text-got t us e q m D) p z = absurd (got-refused (sym q ∙ p))
-  fault-token {k = k} {b} {e} {n} (text-refused k' t f q) p z =
-      let x : k' ≡ k = cc in
-      let y : t.start ≡ b = cc in
-      let w : t.stop ≡ e = cc in
-      fault-of f (rw (x, y, w, z) refl)
+  pub fault-token : {x : TokenFault} → TextTold h (text_of s) (Err x) → ◌≡◌ {A = Result Unit TextFault} (Err (fault_at x)) (fault_of (text_of s))
+  fault-token (text-got t us e q m D) = absurd cc
+  fault-token {x} (text-refused y w q) =
+      let z : y ≡ x = cc in
+      rw (← z, w.refuses, text_reason s w, w.start_is, w.stop_is) refl

@@ -1,55 +1,49 @@
 -- A whole text, step by step, as the code takes it. Assumes nothing.
-use Prim.Native.Nat.{ℕ, suc, ◌+◌, ◌*◌, ◌≤◌, ◌<◌}
+use Prim.Native.Nat.{ℕ, zero, suc, ◌+◌}
 use mathlib.Core.Path.{◌≡◌, refl, sym, ◌∙◌, ap, subst}
+use mathlib.Core.Bool.{true, false}
 use mathlib.Core.List.{List, [], ◌++◌}
+use native.Mathlib.Numerals.{add-one}
 use native.Mathlib.Omega.{arith}
-use borrow.Author.Tests.{ne_eqb}
 use lib.Dec.{eqb}
-use lib.ListN.{length, get_or, set}
+use lib.ListN.{length, get_or}
+use Rattle.std.specs.Prelude.{Result, Ok, Err}
 use Rattle.logic.specs.Rule.{Record}
 use Rattle.text.specs.Token.{Token, the_end, spells, number_in, words, text_marks}
+use Rattle.text.specs.declared.kinds.Kind.TheVariants.{Ws2s, Semicolon}
 use Rattle.text.specs.Syntax.{Name, Sentence, Scope, Text}
 use Rattle.text.specs.Grammar.{Read, got, peek, rest, accept, or23, read_then, declarations, reader, formula, text_from, text_of}
 use Rattle.text.specs.Grammar.{refused as leaves}
 use Rattle.text.specs.Records.{write, write_free, put_single, variables_in, records_in}
 use Rattle.text.proofs.Written.{tracks-least}
 use Rattle.tokens.specs.Tokens.{tokens_at}
+use Rattle.tokens.specs.Named.{scope_by, no_name}
 use Rattle.tokens.specs.InUse.{scope_of}
+use Rattle.tokens.specs.declared.TokenFault.{TokenFault}
+use Rattle.tokens.specs.declared.names.Order.{Order as OrderCode}
+use Rattle.tokens.specs.declared.names.Order.TheVariants.{First, Second}
+use Rattle.tokens.specs.declared.names.Name.{Name as NameCode}
+use Rattle.tokens.specs.declared.names.Names.{Names}
 use Rattle.tokens.proofs.Reading.{tokens-start}
 use Rattle.tokens.proofs.Scopes.{scope-length}
 use Rattle.drafting.specs.Draft.{Drafted, Drafts}
-use Rattle.drafting.proofs.Drafts.{drafted_none}
-use Rattle.phrases.specs.Told.{RefusedAt, MarkStands, MarkLacks, MarkTold, stands, lacks, NamesAre}
-use Rattle.phrases.specs.declared.Mark.{Mark}
-use Rattle.phrases.specs.declared.Mark.TheVariants.{Stands as Stood, Refused as Lacked}
+use Rattle.drafting.specs.declared.Draft.{Draft}
+use Rattle.phrases.specs.Told.{RefusedAt, MarkStands, MarkLacks, MarkTold, NamesAre}
+use Rattle.phrases.specs.declared.Declared.{Declared}
 use Rattle.phrases.proofs.Taking.{mark-taken, mark-turned, is_semicolon}
-use Rattle.formulas.specs.Reading.{level_at, next_kind, start_at, stop_at, count_at, AtToken, Looks, refused_here, Reads, Told, told-got, told-refused, Counted}
-use Rattle.formulas.specs.Reading.{Reading, Got, reading_of}
-use Rattle.formulas.specs.Reading.{Refused as Unread}
+use Rattle.formulas.specs.Reading.{level_at, left_at, Looks, Reads, Told, told-got, told-refused}
+use Rattle.formulas.specs.declared.Reader.{Reader as Held}
 use Rattle.formulas.proofs.Strengths.{reader-formula}
-use Rattle.formulas.proofs.Levels.{Tracked, looks-ready, kind_is, taken, got-refused, refused-put, told_is}
-use Rattle.import.specs.Answers.{headed, ended_text, body_of, HeadingTold, heads, heads_not, Ends, ends, no_semicolon, no_end, ends-refused}
-use Rattle.import.specs.Answers.{FreePut, FreshArrays, TextTold, text-got, text-refused}
+use Rattle.formulas.proofs.Levels.{refused-then, same-text, kind-same, kind-other, refused_next, taken, told_is}
+use Rattle.import.specs.Answers.{headed, ended_text, body_of, HeadingTold, Ends, ends, no_semicolon, no_end, FreePut, TextTold, text-got, text-refused}
 
 heading_is : number_in 0 (words ++ text_marks) "ws2s" ≡ 0
 unfolding number_in words text_marks
 heading_is = refl
 
--- the text that an equal reading is refused at
-refused_as : {A : Type 0} {R S : Read A} {k b e : ℕ} → R ≡ S → RefusedAt S k b e → RefusedAt R k b e
+-- an equal reading is refused likewise
+refused_as : {A : Type 0} {R S : Read A} {x : TokenFault} → R ≡ S → RefusedAt S x → RefusedAt R x
 refused_as q w = record { token = w.token; refuses = q ∙ w.refuses; start_is = w.start_is; stop_is = w.stop_is }
-
-pub mark-there : {s : List ℕ} {kind at p : ℕ} {m : Mark} → MarkTold s kind at m → m ≡ Stood p → MarkStands s kind at p
-mark-there {s} {kind} {at} {p} (stands {p = n} w) e = let x : n ≡ p = cc in subst (λ (i : ℕ). MarkStands s kind at i) x w
-mark-there (lacks w) e = absurd (let z : ◌≡◌ {A = ℕ} 0 1 = cc in omega arith)
-
-pub mark-lacks : {s : List ℕ} {kind at k b e : ℕ} {m : Mark} → MarkTold s kind at m → m ≡ Lacked k b e → MarkLacks s kind at k b e
-mark-lacks (stands w) q = absurd (let z : ◌≡◌ {A = ℕ} 0 1 = cc in omega arith)
-mark-lacks {s} {kind} {at} {k} {b} {e} (lacks {k = k'} {b = b'} {e = e'} w) q =
-    let x : k' ≡ k = cc in
-    let y : b' ≡ b = cc in
-    let z : e' ≡ e = cc in
-    rw (← x, ← y, ← z) w
 
 -- ---- the heading
 
@@ -57,20 +51,18 @@ behind_heading : (go : List Token → Read Text) → Name → List Token → Rea
 behind_heading go _ us = accept (or23 (spells ";" (peek us))) us (λ _ vs. go vs)
 
 module _ {s : List ℕ} where
-  headed-first : (go : List Token → Read Text) {p : ℕ} → MarkStands s 0 0 p → headed (tokens_at s 0) go ≡ behind_heading go [] (tokens_at s p)
+  headed-first : (go : List Token → Read Text) {p : ℕ} → MarkStands s Ws2s 0 p → headed (tokens_at s 0) go ≡ behind_heading go [] (tokens_at s p)
   unfolding behind_heading
   headed-first go st = mark-taken "ws2s" heading_is (behind_heading go) st
 
-  pub heading_told : {p : ℕ} {r : Mark} → MarkStands s 0 0 p → MarkTold s 10 p r → HeadingTold s r
+  pub heading_told : (r : Result ℕ TokenFault) {p : ℕ} → MarkStands s Ws2s 0 p → MarkTold s Semicolon p r → HeadingTold s r
   unfolding behind_heading
-  heading_told st (stands {p = q} w) = heads q refl (λ go. headed-first go st ∙ mark-taken ";" is_semicolon (λ _ vs. go vs) w)
-  heading_told st (lacks {k = k} {b = b} {e = e} w) =
-      heads_not k b e refl (λ z. let n = w.number_is in omega arith)
-      (λ go. refused_as (headed-first go st) (mark-turned ";" is_semicolon (λ _ vs. go vs) w))
+  heading_told (Ok q) st w = λ go. headed-first go st ∙ mark-taken ";" is_semicolon (λ _ vs. go vs) w
+  heading_told (Err x) st w = λ go. refused_as (headed-first go st) (mark-turned ";" is_semicolon (λ _ vs. go vs) w)
 
-  pub heading_lacks : {k b e : ℕ} → MarkLacks s 0 0 k b e → HeadingTold s (Lacked k b e)
+  pub heading_lacks : {x : TokenFault} → MarkLacks s Ws2s 0 x → HeadingTold s (Err x)
   unfolding behind_heading
-  heading_lacks w = heads_not _ _ _ refl (λ z. let n = w.number_is in omega arith) (λ go. mark-turned "ws2s" heading_is (behind_heading go) w)
+  heading_lacks w go = mark-turned "ws2s" heading_is (behind_heading go) w
 
 -- ---- the end
 
@@ -78,56 +70,50 @@ module _ {s : List ℕ} where
 last : Text → List Token → Read Text
 last t ys = accept (or23 (eqb (peek ys).kind the_end)) ys (λ _ zs. got t zs)
 
-last-there : (t : Text) (ys : List Token) → (peek ys).kind ≡ the_end → last t ys ≡ got t (rest ys)
+last-there : (t : Text) (ys : List Token) → eqb (peek ys).kind the_end ≡ true → last t ys ≡ got t (rest ys)
 unfolding last accept
 last-there t ys e = rw e refl
 
-last_not : (t : Text) (ys : List Token) → ((peek ys).kind ≡ the_end → ⊥) → last t ys ≡ leaves 23 (peek ys)
+last_not : (t : Text) (ys : List Token) → eqb (peek ys).kind the_end ≡ false → last t ys ≡ leaves 23 (peek ys)
 unfolding last accept
-last_not t ys z = rw (ne_eqb (peek ys).kind 25 z) refl
+last_not t ys e = rw e refl
 
 -- the semicolon
-semicolon_there : (t : Text) (xs : List Token) → (peek xs).kind ≡ 10 → ended_text t xs ≡ last t (rest xs)
+semicolon_there : (t : Text) (xs : List Token) → eqb (peek xs).kind 10 ≡ true → ended_text t xs ≡ last t (rest xs)
 unfolding last accept spells number_in words text_marks
 semicolon_there t xs e = rw e refl
 
-semicolon_not : (t : Text) (xs : List Token) → ((peek xs).kind ≡ 10 → ⊥) → ended_text t xs ≡ leaves 23 (peek xs)
+semicolon_not : (t : Text) (xs : List Token) → eqb (peek xs).kind 10 ≡ false → ended_text t xs ≡ leaves 23 (peek xs)
 unfolding accept spells number_in words text_marks
-semicolon_not t xs z = rw (ne_eqb (peek xs).kind 10 z) refl
+semicolon_not t xs e = rw e refl
 
--- ---- the records of the free variables
+-- ---- the records of the free variables: those of the first i names are put
+abbrev pub Freed : Names → Draft → Draft → ℕ → Type 0
+Freed ns d e i = (rs : List Record) → Drafted d rs → Drafted e (write_free (scope_by ns.text.now ns.entries i) rs)
 
--- those of the first i names are put
-pub record Freed (ns ws₀ : List ℕ) (c₀ n : ℕ) (ws : List ℕ) (c i : ℕ) : Type 0 where
-  pub upto : i ≤ n
-  pub put_so_far : FreePut ns i ws₀ c₀ ws c
+names-length : (s : List ℕ) (ns : List NameCode) (n : ℕ) → length (scope_by s ns n) ≡ n
+unfolding scope_by
+names-length s ns zero = refl
+names-length s ns (suc n) = ap suc (names-length s ns n)
 
-pub freed_none : {ns ws : List ℕ} {c n : ℕ} → Freed ns ws c n ws c 0
-unfolding scope_of write_free
-freed_none = record { upto = omega arith; put_so_far = λ s rs D. D }
+pub freed_none : (ns : Names) {d : Draft} → Freed ns d d 0
+unfolding scope_by write_free
+freed_none ns = λ rs D. D
 
-module _ {ns ws₀ : List ℕ} {c₀ n : ℕ} {ws : List ℕ} {c i : ℕ} (F : Freed ns ws₀ c₀ n ws c i) (l : i < n) where
-  next-put : {ws' : List ℕ} {c' : ℕ}
-      → ((s : List ℕ) (rs : List Record) → Drafted ws c (write_free (scope_of s ns i) rs) → Drafted ws' c' (write_free (scope_of s ns (suc i)) rs))
-      → Freed ns ws₀ c₀ n ws' c' (i + 1)
-  next-put {ws'} {c'} h = record {
-    upto = omega arith;
-    put_so_far = λ s rs D.
-        let e : suc i ≡ i + 1 = omega arith in
-        subst (λ (j : ℕ). Drafted ws' c' (write_free (scope_of s ns j) rs)) e (h s rs (F.put_so_far s rs D));
-  }
+pub freed_first : (ns : Names) {d e e' : Draft} (i : ℕ) → Freed ns d e i → (get_or ns.entries i no_name).order ≡ First → Drafts e e' (put_single i)
+    → Freed ns d e' (i + 1)
+unfolding scope_by write_free
+freed_first ns {e' = e'} i F q P = λ rs D.
+    let ss = write_free (scope_by ns.text.now ns.entries i) rs in
+    rw (add-one, q) (subst (λ (k : ℕ). Drafted e' (put_single k ss)) (sym (names-length ns.text.now ns.entries i)) (P ss (F rs D)))
 
-  pub freed_first : {ws' : List ℕ} {c' : ℕ} → get_or ns (3 * i + 2) 0 ≡ 1 → Drafts ws c ws' c' (put_single i) → Freed ns ws₀ c₀ n ws' c' (i + 1)
-  unfolding scope_of write_free
-  freed_first {ws'} {c'} e P =
-      next-put (λ s rs D. rw e (subst (λ (k : ℕ). Drafted ws' c' (put_single k (write_free (scope_of s ns i) rs))) (sym (scope-length s ns i)) (P _ D)))
-
-  pub freed_second : (get_or ns (3 * i + 2) 0 ≡ 1 → ⊥) → Freed ns ws₀ c₀ n ws c (i + 1)
-  unfolding scope_of write_free
-  freed_second z = next-put (λ s rs D. rw (ne_eqb (get_or ns (3 * i + 2) 0) 1 z) D)
-
-pub freed_all : {ns ws₀ : List ℕ} {c₀ n : ℕ} {ws : List ℕ} {c i : ℕ} → Freed ns ws₀ c₀ n ws c i → n ≤ i → FreePut ns n ws₀ c₀ ws c
-freed_all {ns} {ws₀} {c₀} {n} {ws} {c} {i} F l = let u = F.upto in let e : i ≡ n = omega arith in subst (λ (j : ℕ). FreePut ns j ws₀ c₀ ws c) e F.put_so_far
+pub freed_second : (ns : Names) {d e : Draft} (i : ℕ) → Freed ns d e i → ((get_or ns.entries i no_name).order ≡ First → ⊥) → Freed ns d e (i + 1)
+unfolding scope_by write_free
+freed_second ns i F z = λ rs D. rw (add-one, other _ z) (F rs D)
+  where
+    other : (o : OrderCode) → (o ≡ First → ⊥) → o ≡ Second
+    other First z = absurd (z refl)
+    other Second z = refl
 
 -- ---- the body
 
@@ -135,103 +121,94 @@ freed_all {ns} {ws₀} {c₀} {n} {ws} {c} {i} F l = let u = F.upto in let e : i
 abbrev sentenced : Scope → List Token → Read Text
 sentenced sc ws = read_then (reader 32 formula sc ws) (λ f xs. ended_text (record { declared = sc; sentence = f }) xs)
 
--- a token that stands next, told as a refusal
-told-there : {s h ws h' : List ℕ} {R : Read Text} {r : Reading} → AtToken s h → R ≡ leaves 23 (peek (tokens_at s (start_at h))) → r ≡ refused_here h
-    → TextTold ws h' R r
-told-there {s} {h} y e q =
-    let a = ap (λ (u : Token). u.start) y.stands.stands in
-    let b = ap (λ (u : Token). u.stop) y.stands.stands in
-    text-refused 23 (peek (tokens_at s (start_at h))) e (q ∙ rw (a, b) refl)
+pub body_undeclared : (s : List ℕ) (at : ℕ) {h : Held} {x : TokenFault} → RefusedAt (declarations (length (tokens_at s at)) [] (tokens_at s at)) x
+    → TextTold h (body_of (tokens_at s at)) (Err x)
+unfolding body_of
+body_undeclared s at w = text-refused _ (refused-then sentenced w) refl
 
-module _ (s : List ℕ) (at : ℕ) where
-  pub body_undeclared : {ws : List ℕ} (h : List ℕ) {k b e : ℕ} → length h ≡ 5 → (k ≡ 0 → ⊥)
-      → RefusedAt (declarations (length (tokens_at s at)) [] (tokens_at s at)) k b e
-      → TextTold ws (set (set h 2 b) 4 e) (body_of (tokens_at s at)) (reading_of k (set (set h 2 b) 4 e))
+-- what is read behind them
+abbrev behind_names : Declared → Sentence → List Token → Read Text
+behind_names d f xs = ended_text (record { declared = scope_of d.names; sentence = f }) xs
+
+-- the names of d are declared, all of them tracks, and the formula is read from h on
+pub record Begun (d : Declared) (h₀ h : Held) : Type 0 where
+  pub names_are : h.names ≡ d.names
+  pub draft_is : h.draft ≡ h₀.draft
+  pub tracks_is : h.tracks ≡ d.names.count
+  pub skips : tokens_at h₀.names.text.now d.next ≡ left_at h
+
+pub begun : {d : Declared} {h₀ m h : Held} → d.names.text.now ≡ h₀.names.text.now → m.names ≡ d.names → m.draft ≡ h₀.draft → m.tracks ≡ d.names.count
+    → Looks d.next m h → Begun d h₀ h
+begun {d} {h₀} {m} {h} s n e t L = record {
+  names_are = L.names_are ∙ n;
+  draft_is = L.draft_is ∙ e;
+  tracks_is = L.tracks_is ∙ t;
+  skips =
+      ap (λ (s : List ℕ). tokens_at s d.next) (sym (ap (λ (ns : Names). ns.text.now) n ∙ s)) ∙ L.stands.skips
+      ∙ same-text (sym L.names_are) h.next.start;
+}
+
+module _ (h₀ : Held) (none : Drafted h₀.draft []) {at : ℕ} {d : Declared}
+    (N : NamesAre h₀.names.text.now at (declarations (length (tokens_at h₀.names.text.now at)) [] (tokens_at h₀.names.text.now at)) d)
+    {h : Held} (B : Begun d h₀ h) where
+  body_is : body_of (tokens_at h₀.names.text.now at)
+      ≡ read_then (level_at 32 0 (scope_of d.names) (left_at h)) (behind_names d)
   unfolding body_of
-  body_undeclared {ws} h {k} {b} {e} l z w =
-      let p = refused-put k b e h z l in
-      text-refused _ w.token (ap (λ (R : Read Scope). read_then R sentenced) w.refuses) (p.0 ∙ rw (w.start_is, w.stop_is) refl)
+  body_is =
+      ap (λ (R : Read Scope). read_then R sentenced) N.reads
+      ∙ ap (λ (R : Read Sentence). read_then R (behind_names d))
+      (reader-formula 32 (scope_of d.names) (tokens_at h₀.names.text.now d.next))
+      ∙ ap (λ (us : List Token). read_then (level_at 32 0 (scope_of d.names) us) (behind_names d)) B.skips
 
-  module _ {ns : List ℕ} {n p : ℕ} (N : NamesAre s at (declarations (length (tokens_at s at)) [] (tokens_at s at)) ns n p)
-      {ws h m k ws₂ h₂ : List ℕ} {sentence : Reading}
-      (B : FreshArrays ws h) (T : Tracked h n m) (L : Looks s p m k) (X : Reads (level_at 32 0) s (scope_of s ns n) ws k ws₂ h₂ sentence) where
-    -- the formula, and then the end
-    body_is : body_of (tokens_at s at)
-        ≡ read_then (level_at 32 0 (scope_of s ns n) (tokens_at s (start_at k))) (λ f xs. ended_text (record { declared = scope_of s ns n; sentence = f }) xs)
-    unfolding body_of
-    body_is =
-        let sc = scope_of s ns n in
-        ap (λ (R : Read Scope). read_then R sentenced) N.reads
-        ∙ ap (λ (R : Read Sentence). read_then R (λ f xs. ended_text (record { declared = sc; sentence = f }) xs)) (reader-formula 32 sc (tokens_at s p))
-        ∙ ap (λ (us : List Token). read_then (level_at 32 0 sc us) (λ f xs. ended_text (record { declared = sc; sentence = f }) xs)) L.stands.skips
+  told : {h₂ : Held} {r : Result Unit TokenFault} → Reads (level_at 32 0) h h₂ r
+      → Told (scope_of d.names) [] h h₂ (level_at 32 0 (scope_of d.names) (left_at h)) r
+  told {h₂} {r} X =
+      let s = ap scope_of B.names_are in
+      let l = scope-length h.names in
+      let c = ap (λ (ns : Names). ns.count) B.names_are in
+      let t = B.tracks_is in
+      subst (λ (sd : Scope). Told sd [] h h₂ (level_at 32 0 sd (left_at h)) r) s (X.tells [] (rw B.draft_is none) (omega arith))
 
-    tells : Told s (scope_of s ns n) [] k ws₂ h₂ (level_at 32 0 (scope_of s ns n) (tokens_at s (start_at k))) sentence
-    tells =
-        let l = scope-length s ns n in
-        let t = L.tracks_is ∙ T.tracks_is in
-        let c = L.count_is ∙ T.count_is ∙ B.none in
-        X.tells [] (subst (λ (i : ℕ). Drafted ws i []) (sym c) (drafted_none ws B.room)) (omega arith)
+  pub formula-refused : {h₂ : Held} {x : TokenFault} → Reads (level_at 32 0) h h₂ (Err x) → TextTold h₂ (body_of (tokens_at h₀.names.text.now at)) (Err x)
+  formula-refused X = go (told X)
+    where
+      go : {h₂ : Held} {x : TokenFault} → Told (scope_of d.names) [] h h₂ (level_at 32 0 (scope_of d.names) (left_at h)) (Err x)
+          → TextTold h₂ (body_of (tokens_at h₀.names.text.now at)) (Err x)
+      go (told-got f e q m t) = absurd cc
+      go (told-refused x w q) = text-refused x (refused_as body_is (refused-then _ w)) q
+
+  module _ {h₂ : Held} (X : Reads (level_at 32 0) h h₂ (Ok tt)) where
+    abbrev text : Text
+    text = record { declared = scope_of d.names; sentence = (told_is (told X)).sentence }
 
     -- what was read, up to the end
-    read_to : (q : sentence ≡ Got)
-        → body_of (tokens_at s at) ≡ ended_text (record { declared = scope_of s ns n; sentence = (told_is tells q).sentence }) (tokens_at s (start_at h₂))
-    read_to q = body_is ∙ ap (λ (R : Read Sentence). read_then R (λ f. ended_text (record { declared = scope_of s ns n; sentence = f }))) (told_is tells q).reads
+    read_to : body_of (tokens_at h₀.names.text.now at) ≡ ended_text text (left_at h₂)
+    read_to = body_is ∙ ap (λ (R : Read Sentence). read_then R (behind_names d)) (told_is (told X)).reads
 
     -- up to what stands behind the semicolon
-    read_on : (q : sentence ≡ Got) {h₃ : List ℕ} → next_kind h₂ ≡ 10 → Looks s (stop_at h₂) h₂ h₃
-        → body_of (tokens_at s at) ≡ last (record { declared = scope_of s ns n; sentence = (told_is tells q).sentence }) (tokens_at s (start_at h₃))
-    read_on q e M =
-        let y = X.ready q in
-        let t : Text = record { declared = scope_of s ns n; sentence = (told_is tells q).sentence } in
-        read_to q ∙ semicolon_there t (tokens_at s (start_at h₂)) (kind_is y ∙ e) ∙ ap (λ (ys : List Token). last t ys) (taken y (omega arith) M)
+    read_on : h₂.next.kind ≡ Semicolon → {h₃ : Held} → Looks h₂.next.stop h₂ h₃ → body_of (tokens_at h₀.names.text.now at) ≡ last text (left_at h₃)
+    read_on e L = read_to ∙ semicolon_there text (left_at h₂) (kind-same h₂ e) ∙ ap (λ (ys : List Token). last text ys) (taken h₂ (λ z. absurd cc) L)
 
-    pub body_refused : {h₃ h₄ : List ℕ} {whole : Reading} {i b e : ℕ} → Ends s h₂ h₃ sentence whole → whole ≡ Unread i b e
-        → TextTold ws₂ h₄ (body_of (tokens_at s at)) whole
-    body_refused (ends qi qr e M x) q = absurd (got-refused (sym qr ∙ q))
-    body_refused (no_semicolon qi qr z) q =
-        let y = X.ready qi in
-        told-there y (read_to qi ∙ semicolon_not _ (tokens_at s (start_at h₂)) (λ e. z (sym (kind_is y) ∙ e))) qr
-    body_refused {h₃} (no_end qi qr e M z) q =
-        let y = looks-ready M in
-        told-there y (read_on qi e M ∙ last_not _ (tokens_at s (start_at h₃)) (λ x. z (sym (kind_is y) ∙ x))) qr
-    body_refused (ends-refused i b e qi qr) q = up tells qi qr
-      where
-        up : {i b e : ℕ} {h₄ : List ℕ} {whole : Reading} → Told s (scope_of s ns n) [] k ws₂ h₂ (level_at 32 0 (scope_of s ns n) (tokens_at s (start_at k))) sentence
-            → sentence ≡ Unread i b e → whole ≡ Unread i b e → TextTold ws₂ h₄ (body_of (tokens_at s at)) whole
-        up (told-got f e q d m) x z = absurd (got-refused (sym q ∙ x))
-        up (told-refused i t e q) x z =
-            text-refused i t (body_is ∙ ap (λ (R : Read Sentence). read_then R (λ f xs. ended_text (record { declared = scope_of s ns n; sentence = f }) xs)) e)
-            (z ∙ sym x ∙ q)
+    pub end-refused : {h₃ : Held} {x : TokenFault} → Ends h₂ h₃ (Err x) → TextTold h₃ (body_of (tokens_at h₀.names.text.now at)) (Err x)
+    end-refused (ends q e L z) = absurd cc
+    end-refused (no_semicolon q z) = text-refused _ (refused_next h₂ (read_to ∙ semicolon_not text (left_at h₂) (kind-other h₂ z))) q
+    end-refused {h₃} (no_end q e L z) = text-refused _ (refused_next h₃ (read_on e L ∙ last_not text (left_at h₃) (kind-other h₃ z))) q
 
-    pub body-read : {h₃ ws₃ h₄ : List ℕ} {whole : Reading} {c : ℕ} → Ends s h₂ h₃ sentence whole → whole ≡ Got
-        → FreePut ns n ws₂ (count_at h₃) ws₃ c → Counted h₃ c h₄
-        → TextTold ws₃ h₄ (body_of (tokens_at s at)) Got
+    pub body-read : {h₃ h₄ : Held} → Ends h₂ h₃ (Ok tt) → FreePut h₃.names h₃.draft h₄.draft → h₄.tracks ≡ h₃.tracks
+        → TextTold h₄ (body_of (tokens_at h₀.names.text.now at)) (Ok tt)
     unfolding variables_in records_in
-    body-read {h₃} {ws₃} {h₄} {whole} {c} (ends qi qr e M x) q F C =
-        let y = looks-ready M in
-        let i = told_is tells qi in
-        let sc = scope_of s ns n in
-        let g = i.sentence in
-        let l = scope-length s ns n in
-        let least = tracks-least g (length sc) in
+    body-read {h₃} {h₄} (ends q e L z) F t =
+        let i = told_is (told X) in
+        let n : h₃.names ≡ d.names = L.names_are ∙ X.names_are ∙ B.names_are in
+        let l = scope-length d.names in
         let a = i.counts in
-        let t = L.tracks_is ∙ T.tracks_is in
-        let mt = M.tracks_is in
-        let tc = C.tracks_is in
-        text-got (record { declared = sc; sentence = g }) (rest (tokens_at s (start_at h₃)))
-        (read_on qi e M ∙ last-there _ (tokens_at s (start_at h₃)) (kind_is y ∙ x)) refl
-        (tc ∙ mt ∙ a ∙ omega arith)
-        (subst (λ (v : ℕ). Drafted ws₃ v (write_free sc (write sc g []))) (sym C.count_is)
-        (F s (write sc g []) (subst (λ (v : ℕ). Drafted ws₂ v (write sc g [])) (sym M.count_is) i.drafts)))
-    body-read (no_semicolon qi qr z) q F C = absurd (got-refused (sym q ∙ qr))
-    body-read (no_end qi qr e M z) q F C = absurd (got-refused (sym q ∙ qr))
-    body-read (ends-refused k b e qi qr) q F C = absurd (got-refused (sym q ∙ qr))
-
-    pub ends-size : {h₃ : List ℕ} {whole : Reading} → Ends s h₂ h₃ sentence whole → whole ≡ Got → length h₃ ≡ 5
-    ends-size (ends qi qr e M x) q = M.size
-    ends-size (no_semicolon qi qr z) q = absurd (got-refused (sym q ∙ qr))
-    ends-size (no_end qi qr e M z) q = absurd (got-refused (sym q ∙ qr))
-    ends-size (ends-refused k b e qi qr) q = absurd (got-refused (sym q ∙ qr))
+        let m = B.tracks_is in
+        let o = L.tracks_is in
+        let least = tracks-least i.sentence (length (scope_of d.names)) in
+        text-got text (rest (left_at h₃)) (read_on e L ∙ last-there text (left_at h₃) (kind-same h₃ z)) refl (omega arith)
+        (subst (λ (sd : Scope). Drafted h₄.draft (write_free sd (write (scope_of d.names) i.sentence []))) (ap scope_of n) (F _ (rw L.draft_is i.drafts)))
+    body-read (no_semicolon q z) F t = absurd cc
+    body-read (no_end q e L z) F t = absurd cc
 
 -- ---- the whole text
 
@@ -239,20 +216,9 @@ text_is : (s : List ℕ) → text_of s ≡ headed (tokens_at s 0) body_of
 unfolding text_of text_from body_of
 text_is s = rw (tokens-start s) refl
 
-pub text-told : {s ws h : List ℕ} {p : ℕ} {m : Mark} {r : Reading} → HeadingTold s m → m ≡ Stood p
-    → TextTold ws h (body_of (tokens_at s p)) r → TextTold ws h (text_of s) r
-text-told {s} {ws} {h} {p} {m} {r} (heads q e g) f w =
-    let x : q ≡ p = cc in
-    subst (λ (R : Read Text). TextTold ws h R r) (sym (text_is s ∙ g body_of ∙ ap (λ (i : ℕ). body_of (tokens_at s i)) x)) w
-text-told (heads_not k b e q z h) f w = absurd (let z : ◌≡◌ {A = ℕ} 0 1 = cc in omega arith)
+pub text-told : (s : List ℕ) (p : ℕ) {h : Held} {r : Result Unit TokenFault} → HeadingTold s (Ok p) → TextTold h (body_of (tokens_at s p)) r
+    → TextTold h (text_of s) r
+text-told s p {h} {r} g w = subst (λ (R : Read Text). TextTold h R r) (sym (text_is s ∙ g body_of)) w
 
-pub text_unheaded : {s ws : List ℕ} (h : List ℕ) {k b e : ℕ} {m : Mark} → length h ≡ 5 → HeadingTold s m → m ≡ Lacked k b e
-    → TextTold ws (set (set h 2 b) 4 e) (text_of s) (reading_of k (set (set h 2 b) 4 e))
-text_unheaded h l (heads q e g) f = absurd (let z : ◌≡◌ {A = ℕ} 0 1 = cc in omega arith)
-text_unheaded {s} h {k = k} {b = b} {e = e} l (heads_not k' b' e' q n g) f =
-    let x : k' ≡ k = cc in
-    let y : b' ≡ b = cc in
-    let z : e' ≡ e = cc in
-    let w = g body_of in
-    let p = refused-put k b e h (λ o. n (x ∙ o)) l in
-    text-refused k w.token (text_is s ∙ w.refuses ∙ ap (λ (i : ℕ). leaves i w.token) x) (p.0 ∙ rw (w.start_is, w.stop_is, y, z) refl)
+pub text_unheaded : (s : List ℕ) {h : Held} {x : TokenFault} → HeadingTold s (Err x) → TextTold h (text_of s) (Err x)
+text_unheaded s g = text-refused _ (refused_as (text_is s) (g body_of)) refl

@@ -1,7 +1,11 @@
 -- What import answers, and what the code that reads a whole text says of the definitions: request A2. Assumes nothing.
-use Rattle.std.specs.Prelude.{ℕ, ◌-◌, ◌≡◌, cond, List, [], leb, eqb, length, take}
+use Rattle.std.specs.Prelude.{ℕ, ◌-◌, ◌≡◌, cond, List, [], leb, eqb, length, take, Result, Ok, Err}
 use Rattle.logic.specs.Rule.{Record}
-use Rattle.text.specs.Token.{Token, semicolon_kind, the_end, spells}
+use Rattle.refusals.specs.declared.Reason.{Reason}
+use Rattle.refusals.specs.declared.Reason.TheVariants as reason
+use Rattle.rule_strip.specs.declared.write.Written.{Written}
+use Rattle.text.specs.Token.{Token, the_end, spells}
+use Rattle.text.specs.declared.kinds.Kind.TheVariants.{Semicolon, End}
 use Rattle.text.specs.Syntax.{Text}
 use Rattle.text.specs.Grammar.{Read, got, peek, accept, or23, read_then, declarations, reader, formula}
 use Rattle.text.specs.Grammar.{refused as leaves}
@@ -11,30 +15,37 @@ use Rattle.text.specs.Import.{Import as Answer, refused as turned_down}
 use Rattle.text.specs.Claims.{Imported}
 use Rattle.tokens.specs.Tokens.{tokens_at}
 use Rattle.tokens.specs.InUse.{scope_of}
+use Rattle.tokens.specs.declared.TokenFault.{TokenFault}
+use Rattle.tokens.specs.declared.names.Names.{Names}
 use Rattle.drafting.specs.Draft.{Drafted}
+use Rattle.drafting.specs.declared.Draft.{Draft}
 use Rattle.phrases.specs.Told.{RefusedAt}
-use Rattle.phrases.specs.declared.Mark.{Mark}
-use Rattle.phrases.specs.declared.Mark.TheVariants.{Stands as Stood, Refused as Lacked}
-use Rattle.formulas.specs.Reading.{next_kind, stop_at, count_at, tracks_at, Looks, refused_here}
-use Rattle.formulas.specs.Reading.{Reading, Got}
-use Rattle.formulas.specs.Reading.{Refused as Unread}
-use Rattle.import.specs.declared.Import.{Import}
-use Rattle.import.specs.declared.Import.TheVariants.{Written, Refused}
+use Rattle.formulas.specs.Reading.{Looks, refused_here}
+use Rattle.formulas.specs.declared.Reader.{Reader as Held}
 use Rattle.import.specs.declared.TextFault.{TextFault}
 
+-- the reason of a refusal of a text, or of its import, by its number: 23 to 27
+abbrev pub reason_of : ℕ → Reason
+reason_of k =
+    cond (eqb k 24) reason.TextName (cond (eqb k 25) reason.TextVariables (cond (eqb k 26) reason.TextRecords (cond (eqb k 27) reason.RuleOut reason.TextGrammar)))
+
 -- the answer in numbers: "From here on an operation that writes a strip returns its length in bytes"
-abbrev pub imported_of : Answer → Import
-imported_of (written n m strip) = Written n m (length strip)
-imported_of (turned_down k) = Refused k
+abbrev pub imported_of : Answer → Result Written Reason
+imported_of (written n m strip) = Ok (record { variables = n; records = m; length = length strip })
+imported_of (turned_down k) = Err (reason_of k)
+
+-- a refusal at a token, by the token's bytes
+abbrev pub fault_at : TokenFault → TextFault
+fault_at x = record { reason = x.reason; start = x.start; length = x.stop - x.start }
 
 -- the refusal that import has for a text when out has room, and its token: 26 lies at none
-abbrev pub fault_of : Read Text → TextFault
-fault_of (leaves k t) = record { refusal = k; start = t.start; length = t.stop - t.start }
-fault_of (got t ts) = record { refusal = cond (leb (count_in t) 128) 0 26; start = 0; length = 0 }
+abbrev pub fault_of : Read Text → Result Unit TextFault
+fault_of (leaves k t) = Err (record { reason = reason_of k; start = t.start; length = t.stop - t.start })
+fault_of (got t ts) = cond (leb (count_in t) 128) (Ok tt) (Err (record { reason = reason.TextRecords; start = 0; length = 0 }))
 
 -- THE CLAIM: whatever is written, at the front of out, is the rule that the text says
-abbrev pub Claimed : List ℕ → Import → List ℕ → Type 0
-Claimed s r out = (n m len : ℕ) → r ≡ Written n m len → Imported s n m (take len out)
+abbrev pub Claimed : List ℕ → Result Written Reason → List ℕ → Type 0
+Claimed s r out = (w : Written) → r ≡ Ok w → Imported s w.variables w.records (take w.length out)
 
 -- "the heading `ws2s;`", and then what is read by go
 abbrev pub headed : List Token → (List Token → Read Text) → Read Text
@@ -50,30 +61,22 @@ body_of vs =
     read_then (declarations (length vs) [] vs) (λ sc ws.
     read_then (reader 32 formula sc ws) (λ f xs. ended_text (record { declared = sc; sentence = f }) xs))
 
--- the heading stands, and the next token is looked for from place p on
-pub data HeadingTold (s : List ℕ) (r : Mark) : Type 0 where
-  heads : (p : ℕ) → r ≡ Stood p → ((go : List Token → Read Text) → headed (tokens_at s 0) go ≡ go (tokens_at s p)) → HeadingTold s r
-  heads_not : (k b e : ℕ) → r ≡ Lacked k b e → (k ≡ 0 → ⊥) → ((go : List Token → Read Text) → RefusedAt (headed (tokens_at s 0) go) k b e) → HeadingTold s r
+-- the heading stands, and the next token is looked for from place p on; or the text is refused at a token of it
+abbrev pub HeadingTold : List ℕ → Result ℕ TokenFault → Type 0
+HeadingTold s (Ok p) = (go : List Token → Read Text) → headed (tokens_at s 0) go ≡ go (tokens_at s p)
+HeadingTold s (Err x) = (go : List Token → Read Text) → RefusedAt (headed (tokens_at s 0) go) x
 
--- the semicolon and the end stand behind the formula that was read, or not. h and h': the readers' array before and after
-pub data Ends (s h h' : List ℕ) (inner r : Reading) : Type 0 where
-  ends : inner ≡ Got → r ≡ Got → next_kind h ≡ semicolon_kind → Looks s (stop_at h) h h' → next_kind h' ≡ the_end → Ends s h h' inner r
-  no_semicolon : inner ≡ Got → r ≡ refused_here h → (next_kind h ≡ semicolon_kind → ⊥) → Ends s h h' inner r
-  no_end : inner ≡ Got → r ≡ refused_here h' → next_kind h ≡ semicolon_kind → Looks s (stop_at h) h h' → (next_kind h' ≡ the_end → ⊥) → Ends s h h' inner r
-  ends-refused : (k b e : ℕ) → inner ≡ Unread k b e → r ≡ Unread k b e → Ends s h h' inner r
+-- the semicolon and the end stand behind the formula that was read, or not. h and h': where reading had come to before and after
+pub data Ends (h h' : Held) (r : Result Unit TokenFault) : Type 0 where
+  ends : r ≡ Ok tt → h.next.kind ≡ Semicolon → Looks h.next.stop h h' → h'.next.kind ≡ End → Ends h h' r
+  no_semicolon : r ≡ refused_here h → (h.next.kind ≡ Semicolon → ⊥) → Ends h h' r
+  no_end : r ≡ refused_here h' → h.next.kind ≡ Semicolon → Looks h.next.stop h h' → (h'.next.kind ≡ End → ⊥) → Ends h h' r
 
--- "each free first-order variable two more": of the first n names
-abbrev pub FreePut : List ℕ → ℕ → List ℕ → ℕ → List ℕ → ℕ → Type 0
-FreePut ns n ws c ws' c' = (s : List ℕ) (rs : List Record) → Drafted ws c rs → Drafted ws' c' (write_free (scope_of s ns n) rs)
+-- "each free first-order variable two more": of the names ns
+abbrev pub FreePut : Names → Draft → Draft → Type 0
+FreePut ns d e = (rs : List Record) → Drafted d rs → Drafted e (write_free (scope_of ns) rs)
 
--- what reading a text, from some place on, answers: its records are in the one array, and counted, as its tracks are, in the other; or a refusal,
--- with the bytes of its token
-pub data TextTold (ws h : List ℕ) (R : Read Text) (r : Reading) : Type 0 where
-  text-got : (t : Text) (us : List Token) → R ≡ got t us → r ≡ Got → tracks_at h ≡ variables_in t → Drafted ws (count_at h) (records_in t) → TextTold ws h R r
-  text-refused : (k : ℕ) (t : Token) → R ≡ leaves k t → r ≡ Unread k t.start t.stop → TextTold ws h R r
-
--- the arrays that a reading starts with
-pub record FreshArrays (ws h : List ℕ) : Type 0 where
-  pub room : length ws ≡ 128
-  pub size : length h ≡ 5
-  pub none : count_at h ≡ 0
+-- what reading a text, from some place on, answers: its records are drafted, and its tracks counted; or a refusal at a token
+pub data TextTold (h : Held) (R : Read Text) (r : Result Unit TokenFault) : Type 0 where
+  text-got : (t : Text) (us : List Token) → R ≡ got t us → r ≡ Ok tt → h.tracks ≡ variables_in t → Drafted h.draft (records_in t) → TextTold h R r
+  text-refused : (x : TokenFault) → RefusedAt R x → r ≡ Err x → TextTold h R r

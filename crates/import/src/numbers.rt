@@ -2,19 +2,17 @@
 ghost use Rattle.std.specs.Prelude.{◌≡◌};
 ghost use Rattle.import.specs.Numbers.{written_numbers, fault_numbers};
 
-use crate::{Import, TextFault};
+use crate::TextFault;
+use refusals::Reason;
 use rule_strip::numbers::{WrittenNumbers, unwritten_rule, written_rule};
+use rule_strip::write::Written;
 
-pub fn written_numbers(w: Import) -> WrittenNumbers
-    ensures { result ≡ written_numbers w }
+pub fn written_numbers(r: Result<Written, Reason>) -> WrittenNumbers
+    ensures { result ≡ written_numbers r }
 {
-    match w {
-        Import::Refused(k) => unwritten_rule(k, 0, 0),
-        Import::Written {
-            variables,
-            records,
-            length,
-        } => written_rule(variables, records, length),
+    match r {
+        Ok(written) => written_rule(written),
+        Err(reason) => unwritten_rule(reason.number(), 0, 0),
     }
 }
 
@@ -27,12 +25,19 @@ pub struct FaultNumbers {
     pub length: u64,
 }
 
-pub fn fault_numbers(f: TextFault) -> FaultNumbers
-    ensures { result ≡ fault_numbers f }
+pub fn fault_numbers(r: Result<(), TextFault>) -> FaultNumbers
+    ensures { result ≡ fault_numbers r }
 {
-    FaultNumbers {
-        refusal: f.refusal,
-        start: f.start as u64,
-        length: f.length as u64,
+    match r {
+        Ok(()) => FaultNumbers {
+            refusal: 0,
+            start: 0,
+            length: 0,
+        },
+        Err(fault) => FaultNumbers {
+            refusal: fault.reason.number(),
+            start: fault.start as u64,
+            length: fault.length as u64,
+        },
     }
 }

@@ -3,16 +3,19 @@ use Prim.Native.Nat.{ℕ, zero, suc, ◌+◌, ◌-◌, ◌*◌, ◌≤◌, ◌<�
 use mathlib.Core.Path.{◌≡◌, refl, sym, ap, subst, ◌∙◌}
 use mathlib.Core.Bool.{Bool, true, false}
 use mathlib.Core.List.{List, [], ◌∷◌}
-use native.Mathlib.Nat.{not-suc-le-zero, zero-add}
+use native.Mathlib.Nat.{not-suc-le-zero}
 use native.Mathlib.Omega.{arith}
+use Rattle.std.proofs.Common.{rules}
 use borrow.Author.Count.{below_more}
 use borrow.Author.Tests.{ltb-true, ltb-false}
 use lib.Dec.{T, ltb}
-use lib.ListN.{length, get_or, set, get_or-append}
-use lib.Seq.{get_or-append-add, get_or-append_seam, get_or-set_same, get_or-set_other}
+use borrow.Rule.Slice.PartMut.{put_mid}
+use Rattle.std.proofs.lemmas.List.{places}
+use lib.ListN.{length, get_or, take, set, length-set, get_or-append}
+use lib.Seq.{get_or-append-add, get_or-append_seam, get_or-take, length-take-le, get_or-set_same, get_or-set_other}
 use Rattle.logic.specs.Rule.{Record, no_record, good}
 use Rattle.logic.proofs.Rules.{good-here}
-use Rattle.bits.specs.declared.Fault.TheVariants.{Sound}
+use Rattle.refusals.specs.Fault.{sound}
 use Rattle.rule_strip.specs.RuleStrip.{variables_of, count_of, record_at, records_of, first_use, second_use, rule_fault}
 use Rattle.rule_strip.specs.RuleAnswers.{limit_of, fields_of}
 use Rattle.rule_strip.specs.RulePlaces.{Keeps}
@@ -22,13 +25,20 @@ use Rattle.rule_strip.specs.declared.Use.{Use}
 use Rattle.rule_strip.specs.declared.Use.TheVariants.{Variable, Earlier, Unused}
 use Rattle.rule_strip.proofs.RuleLaws.{record_kept, good_iff, records_at, rule-accepted}
 use Rattle.join.specs.JoinedRule.{moved_field, moved, moved_all, last_and, joined_records}
-use Rattle.join.specs.Joining.{PutMoved}
+use Rattle.join.specs.Joining.{MovedWords}
 use Rattle.join.proofs.JoinedRule.{moved_length, unmoved}
+
+-- an accepted strip has its first two bytes, and a record
+pub has_bytes : (s : List ℕ) → rule_fault s ≡ sound → 2 ≤ length s
+has_bytes s e = let f = rule-accepted s e in omega arith
+
+pub has_records : (s : List ℕ) → rule_fault s ≡ sound → 1 ≤ count_of s
+has_records s e = (rule-accepted s e).some_record
 
 -- ---- one record
 
 -- a record of an accepted strip keeps all rules
-keeps_at : (s : List ℕ) → rule_fault s ≡ Sound → (i : ℕ) → i < count_of s → Keeps (variables_of s) i (record_at s (16 + 18 * i))
+keeps_at : (s : List ℕ) → rule_fault s ≡ sound → (i : ℕ) → i < count_of s → Keeps (variables_of s) i (record_at s (16 + 18 * i))
 keeps_at s e i h =
     let f = rule-accepted s e in
     let n = variables_of s in
@@ -48,7 +58,7 @@ pub record Movable (up : ℕ) (f : Fields) : Type 0 where
   pub first_small : (f.first < 128) × (moved_field up (first_use f.op) f.first < 128)
   pub second-small : (f.second < 128) × (moved_field up (second_use f.op) f.second < 128)
 
-pub movable : (s : List ℕ) (i up : ℕ) (f : Fields) → rule_fault s ≡ Sound → i < count_of s → up + count_of s ≤ 128 → f ≡ fields_of (record_at s (16 + 18 * i))
+pub movable : (s : List ℕ) (i up : ℕ) (f : Fields) → rule_fault s ≡ sound → i < count_of s → up + count_of s ≤ 128 → f ≡ fields_of (record_at s (16 + 18 * i))
     → Movable up f
 movable s i up f e h l q =
     let n = variables_of s in
@@ -67,21 +77,32 @@ pub word_moved : (up : ℕ) (q : Record) (f : Fields) (u w : Use) (x y : ℕ) �
 unfolding moved
 word_moved up q f u w x y e a b c d = rw (c, d, a, b, e) refl
 
--- ---- the loop
+-- ---- the words at the end
 
-module _ (s : List ℕ) (up : ℕ) (ws : List ℕ) where
-  pub put-none : PutMoved s up 0 ws ws
-  put-none = record { put = λ i h. absurd (not-suc-le-zero h); before = λ i h. refl }
+-- of the words the first are those of one strip's m records, unmoved, then come those of the other's n, moved up, and then that of the last "and"
+pub record MovesBoth (a b : List ℕ) (m n : ℕ) (ws : List ℕ) : Type 0 where
+  pub count : length ws ≡ m + n + 1
+  pub firsts : (i : ℕ) → i < m → get_or ws i 0 ≡ record_word (moved 0 (record_at a (16 + 18 * i)))
+  pub seconds : (i : ℕ) → i < n → get_or ws (m + i) 0 ≡ record_word (moved m (record_at b (16 + 18 * i)))
+  pub last : get_or ws (m + n) 0 ≡ record_word (record { op = 7; first = m - 1; second = m + n - 1 })
 
-  pub put_next : (m : ℕ) (ws' : List ℕ) (w : ℕ) → PutMoved s up m ws ws' → up + m < length ws' → w ≡ record_word (moved up (record_at s (16 + 18 * m)))
-      → PutMoved s up (m + 1) ws (set ws' (up + m) w)
-  put_next m ws' w p l e = record {
-    put = below_more (λ (i : ℕ). get_or (set ws' (up + m) w) (up + i) 0 ≡ record_word (moved up (record_at s (16 + 18 * i)))) m
-        (λ i h. get_or-set_other ws' (up + m) (up + i) w 0 (λ q. omega arith) ∙ p.put i h) (get_or-set_same ws' (up + m) w 0 l ∙ e);
-    before = λ i h. get_or-set_other ws' (up + m) i w 0 (λ q. omega arith) ∙ p.before i h;
-  }
-
--- ---- the array at the end
+-- one part of the words is written, and then the next, of k words
+pub both_put : {a b : List ℕ} (m n k : ℕ) (xs ys ws : List ℕ) {u : ℕ} → length xs ≡ m → length ys ≡ n → k ≡ n → MovedWords a 0 xs → MovedWords b m ys
+    → u ≡ record_word (record { op = 7; first = m - 1; second = m + n - 1 }) → m + n < length ws
+    → MovesBoth a b m n (take (m + n + 1) (set (put_mid m k (put_mid 0 m ws xs) ys) (m + n) u))
+both_put m n k xs ys ws {u} l q z f g e h =
+    let vs : List ℕ = put_mid m k (put_mid 0 m ws xs) ys in
+    let long : length vs ≡ length ws = search (rules, places) in
+    record {
+      count = length-take-le (m + n + 1) (set vs (m + n) u) (simp length-set (omega arith));
+      firsts = λ i w.
+          get_or-take (m + n + 1) (set vs (m + n) u) i 0 (omega arith) ∙ get_or-set_other vs (m + n) i u 0 (λ y. omega arith)
+          ∙ (let o : get_or vs i 0 ≡ get_or xs i 0 = search (rules, places) in o) ∙ f i (omega arith);
+      seconds = λ i w.
+          get_or-take (m + n + 1) (set vs (m + n) u) (m + i) 0 (omega arith) ∙ get_or-set_other vs (m + n) (m + i) u 0 (λ y. omega arith)
+          ∙ (let o : get_or vs (m + i) 0 ≡ get_or ys i 0 = search (rules, places) in o) ∙ g i (omega arith);
+      last = get_or-take (m + n + 1) (set vs (m + n) u) (m + n) 0 (omega arith) ∙ get_or-set_same vs (m + n) u 0 (omega arith) ∙ e;
+    }
 
 -- what holds of each index below m, and of each of the p from there on
 below_both : (P : ℕ → Type 0) (m p : ℕ) → ((i : ℕ) → i < m → P i) → ((i : ℕ) → i < p → P (m + i)) → (i : ℕ) → i < m + p → P i
@@ -97,7 +118,7 @@ moved_at m [] i h = absurd (not-suc-le-zero h)
 moved_at m (r ∷ rs) zero h = refl
 moved_at m (r ∷ rs) (suc i) h = moved_at m rs i (omega arith)
 
-module _ (a b : List ℕ) (sound : rule_fault a ≡ Sound) (sound' : rule_fault b ≡ Sound) where
+module _ (a b : List ℕ) (first-sound : rule_fault a ≡ sound) (second-sound : rule_fault b ≡ sound) where
   abbrev m : ℕ
   m = count_of a
 
@@ -117,13 +138,13 @@ module _ (a b : List ℕ) (sound : rule_fault a ≡ Sound) (sound' : rule_fault 
   first-at : (i : ℕ) → i < m → get_or js i no_record ≡ moved 0 (record_at a (16 + 18 * i))
   unfolding joined_records
   first-at i h =
-      get_or-append rs _ no_record i (let l = (rule-accepted a sound).records-count in omega arith) ∙ records_at a i h ∙ sym (unmoved _)
+      get_or-append rs _ no_record i (let l = (rule-accepted a first-sound).records-count in omega arith) ∙ records_at a i h ∙ sym (unmoved _)
 
   second_at : (i : ℕ) → i < p → get_or js (m + i) no_record ≡ moved m (record_at b (16 + 18 * i))
   unfolding joined_records
   second_at i h =
-      let l = (rule-accepted a sound).records-count in
-      let k = (rule-accepted b sound').records-count in
+      let l = (rule-accepted a first-sound).records-count in
+      let k = (rule-accepted b second-sound).records-count in
       let z = moved_length (length rs) ss in
       ap (λ (x : ℕ). get_or js (x + i) no_record) (sym l)
       ∙ get_or-append-add rs _ i no_record
@@ -135,8 +156,8 @@ module _ (a b : List ℕ) (sound : rule_fault a ≡ Sound) (sound' : rule_fault 
   last_at : get_or js (m + p) no_record ≡ record { op = 7; first = m - 1; second = m + p - 1 }
   unfolding joined_records
   last_at =
-      let f = rule-accepted a sound in
-      let g = rule-accepted b sound' in
+      let f = rule-accepted a first-sound in
+      let g = rule-accepted b second-sound in
       let l = f.records-count in
       let k = g.records-count in
       let z = moved_length (length rs) ss in
@@ -148,14 +169,10 @@ module _ (a b : List ℕ) (sound : rule_fault a ≡ Sound) (sound' : rule_fault 
       ∙ get_or-append_seam (moved_all (length rs) ss) (last_and rs ss) [] no_record
       ∙ rw (x, y) refl
 
-  -- so the array has the word of each
-  pub array_joined : {z w v : List ℕ} → PutMoved a 0 m z w → PutMoved b m p w v → m + p < length v
-      → (i : ℕ) → i < m + p + 1 → get_or (set v (m + p) (record_word (record { op = 7; first = m - 1; second = m + p - 1 }))) i 0 ≡ record_word (get_or js i no_record)
-  array_joined {z} {w} {v} f g l =
-      let u : ℕ = record_word (record { op = 7; first = m - 1; second = m + p - 1 }) in
-      let P : ℕ → Type 0 = λ i. get_or (set v (m + p) u) i 0 ≡ record_word (get_or js i no_record) in
+  -- so the words have that of each
+  pub array_joined : {ws : List ℕ} → MovesBoth a b m p ws → (i : ℕ) → i < m + p + 1 → get_or ws i 0 ≡ record_word (get_or js i no_record)
+  array_joined {ws} h =
+      let P : ℕ → Type 0 = λ i. get_or ws i 0 ≡ record_word (get_or js i no_record) in
       below_more P (m + p)
-      (below_both P m p
-      (λ i h. get_or-set_other v (m + p) i u 0 (λ q. omega arith) ∙ g.before i h ∙ rw zero-add at (f.put i h) ∙ ap record_word (sym (first-at i h)))
-      (λ i h. get_or-set_other v (m + p) (m + i) u 0 (λ q. omega arith) ∙ g.put i h ∙ ap record_word (sym (second_at i h))))
-      (rw last_at (get_or-set_same v (m + p) u 0 l))
+      (below_both P m p (λ i l. h.firsts i l ∙ ap record_word (sym (first-at i l))) (λ i l. h.seconds i l ∙ ap record_word (sym (second_at i l))))
+      (h.last ∙ ap record_word (sym last_at))

@@ -2,21 +2,18 @@
 ghost use Rattle.std.specs.Prelude.{◌≡◌};
 ghost use Rattle.join.specs.Numbers.{join_numbers};
 
-use crate::Joined;
+use crate::JoinFault;
 use rule_strip::numbers::{WrittenNumbers, unwritten_rule, written_rule};
+use rule_strip::write::Written;
 
-pub fn join_numbers(j: Joined) -> WrittenNumbers
-    ensures { result ≡ join_numbers j }
+pub fn join_numbers(r: Result<Written, JoinFault>) -> WrittenNumbers
+    ensures { result ≡ join_numbers r }
 {
-    match j {
-        Joined::Written {
-            variables,
-            records,
-            length,
-        } => written_rule(variables, records, length),
-        Joined::Refused { refusal, strip } => {
-            let x = refusals::refusal_numbers(refusal);
-            unwritten_rule(x.number, x.place, strip)
+    match r {
+        Ok(written) => written_rule(written),
+        Err(fault) => {
+            let x = refusals::refusal_numbers(fault.refusal);
+            unwritten_rule(x.number, x.place, fault.strip)
         }
     }
 }

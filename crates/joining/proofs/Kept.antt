@@ -1,10 +1,10 @@
 -- THE JOINED MACHINE IS STORED: a table joined in place holds the joined machine. Assumes nothing.
 use Rattle.words.proofs.Vocabulary.{ℕ, ◌≤◌, ◌<◌, ◌+◌, ◌%◌, suc, zero, Bool, true, false, ◌&&◌, ◌≡◌, ◌∙◌, refl, sym, ap, ap₂, subst, ⊎_elim}
-use Rattle.words.proofs.Vocabulary.{List, [], ◌∷◌, ◌++◌, map, length, get_or, take, drop, length-take-le, List·getD-append, get_or-take, get_or-drop, T, eqb, ltb, ltb-true, eqb-true, eqb-false, arith}
+use Rattle.words.proofs.Vocabulary.{List, [], ◌∷◌, ◌++◌, map, length, get_or, take, drop, length-take-le, List·getD-append, T, eqb, ltb, ltb-true, eqb-true, eqb-false, arith}
 use Rattle.words.proofs.Vocabulary.{length-drop, length-append, length-map, append_assoc, drop-drop, leb, cond, leb-true, dec_lt, get_or-append_seam, eq-or-lt_of_le}
 use native.Mathlib.Nat.{mod-eq_of_lt}
 use mathlib.Core.Bool.{true≢false}
-use lib.Seq.{get_or-append-add, drop-append_seam}
+use lib.Seq.{drop-append_seam}
 use Rattle.words.specs.Word.{mem}
 use Rattle.words.proofs.Any.{and_both, and_cong}
 use Rattle.words.proofs.WordLaws.{word_cong}
@@ -30,10 +30,12 @@ use Rattle.joining.specs.Classes.{class_in}
 use Rattle.logic.proofs.Classes.{numbers-distinct}
 use Rattle.joining.specs.Parting.{state_in, Settled}
 use Rattle.joining.specs.Numbering.{leaders_of, accept_in}
-use Rattle.joining.specs.Rewriting.{joined_entry, joined_byte, Rewritten}
+use Rattle.joining.specs.Rewriting.{Leaders, joined_entry, joined_byte, Rewritten}
 use Rattle.joining.specs.Joining.{first_like, first_members, joined_of, JoinedTable, Joins}
 use Rattle.joining.proofs.Alike.{Listing, settled_is}
-use Rattle.joining.proofs.Leads.{leader-more, leader-same, leader_iff, leaders_rise, named-few, named_leaders}
+use Rattle.joining.proofs.Leads.{leader-more, leader-same, leader_iff, leaders_rise, few_lead}
+use Rattle.joining.proofs.Parts.{map_same, map_self}
+use Rattle.joining.proofs.Lent.{mid_at, put_low, put_mid}
 use Rattle.joining.proofs.Rewrites.{byte_at}
 
 -- the same classes: the same first members
@@ -76,15 +78,6 @@ number_at zero i h = absurd (omega arith)
 number_at (suc n) i h = ⊎_elim
     (λ (e : i ≡ n). ap (λ (k : ℕ). get_or (numbers n ++ (n ∷ [])) k 0) (e ∙ sym (numbers-long n)) ∙ get_or-append_seam (numbers n) n [] 0 ∙ sym e)
     (λ (l : i < n). List·getD-append (numbers n) (n ∷ []) 0 i (omega (arith, numbers-long n)) ∙ number_at n i l) (eq-or-lt_of_le (omega arith))
-
--- lists of the same states
-map_same : (f g : ℕ → ℕ) (n : ℕ) {is : List ℕ} → ((i : ℕ) → i < n → f i ≡ g i) → Each (λ (i : ℕ). i < n) is → map f is ≡ map g is
-map_same f g n h nil = refl
-map_same f g n h (cons {x} p e) = let a = h x p in let b = map_same f g n h e in cc
-
-map_self : (f : ℕ → ℕ) (n : ℕ) {is : List ℕ} → ((i : ℕ) → i < n → f i ≡ i) → Each (λ (i : ℕ). i < n) is → map f is ≡ is
-map_self f n h nil = refl
-map_self f n h (cons {x} p e) = let a = h x p in let b = map_self f n h e in cc
 
 -- ---- two branches as a list
 pub pairs-list : (s : Shape) → Shaped s → Listing 2 (λ (x : Branch 2 → ℕ). x one ∷ x two ∷ [])
@@ -174,7 +167,7 @@ module _ (s : Shape) (shape : Shaped s) (base : ℕ) (m : Mach) (k r : Summary) 
       ((leader_iff (class_in gs) n (class_in gs q)).1 (let a = J.settled.whole.low q in omega arith, J.settled.whole.own q)))
 
   few-classes : mm ≤ n
-  few-classes = omega (arith, named-few k.count gs J.names J.named, old.count)
+  few-classes = omega (arith, few_lead J.names.leaders, J.named.states, old.count)
 
   leader_in : (i : ℕ) → i < mm → get_or L i 0 < n
   leader_in i h =
@@ -266,7 +259,7 @@ module _ (s : Shape) (shape : Shaped s) (base : ℕ) (m : Mach) (k r : Summary) 
       let p = place-in s o is (omega (arith, seen_le b l)) (tuple_up c v) in
       let e = own-entry l h is u in (
         into (place_in s o is) p ∙ rewritten.done (place_in s o is) p
-            ∙ byte_at s shape mm k.count F N (named_leaders k.count gs J.names J.named J.settled.whole) b c t o is own v ∙ e.0,
+            ∙ byte_at s shape mm k.count F N ((subst (λ (c : ℕ). Leaders mm c F) J.named.states J.names.leaders)) b c t o is own v ∙ e.0,
         e.1,
       )
 
@@ -320,19 +313,6 @@ module _ (s : Shape) (shape : Shaped s) (base : ℕ) (m : Mach) (k r : Summary) 
       go true false true x y z = absurd (true≢false (sym (fewer z) ∙ sym counts ∙ y))
       go true false false x y z = rw (x, y, new false z) (was true false x (sym counts ∙ y) refl)
       go false v w x y z = rw x (was false v x (sym counts ∙ y) refl)
-
--- ---- a part of the workspace
-module _ (a k : ℕ) (xs ys : List ℕ) (h : a + k ≤ length xs) where
-  pub mid_at : (q : ℕ) → q < k → get_or (take k (drop a xs)) q 0 ≡ get_or xs (a + q) 0
-  mid_at q b = get_or-take k (drop a xs) q 0 b ∙ get_or-drop a xs q 0
-
-  pub put_low : (q : ℕ) → q < a → get_or (take a xs ++ (ys ++ drop k (drop a xs))) q 0 ≡ get_or xs q 0
-  put_low q b = List·getD-append (take a xs) (ys ++ drop k (drop a xs)) 0 q (omega (arith, length-take-le a xs (omega arith))) ∙ get_or-take a xs q 0 b
-
-  pub put_mid : length ys ≡ k → (q : ℕ) → q < k → get_or (take a xs ++ (ys ++ drop k (drop a xs))) (a + q) 0 ≡ get_or ys q 0
-  put_mid e q b =
-      ap (λ (z : ℕ). get_or (take a xs ++ (ys ++ drop k (drop a xs))) (z + q) 0) (sym (length-take-le a xs (omega arith)))
-      ∙ get_or-append-add (take a xs) (ys ++ drop k (drop a xs)) q 0 ∙ List·getD-append ys (drop k (drop a xs)) 0 q (omega arith)
 
 joined-long : (s : Shape) (k : Summary) (t u : List ℕ) (r : Summary) → JoinedTable s k t u r → length u ≡ length t
 joined-long s k t u r J = elim (dec_lt J.names.count k.count) [ yes l ↦ (J.bytes l).long | no l ↦ ap length (J.kept (omega arith)) ]

@@ -1,7 +1,7 @@
 -- Laws of the first members of classes, in order. Assumes nothing.
-use Rattle.words.proofs.Vocabulary.{ℕ, ◌≤◌, ◌<◌, ◌+◌, suc, zero, Bool, true, false, cond, ◌≡◌, ◌∙◌, refl, sym, ap, subst, ⊎_elim, inl, inr, ◌↔◌}
+use Rattle.words.proofs.Vocabulary.{ℕ, ◌≤◌, ◌<◌, ◌+◌, ◌-◌, suc, zero, dec_lt, Bool, true, false, cond, ◌≡◌, ◌∙◌, refl, sym, ap, subst, ⊎_elim, inl, inr, ◌↔◌}
 use Rattle.words.proofs.Vocabulary.{List, [], ◌∷◌, ◌++◌, length, get_or, set, length-set, get_or-set_same, get_or-set_other, length-append, List·getD-append, get_or-append_seam}
-use Rattle.words.proofs.Vocabulary.{T, eqb, eq-eqb, ne_eqb, eqb-true, eqb-false, arith, eq-or-lt_of_le, not-suc-le-zero}
+use Rattle.words.proofs.Vocabulary.{append-nil, T, eqb, eq-eqb, ne_eqb, eqb-true, eqb-false, arith, eq-or-lt_of_le, not-suc-le-zero}
 use mathlib.Core.Bool.{true≢false}
 use Rattle.logic.specs.Reach.{elem, select, position}
 use Rattle.logic.proofs.Reach.{elem-cons, elem-select}
@@ -10,9 +10,8 @@ use Rattle.logic.specs.Joined.{numbers, classes}
 use Rattle.joining.specs.Classes.{class_in}
 use Rattle.logic.proofs.Classes.{elem-numbers}
 use Rattle.joining.specs.Parting.{Whole}
-use Rattle.joining.specs.Numbering.{leaders_of, Numbers}
+use Rattle.joining.specs.Numbering.{leaders_of}
 use Rattle.joining.specs.Rewriting.{Leaders}
-use Rattle.joining.specs.declared.classes.Numbered.{Numbered}
 
 select-append : (g : ℕ → Bool) (L N : List ℕ) → select g (L ++ N) ≡ select g L ++ select g N
 unfolding select
@@ -22,10 +21,6 @@ select-append g (q ∷ L) N = go (g q) (select-append g L N)
     go : (v : Bool) → select g (L ++ N) ≡ select g L ++ select g N → cond v (q ∷ select g (L ++ N)) (select g (L ++ N)) ≡ cond v (q ∷ select g L) (select g L) ++ select g N
     go true e = ap (λ (M : List ℕ). q ∷ M) e
     go false e = e
-
-append-none : (L : List ℕ) → L ++ [] ≡ L
-append-none [] = refl
-append-none (q ∷ L) = ap (λ (M : List ℕ). q ∷ M) (append-none L)
 
 pub position_some : (x : ℕ) (L : List ℕ) → T (elem x L) → 0 < length L
 unfolding elem
@@ -57,7 +52,7 @@ module _ (g : ℕ → ℕ) (q : ℕ) where
   pub leader-same : (g q ≡ q → ⊥) → classes (suc q) g ≡ classes q g
   unfolding classes numbers select
   leader-same e =
-      select-append (λ z. eqb (g z) z) (numbers q) (q ∷ []) ∙ rw (ne_eqb (g q) q e) (append-none (classes q g))
+      select-append (λ z. eqb (g z) z) (numbers q) (q ∷ []) ∙ rw (ne_eqb (g q) q e) (append-nil (classes q g))
 
   pub leader_iff : (x : ℕ) → T (elem x (classes q g)) ↔ ((x < q) × (g x ≡ x))
   unfolding classes
@@ -167,20 +162,21 @@ leads_zero g (suc n) e = go (eqb (g (suc n)) (suc n)) refl (leads_zero g n e)
     go true x ih = ap (λ (L : List ℕ). get_or L 0 0) (leader-more g (suc n) (eqb-true (g (suc n)) (suc n) x)) ∙ List·getD-append (classes (suc n) g) (suc n ∷ []) 0 0 some ∙ ih
     go false x ih = ap (λ (L : List ℕ). get_or L 0 0) (leader-same g (suc n) (eqb-false (g (suc n)) (suc n) x)) ∙ ih
 
--- what is numbered leads
-module _ (n : ℕ) (gs : List ℕ) (r : Numbered) (w : Numbers n gs r) where
-  pub named-few : r.count ≤ n
-  named-few = omega (arith, w.counted, (leaders_rise (class_in gs) n).0)
+first-zero : (gs : List ℕ) (n c : ℕ) → c ≡ n → class_in gs 0 ≡ 0 → 0 < length (leaders_of n gs) → get_or (leaders_of n gs) 0 0 ≡ 0
+first-zero gs n zero e z h = absurd (let l = (leaders_rise (class_in gs) n).0 in omega arith)
+first-zero gs n (suc c) e z h = subst (λ (x : ℕ). get_or (leaders_of x gs) 0 0 ≡ 0) e (leads_zero (class_in gs) c z)
 
-  first-zero : (c : ℕ) → c ≡ n → class_in gs 0 ≡ 0 → 0 < length (classes n (class_in gs)) → get_or (classes n (class_in gs)) 0 0 ≡ 0
-  first-zero zero e z h = absurd (let l = (leaders_rise (class_in gs) n).0 in omega arith)
-  first-zero (suc c) e z h = subst (λ (x : ℕ). get_or (classes x (class_in gs)) 0 0 ≡ 0) e (leads_zero (class_in gs) c z)
+-- the first members, in order, lead
+pub first_lead : (n m : ℕ) (gs F : List ℕ) → Whole gs → m ≡ length (leaders_of n gs) → ((i : ℕ) → i < m → get_or F i 0 ≡ get_or (leaders_of n gs) i 0) → Leaders m n F
+first_lead n m gs F W counted firsts = record {
+  begins = λ h. firsts 0 h ∙ first-zero gs n n refl (let z = W.low 0 in omega arith) (omega arith);
+  rising = λ i h. let a = ((leaders_rise (class_in gs) n).1 i (omega arith)).0 in let e = firsts i h in omega arith;
+  within = λ i h. let a = ((leaders_rise (class_in gs) n).1 i (omega arith)).1 in let e = firsts i h in omega arith;
+}
 
-  pub named_leaders : Whole gs → Leaders r.count n r.first
-  named_leaders W = record {
-    begins = λ h. let b : 0 < length (leaders_of n gs) = omega (arith, w.counted) in w.firsts 0 b ∙ first-zero n refl (let z = W.low 0 in omega arith) b;
-    rising = λ i h. let b : i < length (leaders_of n gs) = omega (arith, w.counted) in
-        let a = ((leaders_rise (class_in gs) n).1 i b).0 in let e = w.firsts i b in omega arith;
-    within = λ i h. let b : i < length (leaders_of n gs) = omega (arith, w.counted) in
-        let a = ((leaders_rise (class_in gs) n).1 i b).1 in let e = w.firsts i b in omega arith;
-  }
+-- no more classes than states
+pub few_lead : {m n : ℕ} {F : List ℕ} → Leaders m n F → m ≤ n
+few_lead {m} {n} L = elim (dec_lt n m) [
+  | yes l ↦ absurd (let a = L.rising (m - 1) (omega arith) in let b = L.within (m - 1) (omega arith) in omega arith)
+  | no l ↦ omega arith
+]

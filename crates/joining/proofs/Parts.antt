@@ -1,7 +1,7 @@
 -- Laws of classes and of parting them. Assumes nothing.
 use Rattle.words.proofs.Vocabulary.{ℕ, ◌≤◌, ◌<◌, ◌+◌, ◌*◌, suc, zero, Bool, true, false, ◌≡◌, ◌∙◌, refl, sym, ap, subst, ⊎_elim, inl, inr, ◌⊎◌}
 use Rattle.words.proofs.Vocabulary.{List, map, length, get_or, set, length-set, get_or-set_same, get_or-set_other, eqb, eq-eqb, ne_eqb, eqb-true, arith}
-use Rattle.words.proofs.Vocabulary.{eq-or-lt_of_le, suc-mul, dec_lt, ℕ_discrete, and-false}
+use Rattle.words.proofs.Vocabulary.{below_more, eq-or-lt_of_le, suc-mul, dec_lt, ℕ_discrete, and-false}
 use mathlib.Core.Bool.{beq, true≢false}
 use Rattle.words.specs.Word.{mem}
 use Rattle.words.proofs.Any.{and_both}
@@ -15,12 +15,6 @@ is_false true h = absurd (h refl)
 is_false false h = refl
 
 -- ---- acceptance
-pub beq_true : (a b : Bool) → a ≡ b → beq a b ≡ true
-beq_true true true e = refl
-beq_true true false e = sym e
-beq_true false true e = e
-beq_true false false e = refl
-
 pub beq_means : (a b : Bool) → beq a b ≡ true → a ≡ b
 beq_means true true e = refl
 beq_means true false e = sym e
@@ -28,10 +22,6 @@ beq_means false true e = e
 beq_means false false e = refl
 
 -- ---- the first number that passes
--- no state before p passes, and p does not
-pub none-next : (e : ℕ → Bool) (p : ℕ) → ((r : ℕ) → r < p → e r ≡ false) → e p ≡ false → (r : ℕ) → r < p + 1 → e r ≡ false
-none-next e p h n r b = ⊎_elim (λ (d : r ≡ p). ap e d ∙ n) (λ (d : r < p). h r d) (eq-or-lt_of_le (omega arith))
-
 -- there is one such
 pub first_one : (d e : ℕ → Bool) {p q r s : ℕ} → ((x : ℕ) → d x ≡ e x) → FirstSuch d p r → FirstSuch e q s → r ≡ s
 first_one d e {p} {q} {r} {s} h a b = elim (dec_lt r s) [
@@ -101,15 +91,20 @@ module _ {A : (ℕ → ℕ) → Type 0} {n : ℕ} where
   same-last v w e q h = omega (arith, v.up q, w.up q, e q h)
 
 -- ---- what is clean stays so if nothing is parted
-map_same : (gs hs : List ℕ) → Same gs hs → {n : ℕ} {is : List ℕ} → n ≤ 64 → Each (λ (i : ℕ). i < n) is → map (class_in gs) is ≡ map (class_in hs) is
-map_same gs hs e h nil = refl
-map_same gs hs e h (cons {x} p r) = let z = e x (omega arith) in let y = map_same gs hs e h r in cc
+-- lists of the same states
+pub map_same : (f g : ℕ → ℕ) (n : ℕ) {is : List ℕ} → ((i : ℕ) → i < n → f i ≡ g i) → Each (λ (i : ℕ). i < n) is → map f is ≡ map g is
+map_same f g n h nil = refl
+map_same f g n h (cons {x} p e) = let a = h x p in let b = map_same f g n h e in cc
+
+pub map_self : (f : ℕ → ℕ) (n : ℕ) {is : List ℕ} → ((i : ℕ) → i < n → f i ≡ i) → Each (λ (i : ℕ). i < n) is → map f is ≡ is
+map_self f n h nil = refl
+map_self f n h (cons {x} p e) = let a = h x p in let b = map_self f n h e in cc
 
 pub clean-same : (f : Step) (gs hs : List ℕ) (l k n : ℕ) (is : List ℕ) → ((js : List ℕ) → f l js < 64) → Same gs hs → n ≤ 64 → Tuple k n is
     → Clean f gs l is → Clean f hs l is
 clean-same f gs hs l k n is small e h t c =
     sym (e (f l is) (small is)) ∙ c ∙ e (f l (map (class_in gs) is)) (small (map (class_in gs) is))
-    ∙ ap (λ (js : List ℕ). class_in hs (f l js)) (map_same gs hs e h t.below)
+    ∙ ap (λ (js : List ℕ). class_in hs (f l js)) (map_same (class_in gs) (class_in hs) n (λ i b. e i (omega arith)) t.below)
 
 -- ---- sums
 pub total-small : (gs : List ℕ) (m : ℕ) → Low gs → m ≤ 64 → total gs m ≤ m * 64
@@ -197,10 +192,13 @@ module _ (key : ℕ → ℕ) (n r : ℕ) (gs hs : List ℕ) (W : Whole gs) (w : 
       let z = split_stays v in omega arith)
       (λ (u : v < n → class_in gs v ≡ r → ⊥). w.others v u ∙ e) (inside v)) (inside q)
 
+  pub split-whole : Whole hs
+  split-whole = record { long = w.long ∙ W.long; low = split-low; own = split-own }
+
   pub split_refines : {A : (ℕ → ℕ) → Type 0}
       → ((name : ℕ → ℕ) → A name → Keeps n name gs → (p q : ℕ) → p < n → q < n → name p ≡ name q → key p ≡ key q) → Refines A n gs hs
   split_refines {A} respects = record {
-    whole = record { long = w.long ∙ W.long; low = split-low; own = split-own };
+    whole = split-whole;
     up = λ q. let a = W.low (class_in hs q) in let e = split_stays q in omega arith;
     finer = λ p q hp hq e. sym (split_stays p) ∙ ap (class_in gs) e ∙ split_stays q;
     keeps = λ name a k p q hp hq e.
@@ -222,7 +220,7 @@ SeenFirst e x r = ((r ≡ 64) × ((p : ℕ) → p < x → e p ≡ false)) ⊎ ((
 
 pub seen_pass : (e : ℕ → Bool) (x r : ℕ) → e x ≡ false → SeenFirst e x r → SeenFirst e (x + 1) r
 seen_pass e x r o = ⊎_elim
-    (λ (w : (r ≡ 64) × ((p : ℕ) → p < x → e p ≡ false)). inl (w.0, none-next e x w.1 o))
+    (λ (w : (r ≡ 64) × ((p : ℕ) → p < x → e p ≡ false)). inl (w.0, below_more _ _ w.1 o))
     (λ (w : (r < x) × (e r ≡ true) × ((p : ℕ) → p < r → e p ≡ false)). inr (omega (arith, w.0), w.1, w.2))
 
 -- one is seen already
@@ -305,6 +303,14 @@ module _ (key : ℕ → ℕ) (r : ℕ) (gs hs seen : List ℕ) (x : ℕ) (w : Sp
         | no u ↦ subst (SeenFirst (is_such key gs r v) (x + 1)) (sym (get_or-set_other seen (key x) v x 0 u)) (other_key v u b)
       ])
       (subst (FirstSuch (is_such key gs r (key x)) x) (sym y) z.1)
+
+  -- one state of the class more: its key k is new or seen already
+  pub split_step : (k : ℕ) (seen' : List ℕ) → k ≡ key x → x < 64 → key x < 64 → class_in gs x ≡ r
+      → ((get_or seen k 0 ≡ 64) × (seen' ≡ set seen k x)) ⊎ ((get_or seen k 0 ≡ 64 → ⊥) × (seen' ≡ seen))
+      → Splitting key r gs (set hs x (get_or seen' k 0)) seen' (x + 1)
+  split_step k seen' ek h hk e o = ⊎_elim
+      (λ (w : (get_or seen k 0 ≡ 64) × (seen' ≡ set seen k x)). rw (w.1, ek) (split-new h hk e (ap (λ (z : ℕ). get_or seen z 0) (sym ek) ∙ w.0)))
+      (λ (w : (get_or seen k 0 ≡ 64 → ⊥) × (seen' ≡ seen)). rw (w.1, ek) (split-old h hk e (λ z. w.0 (ap (λ (z : ℕ). get_or seen z 0) ek ∙ z)))) o
 
 pub split-start : (key : ℕ → ℕ) (r : ℕ) (gs seen : List ℕ) → length gs ≡ 64 → length seen ≡ 64 → ((v : ℕ) → v < 64 → get_or seen v 0 ≡ 64) → Splitting key r gs gs seen 0
 split-start key r gs seen a b h = record {

@@ -1,5 +1,5 @@
 -- Building a record and then joining its states: what both promise together. Assumes nothing.
-use Rattle.words.proofs.Vocabulary.{ℕ, ◌≤◌, ◌<◌, ◌∙◌, ap, List, arith}
+use Rattle.words.proofs.Vocabulary.{ℕ, ◌≤◌, ◌∙◌, ap, List, arith}
 use Rattle.layout.specs.declared.Shape.{Shape}
 use Rattle.records.specs.Machine.{share_byte}
 use Rattle.records.specs.Rule.{Adds, Spared}
@@ -9,10 +9,6 @@ use Rattle.joining.specs.Joining.{Joins}
 use Rattle.joining.specs.Record.{AddsJoined}
 
 module _ {x : Decoded} {s : Shape} {r : ℕ} {kf kg k : Summary} {ws built : List ℕ} (a : Adds x s r kf kg k ws built) (p : Spared s r ws built) where
-  -- too many states
-  pub adds_many : s.ceiling < k.count → AddsJoined x s r kf kg k ws built
-  adds_many h f g u = record { many = (a f g u).many; few = λ l. absurd (omega arith); looks = λ l. absurd (omega arith) }
-
   pub adds_joined : k.count ≤ s.ceiling → {k' : Summary} {ws' : List ℕ} → Joins s r k k' built ws' → AddsJoined x s r kf kg k' ws ws'
   adds_joined h {k'} {ws'} j f g u =
       let w = (a f g u).few h in
@@ -33,6 +29,3 @@ module _ {x : Decoded} {s : Shape} {r : ℕ} {kf kg k : Summary} {ws built : Lis
         );
         looks = λ l. v.looks ∙ (a f g u).looks h;
       }
-
-  pub spared-both : {ws' : List ℕ} → Spared s r built ws' → Spared s r ws ws'
-  spared-both b = record { low = λ q h. b.low q h ∙ p.low q h; high = b.high ∙ p.high }

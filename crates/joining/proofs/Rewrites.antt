@@ -1,7 +1,7 @@
 -- Laws of writing the joined machine's entries over the old ones, in rising order of places. Assumes nothing.
-use Rattle.words.proofs.Vocabulary.{ℕ, ◌≤◌, ◌<◌, ◌+◌, ◌-◌, ◌*◌, ◌%◌, suc, true, false, and-false, cond, ◌≡◌, ◌∙◌, refl, sym, ap, subst, ⊎_elim}
-use Rattle.words.proofs.Vocabulary.{List, length, get_or, set, length-set, get_or-set_same, get_or-set_other, le-leb, lt-leb, ltb, arith}
-use Rattle.words.proofs.Vocabulary.{eq-or-lt_of_le, mul-le-mul_right, suc-mul, dec_lt}
+use Rattle.words.proofs.Vocabulary.{ℕ, ◌≤◌, ◌<◌, ◌+◌, ◌-◌, ◌*◌, ◌%◌, suc, true, false, and-false, cond, ◌≡◌, ◌∙◌, refl, sym, ap, subst}
+use Rattle.words.proofs.Vocabulary.{List, get_or, le-leb, lt-leb, ltb, arith}
+use Rattle.words.proofs.Vocabulary.{mul-le-mul_right, suc-mul, dec_lt}
 use native.Mathlib.Nat.{zero-mul}
 use Rattle.layout.specs.Shape.{Shaped, labels_in, share_of, place_in, label_at, tuple_at, Tuple}
 use Rattle.layout.specs.Slots.{range_of, in_slots, FirstSlots, Slotted, slot_place}
@@ -40,20 +40,7 @@ quot_is c x y b d h lo hi =
 
 -- ---- bytes written in a row
 module _ {v : ℕ → ℕ} {row : ℕ} where
-  pub written_none : (t : List ℕ) → RowWritten v row 0 t t
-  written_none t = record { long = refl; entries = λ d h. absurd (omega arith); rest = λ q o. refl }
-
-  -- one more
-  pub written_next : {d : ℕ} {t u : List ℕ} (x : ℕ) → RowWritten v row d t u → row + d < length u → x ≡ v d → RowWritten v row (d + 1) t (set u (row + d) x)
-  written_next {d} {t} {u} x w h e = record {
-    long = length-set u (row + d) x ∙ w.long;
-    entries = λ i b. ⊎_elim
-        (λ (y : i ≡ d). ap (λ (z : ℕ). get_or (set u (row + d) x) (row + z) 0) y ∙ get_or-set_same u (row + d) x 0 h ∙ e ∙ ap v (sym y))
-        (λ (y : i < d). get_or-set_other u (row + d) (row + i) x 0 (λ z. omega arith) ∙ w.entries i y) (eq-or-lt_of_le (omega arith));
-    rest = λ q o. get_or-set_other u (row + d) q x 0 (λ z. o (omega arith) (omega arith)) ∙ w.rest q (λ a b. o a (omega arith));
-  }
-
-  -- and zeros after them
+  -- entries, and zeros after them
   pub written-clear : (m n : ℕ) {x : ℕ → ℕ} {t u u' : List ℕ} → m ≤ n → RowWritten x row m t u → RowWritten (λ d. 0) (row + m) (n - m) u u' → ((d : ℕ) → d < m → x d ≡ v d) → ((d : ℕ) → m ≤ d → d < n → 0 ≡ v d)
       → RowWritten v row n t u'
   written-clear m n {x} {t} {u} {u'} h a b same zeros = record {

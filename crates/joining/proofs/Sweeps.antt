@@ -1,13 +1,13 @@
 -- Laws of the loops over slots, labels and rounds: what is clean at the end of a loop in which nothing was parted. Assumes nothing.
-use Rattle.words.proofs.Vocabulary.{ℕ, ◌≤◌, ◌<◌, ◌+◌, ◌≡◌, refl, sym, ap, subst, ⊎_elim, List, map, eq-or-lt_of_le, get_or, mod-lt, arith}
-use Rattle.layout.specs.Shape.{Each, nil, cons, Tuple, place_in}
+use Rattle.words.proofs.Vocabulary.{ℕ, ◌≤◌, ◌<◌, ◌+◌, ◌≡◌, sym, ap, subst, ⊎_elim, List, eq-or-lt_of_le, get_or, mod-lt, arith}
+use Rattle.layout.specs.Shape.{Tuple, place_in}
 use Rattle.layout.specs.Slots.{range_of, in_slots, FirstSlots}
 use Rattle.layout.specs.declared.Shape.{Shape}
 use Rattle.layout.proofs.Slots.{few-branches, slots-tuple, slots_of}
 use Rattle.table.specs.Entry.{Step, seen}
 use Rattle.joining.specs.Classes.{class_in}
 use Rattle.joining.specs.Parting.{state_in, Span, Refines, Same, Clean, CleanRow, CleanLabel, CleanBy}
-use Rattle.joining.proofs.Parts.{same_first, same-last, clean-same}
+use Rattle.joining.proofs.Parts.{same_first, same-last, clean-same, map_self}
 
 module _ (s : Shape) (t : List ℕ) (n : ℕ) (E : Span s t n) where
   abbrev k : ℕ
@@ -62,9 +62,5 @@ module _ (s : Shape) (t : List ℕ) (n : ℕ) (E : Span s t n) where
         (eq-or-lt_of_le (omega arith))
 
 -- states that are alone are their classes' first members
-alone : (gs : List ℕ) (n : ℕ) {is : List ℕ} → ((q : ℕ) → q < n → class_in gs q ≡ q) → Each (λ (i : ℕ). i < n) is → map (class_in gs) is ≡ is
-alone gs n h nil = refl
-alone gs n h (cons {x} p r) = let z = h x p in let y = alone gs n h r in cc
-
 pub single-clean : (f : Step) (k n : ℕ) (gs : List ℕ) (bits labels : ℕ) → ((q : ℕ) → q < n → class_in gs q ≡ q) → CleanBy f k n gs bits labels
-single-clean f k n gs bits labels h l hl own is u = ap (λ (js : List ℕ). class_in gs (f l js)) (sym (alone gs n h u.below))
+single-clean f k n gs bits labels h l hl own is u = ap (λ (js : List ℕ). class_in gs (f l js)) (sym (map_self (class_in gs) n h u.below))

@@ -8,7 +8,7 @@ use Rattle.records.specs.Machine.{share_byte}
 use Rattle.records.specs.Rule.{Mach, mach_of, Stored}
 use Rattle.records.specs.declared.Summary.{Summary}
 use Rattle.logic.specs.Joined.{class_of, classes, is_apart}
-use Rattle.joining.specs.declared.classes.Numbered.{Numbered}
+use Rattle.joining.specs.declared.numbering.Numbered.{Numbered}
 use Rattle.joining.specs.Parting.{state_in, Settled}
 use Rattle.joining.specs.Numbering.{Numbers, accept_in}
 use Rattle.joining.specs.Rewriting.{joined_byte, Rewritten}

@@ -105,11 +105,14 @@ CleanLabel f k n gs l = (is : List ℕ) → Tuple k n is → Clean f gs l is
 abbrev pub CleanBy : Step → ℕ → ℕ → List ℕ → ℕ → ℕ → Type 0
 CleanBy f k n gs bits labels = (l : ℕ) → l < labels → l ≤ seen bits l → CleanLabel f k n gs l
 
--- r is the first of n states with which the row leads to another class than the leading row with the state's class, or n
-pub record FirstUnlike (gs t : List ℕ) (n row lead r : ℕ) : Type 0 where
-  pub up_to : r ≤ n
-  pub before : (d : ℕ) → d < r → class_at gs t (row + d) ≡ class_at gs t (lead + class_in gs d)
-  pub there : r < n → class_at gs t (row + r) ≡ class_at gs t (lead + class_in gs r) → ⊥
+-- with the states below n the row leads to the class to which the leading row does with the state's class
+abbrev pub LikeBelow : List ℕ → List ℕ → ℕ → ℕ → ℕ → Type 0
+LikeBelow gs t row lead n = (d : ℕ) → d < n → class_at gs t (row + d) ≡ class_at gs t (lead + class_in gs d)
+
+-- r is the first state with which it leads to another
+pub record FirstUnlike (gs t : List ℕ) (row lead r : ℕ) : Type 0 where
+  pub before : LikeBelow gs t row lead r
+  pub there : class_at gs t (row + r) ≡ class_at gs t (lead + class_in gs r) → ⊥
 
 -- the sum of the first m classes
 unfoldable pub total : List ℕ → ℕ → ℕ

@@ -8,64 +8,38 @@ ghost use Rattle.rules.specs.Trees.{AcceptedTree};
 ghost use Rattle.judge.specs.Judge.{judge_refusal, judged_of, ruling_judgement, judgement_for, workspace_for, JudgeClaim};
 
 use refusals::Refusal;
-use rule_strip::RuleCheck;
-use rules::build::Built;
 
 pub mod numbers; // what C is told
 
-// Judge's answer: no or yes, or a refusal.
-#[derive(Clone, Copy)]
-pub enum Judgement {
-    No,
-    Yes,
-    Refused(Refusal),
-}
-
 // The refusals that are tested before anything is built.
-fn judge_refusal(rule: &[u8], c: u64, room: usize, tree: &[u8]) -> Refusal
+fn judge_refusal(rule: &[u8], c: u64, room: usize, tree: &[u8]) -> Result<(), Refusal>
     ensures { result ≡ judge_refusal rule.now c room tree.now }
 {
-    match rule_strip::check_rule(rule) {
-        RuleCheck::Refused { number, place } => Refusal::Placed { number, place },
-        RuleCheck::Accepted { variables, records } => {
-            let work = rules::room::work_refusal(variables, records, c, room);
-            let Refusal::Nothing = work else {
-                return work;
-            };
-            rules::trees::tree_refusal(tree, variables)
-        }
-    }
+    let size = rule_strip::check_rule(rule)?;
+    rules::room::work_refusal(size.variables, size.records, c, room)?;
+    rules::trees::tree_refusal(tree, size.variables)
 }
 
 // The answer to an accepted rule strip, for which there is room, and an accepted tree: 14, or whether the last record's machine accepts it.
-fn judge_accepted(rule: &[u8], c: usize, ws: &mut [u8], tree: &[u8]) -> Judgement
+fn judge_accepted(rule: &[u8], c: usize, ws: &mut [u8], tree: &[u8]) -> Result<bool, Refusal>
     requires workable { Workable rule.now c (length ws.old) }
     requires accepted_tree { AcceptedTree tree.now (variables_of rule.now) }
     ensures value { result ≡ ruling_judgement (judged_of rule.now c tree.now) }
     ensures ws_unchanged { drop (room_of rule.now c) ws.new ≡ drop (room_of rule.now c) ws.old }
 {
-    match rules::build::build_rule(rule, c, ws) {
-        Built::Over(r) => Judgement::Refused(Refusal::TooManyStates(r as u64)),
-        Built::Ready(k) => {
-            if rules::read::satisfied(rule, c, ws, k, tree) {
-                return Judgement::Yes;
-            }
-            Judgement::No
-        }
-    }
+    let k = rules::build::build_rule(rule, c, ws)?;
+    Ok(rules::read::satisfied(rule, c, ws, k, tree))
 }
 
-// Judge a tree against a rule with the state ceiling c: any bytes, any ceiling, any workspace.
-pub fn judge(rule: &[u8], c: u64, ws: &mut [u8], tree: &[u8]) -> Judgement
+// Judge a tree against a rule with the state ceiling c: any bytes, any ceiling, any workspace. Whether the tree satisfies it, or what refuses.
+pub fn judge(rule: &[u8], c: u64, ws: &mut [u8], tree: &[u8]) -> Result<bool, Refusal>
     ensures value { result ≡ judgement_for rule.now c (length ws.old) tree.now }
     ensures ws_after { ws.new ≡ workspace_for rule.now c ws.old tree.now }
     ensures judge_claim { JudgeClaim rule.now c (length ws.old) tree.now result }
 {
-    let refusal = judge_refusal(rule, c, ws.len(), tree);
-    let Refusal::Nothing = refusal else {
-        return Judgement::Refused(refusal);
-    };
-    let v = judge_accepted(rule, c as usize, ws, tree);
-    rules::build::clear_work(rule, c as usize, ws);
-    v
+    judge_refusal(rule, c, ws.len(), tree)?;
+    // No `?` here: the workspace is cleared whatever the answer is.
+    let answer = judge_accepted(rule, c as usize, ws, tree);
+    rules::build::clear_work(rule, 0, c as usize, ws);
+    answer
 }

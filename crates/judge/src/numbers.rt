@@ -1,8 +1,7 @@
 // What C is told of a judgement: include/ws2s.h, `ws2s_judgement`. Fields that do not apply are 0.
 ghost use Rattle.std.specs.Prelude.{◌≡◌};
-ghost use Rattle.judge.specs.Numbers.{told_numbers, judgement_numbers};
+ghost use Rattle.judge.specs.Numbers.{judgement_numbers};
 
-use crate::Judgement;
 use refusals::Refusal;
 
 // kind: 0 no, 1 yes, 3 refused; place is the bit place that a strip's refusal names.
@@ -15,24 +14,24 @@ pub struct JudgementNumbers {
     pub place: u64,
 }
 
-fn told(kind: u64, r: Refusal) -> JudgementNumbers
-    ensures { result ≡ told_numbers kind r }
-{
-    let x = refusals::refusal_numbers(r);
-    JudgementNumbers {
-        kind,
-        refusal: x.number,
-        recordnumber: x.recordnumber,
-        place: x.place,
-    }
-}
-
-pub fn judgement_numbers(j: Judgement) -> JudgementNumbers
+pub fn judgement_numbers(j: Result<bool, Refusal>) -> JudgementNumbers
     ensures { result ≡ judgement_numbers j }
 {
     match j {
-        Judgement::No => told(0, Refusal::Nothing),
-        Judgement::Yes => told(1, Refusal::Nothing),
-        Judgement::Refused(r) => told(3, r),
+        Ok(yes) => JudgementNumbers {
+            kind: yes as u64,
+            refusal: 0,
+            recordnumber: 0,
+            place: 0,
+        },
+        Err(r) => {
+            let x = refusals::refusal_numbers(r);
+            JudgementNumbers {
+                kind: 3,
+                refusal: x.number,
+                recordnumber: x.recordnumber,
+                place: x.place,
+            }
+        }
     }
 }

@@ -1,14 +1,10 @@
 -- The places of entries: within the share, one entry at each, and an entry for each place; shares are small and apart. Assumes nothing.
 use Rattle.words.proofs.Vocabulary.{ℕ, ◌≤◌, ◌<◌, ◌+◌, ◌*◌, suc, ◌%◌, zero, ◌^◌, ◌/◌, ◌≡◌, ◌∙◌, refl, sym, ap, subst, List, [], ◌∷◌, ◌++◌, map, digits_lt}
-use Rattle.words.proofs.Vocabulary.{digits_div, digits_mod, length, length-map, length-append, replicate, pow_mono, mul-le-mul_right, mul-le-mul_left}
+use Rattle.words.proofs.Vocabulary.{digits_div, digits_mod, length, length-append, replicate, pow_mono, mul-le-mul_right, mul-le-mul_left}
 use Rattle.words.proofs.Vocabulary.{mul_assoc, suc-mul, mod-lt, div-add-mod', dec_lt, arith}
 use native.Mathlib.Nat.{pow-zero, pow-succ'}
 use Rattle.layout.specs.Shape.{Shaped, labels_in, share_of, share_at, Each, nil, cons, Tuple, digits_of, place_in, above_digits, low_digits, label_at, tuple_at}
 use Rattle.layout.specs.declared.Shape.{Shape}
-
--- the length of an array in a struct, as the record at a function's entry and a call's result have it
-pub id_length : {n : ℕ} (xs : List ℕ) → length (map (λ (v : ℕ). v) xs) ≡ n → length xs ≡ n
-id_length xs e = sym (length-map xs (λ (v : ℕ). v)) ∙ e
 
 -- ---- what holds of each member
 module _ {A : Type 0} {P : A → Type 0} where

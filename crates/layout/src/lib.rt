@@ -6,6 +6,7 @@ ghost use Rattle.layout.specs.Shape.{Shaped, shape_of, labels_in, place_in, shar
 ghost use Rattle.layout.specs.Slots.{range_of, Slotted, slot_place};
 
 // What the tables of a rule have in common: the number of variables, the state ceiling, and the number of branches of a node.
+// `Shaped` stays a `requires` and no invariant, since `shape_for` promises a shape for every n and c.
 #[derive(Clone, Copy)]
 pub struct Shape {
     pub variables: usize,
@@ -74,6 +75,7 @@ pub fn slot_place(s: Shape, l: usize, a: usize, b: usize, d: usize) -> usize
     ensures { (result ≡ slot_place s l a b d) × (result < 67108864) }
 {
     let c = s.ceiling;
-    let k = s.branches;
-    ((l * range(k, 2, c) + a) * range(k, 1, c) + b) * c + d
+    let first = range(s.branches, 2, c);
+    let second = range(s.branches, 1, c);
+    ((l * first + a) * second + b) * c + d
 }

@@ -1,5 +1,6 @@
 pub mod Lists
-pub mod Parts
+pub mod PartLaws
 pub mod Taking
+pub mod Stacks
 pub mod Walking
 pub mod Figures

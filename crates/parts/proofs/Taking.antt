@@ -17,7 +17,7 @@ use Rattle.logic.proofs.Orders.{less, same, more, ℕ-tri}
 use Rattle.parts.specs.Parts.{first_at, second_at, is_and, walk_from, fresh, parts_of}
 use Rattle.parts.specs.Taking.{Taking, taken_up, turn_on, turn, turns, begun, parts_taken, unmarked}
 use Rattle.parts.proofs.Lists.{not-false, elem-later, elem-nothing, fresh-other, fresh-skip, fresh-new}
-use Rattle.parts.proofs.Parts.{AndEarlier, and_earlier, walk_and, walk-other, walk-others}
+use Rattle.parts.proofs.PartLaws.{AndEarlier, and_earlier, walk_and, walk-other, walk-others}
 
 -- ---- how many have no mark
 

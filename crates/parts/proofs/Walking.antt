@@ -1,4 +1,4 @@
--- The walk as the code keeps it: a stack and the parts in arrays of 128, a mark for each record. Each branch of the loop is a case of `turn`.
+-- The walk as the code keeps it: a stack, the parts in an array of 128, a mark for each record. Each branch of the loop is a case of `turn`.
 -- Assumes nothing.
 use Prim.Native.Nat.{ℕ, zero, suc, ◌+◌, ◌-◌, ◌*◌, ◌≤◌, ◌<◌}
 use mathlib.Core.Path.{◌≡◌, refl, ap, ap₂, sym, subst, ◌∙◌}
@@ -14,7 +14,7 @@ use Rattle.logic.specs.Rule.{Record, no_record, Accepted}
 use Rattle.logic.specs.Reach.{elem, flat}
 use Rattle.logic.proofs.Reach.{elem-first}
 use Rattle.logic.proofs.Places.{true→T}
-use Rattle.bits.specs.declared.Fault.TheVariants.{Sound}
+use Rattle.refusals.specs.Fault.{sound}
 use Rattle.rule_strip.specs.RuleStrip.{variables_of, count_of, record_at, records_of, rule_fault}
 use Rattle.rule_strip.specs.RuleAnswers.{fields_of}
 use Rattle.rule_strip.specs.declared.Fields.{Fields}
@@ -23,38 +23,10 @@ use Rattle.parts.specs.Parts.{first_at, second_at, is_and, walk_from, fresh, par
 use Rattle.parts.specs.Taking.{Taking, unmarked}
 use Rattle.parts.specs.Listed.{Listed}
 use Rattle.parts.proofs.Lists.{elem-later, elem-nothing}
-use Rattle.parts.proofs.Parts.{AndEarlier, and_earlier, parts-few}
+use Rattle.parts.proofs.PartLaws.{AndEarlier, and_earlier, parts-few}
 use Rattle.parts.proofs.Taking.{unmarked-less, Going, passed, listed, opened, begun-going}
 
--- ---- a stack in an array, and marks in another
-
--- the first d entries, the last of them on top
-pub top_first : List ℕ → ℕ → List ℕ
-top_first xs zero = []
-top_first xs (suc d) = get_or xs d 0 ∷ top_first xs d
-
-top-length : (xs : List ℕ) (d : ℕ) → length (top_first xs d) ≡ d
-unfolding top_first
-top-length xs zero = refl
-top-length xs (suc d) = ap suc (top-length xs d)
-
--- an entry above the stack is none of its own
-top_below : (xs : List ℕ) (i v d : ℕ) → d ≤ i → top_first (set xs i v) d ≡ top_first xs d
-unfolding top_first
-top_below xs i v zero h = refl
-top_below xs i v (suc d) h = rw (get_or-set_other xs i d v 0 (λ e. omega arith), top_below xs i v d (omega arith)) refl
-
-top-push : (xs : List ℕ) (v d : ℕ) → d < length xs → top_first (set xs d v) (suc d) ≡ v ∷ top_first xs d
-unfolding top_first
-top-push xs v d h = rw (get_or-set_same xs d v 0 h, top_below xs d v d (omega arith)) refl
-
--- two at once
-top-two : (xs : List ℕ) (a b d : ℕ) → d + 1 < length xs → top_first (set (set xs d b) (d + 1) a) (d + 2) ≡ a ∷ (b ∷ top_first xs d)
-top-two xs a b d h =
-    let p : d + 2 ≡ suc (suc d) = omega arith in
-    let q : d + 1 ≡ suc d = omega arith in
-    let l = length-set xs d b in
-    rw (p, q) (top-push (set xs d b) a (suc d) (omega arith) ∙ ap (λ (L : List ℕ). a ∷ L) (top-push xs b d (omega arith)))
+-- ---- marks in an array
 
 -- how many of the first m have no mark
 pub bare_below : ℕ → List Bool → ℕ
@@ -89,30 +61,28 @@ fields-byte s at f q = let w = widths_at s at in rw q (w.1, w.2)
 
 -- ---- the loop
 
--- what the arrays say
-abbrev pub shown : List ℕ → List ℕ → ℕ → List ℕ → ℕ → Taking
-shown marked stack depth parts count = record { marked = marked; stack = top_first stack depth; found = take count parts }
+-- what the stack and the arrays say
+abbrev pub shown : List ℕ → List ℕ → List ℕ → ℕ → Taking
+shown marked stack parts count = record { marked = marked; stack = stack; found = take count parts }
 
 -- the loop's invariant, of the strip s
-pub record Walking (s parts : List ℕ) (marks : List Bool) (stack : List ℕ) (depth count : ℕ) : Type 0 where
-  pub accepted : rule_fault s ≡ Sound
+pub record Walking (s parts : List ℕ) (marks : List Bool) (stack : List ℕ) (count : ℕ) : Type 0 where
+  pub accepted : rule_fault s ≡ sound
   pub marked : List ℕ
   pub same : MarksOf marks marked
-  pub going : Going (records_of s) (shown marked stack depth parts count)
+  pub going : Going (records_of s) (shown marked stack parts count)
   pub count_fits : count ≤ 128
-  pub depth-fits : depth ≤ 128
   pub parts-long : length parts ≡ 128
   pub marks-long : length marks ≡ 128
-  pub stack-long : length stack ≡ 128
   pub few : count_of s ≤ 128
   pub short : length s ≤ 4096
   pub whole : 16 + 18 * count_of s ≤ 8 * length s
 
 -- the loop's measure
-abbrev pub still_left : List ℕ → List Bool → ℕ → ℕ
-still_left s marks depth = 2 * bare_below (count_of s) marks + depth
+abbrev pub still_left : List ℕ → List Bool → List ℕ → ℕ
+still_left s marks stack = 2 * bare_below (count_of s) marks + length stack
 
-module _ (s : List ℕ) (ok : rule_fault s ≡ Sound) where
+module _ (s : List ℕ) (ok : rule_fault s ≡ sound) where
   good : Accepted 2 (variables_of s) (records_of s)
   good = (rule-accepted s ok).records-accepted
 
@@ -129,10 +99,8 @@ module _ (s : List ℕ) (ok : rule_fault s ≡ Sound) where
   some-records = let f = rule-accepted s ok in (f.some_record, f.few-records)
 
   -- before the first turn the last record alone is on the stack
-  pub walking_first : (parts : List ℕ) (m : ℕ) → length parts ≡ 128 → m ≡ count_of s
-      → Walking s parts (replicate 128 false) (set (replicate 128 0) 0 (m - 1)) 1 0
-  unfolding top_first
-  walking_first parts m l e =
+  pub walking_first : (m : ℕ) (stack : List ℕ) → m ≡ count_of s → stack ≡ (m - 1) ∷ [] → Walking s (replicate 128 0) (replicate 128 false) stack 0
+  walking_first m stack e t =
       let f = rule-accepted s ok in
       let size = f.size in
       let few = f.few-records in
@@ -140,18 +108,16 @@ module _ (s : List ℕ) (ok : rule_fault s ≡ Sound) where
         accepted = ok;
         marked = [];
         same = no_marks 128;
-        going = rw (e, ← f.records-count) (begun-going (records_of s) earlier good.0);
+        going = rw (t, e, ← f.records-count) (begun-going (records_of s) earlier good.0);
         count_fits = omega arith;
-        depth-fits = omega arith;
-        parts-long = l;
+        parts-long = refl;
         marks-long = refl;
-        stack-long = refl;
         few = few;
         short = omega arith;
         whole = omega arith;
       }
 
-module _ {s parts : List ℕ} {marks : List Bool} {stack : List ℕ} {depth count : ℕ} (w : Walking s parts marks stack depth count) where
+module _ {s parts : List ℕ} {marks : List Bool} {stack : List ℕ} {count : ℕ} (w : Walking s parts marks stack count) where
   abbrev rs : List Record
   rs = records_of s
 
@@ -165,45 +131,36 @@ module _ {s parts : List ℕ} {marks : List Bool} {stack : List ℕ} {depth coun
   as_many = (rule-accepted s w.accepted).records-count
 
   -- when the stack is empty the parts are listed
-  pub walking_last : depth ≡ 0 → Listed (parts_of (records_of s)) count parts
-  unfolding top_first fresh flat
+  pub walking_last : stack ≡ [] → Listed (parts_of (records_of s)) count parts
+  unfolding fresh flat
   walking_last e =
-      let f : found ≡ parts_of rs = sym (append-nil found) ∙ (subst (λ (d : ℕ). Going rs (shown w.marked stack d parts count)) e w.going).parts in
+      let f : found ≡ parts_of rs = sym (append-nil found) ∙ (subst (λ (S : List ℕ). Going rs (shown w.marked S parts count)) e w.going).parts in
       record { counted = sym found-length ∙ ap length f; front = f; long = w.parts-long }
 
-  module _ (h : 0 < depth) where
-    -- the record on top
-    abbrev i : ℕ
-    i = get_or stack (depth - 1) 0
-
-    abbrev rest : List ℕ
-    rest = top_first stack (depth - 1)
-
+  -- i is on top
+  module _ {i : ℕ} {rest : List ℕ} (h : stack ≡ i ∷ rest) where
     here : Going rs (record { marked = w.marked; stack = i ∷ rest; found = found })
-    unfolding top_first
-    here = let e : depth ≡ suc (depth - 1) = omega arith in subst (λ (d : ℕ). Going rs (shown w.marked stack d parts count)) e w.going
+    here = subst (λ (S : List ℕ). Going rs (shown w.marked S parts count)) h w.going
 
-    pub top_within : get_or stack (depth - 1) 0 < count_of s
+    pub top_within : i < count_of s
     top_within = let a = here.within i (elem-first i rest) in let e = as_many in omega arith
 
     -- it has a mark
-    pub walking_passed : get_or marks (get_or stack (depth - 1) 0) false ≡ true → Walking s parts marks stack (depth - 1) count
+    pub walking_passed : get_or marks i false ≡ true → Walking s parts marks rest count
     walking_passed e = record {
       accepted = w.accepted;
       marked = w.marked;
       same = w.same;
       going = passed rs (earlier s w.accepted) i rest w.marked found here (true→T (sym (w.same i) ∙ e));
       count_fits = w.count_fits;
-      depth-fits = let d = w.depth-fits in omega arith;
       parts-long = w.parts-long;
       marks-long = w.marks-long;
-      stack-long = w.stack-long;
       few = w.few;
       short = w.short;
       whole = w.whole;
     }
 
-    module _ (e : get_or marks (get_or stack (depth - 1) 0) false ≡ false) where
+    module _ (e : get_or marks i false ≡ false) where
       bare : elem i w.marked ≡ false
       bare = sym (w.same i) ∙ e
 
@@ -211,11 +168,17 @@ module _ {s parts : List ℕ} {marks : List Bool} {stack : List ℕ} {depth coun
       more-marks = mark-more marks w.marked i (let a = top_within in let b = w.few in let c = w.marks-long in omega arith) w.same
 
       -- one more has a mark
-      pub marked-less : bare_below (count_of s) (set marks (get_or stack (depth - 1) 0) true) < bare_below (count_of s) marks
+      marked-less : bare_below (count_of s) (set marks i true) < bare_below (count_of s) marks
       marked-less = rw (bare_is (count_of s) (set marks i true) (i ∷ w.marked) more-marks, bare_is (count_of s) marks w.marked w.same)
           (unmarked-less (count_of s) w.marked (i ∷ w.marked) (λ x m. elem-later x i w.marked m) i top_within bare (elem-first i w.marked))
 
-      module _ {f : Fields} (q : f ≡ fields_of (record_at s (16 + 18 * get_or stack (depth - 1) 0))) where
+      pub listed-less : still_left s (set marks i true) rest < still_left s marks stack
+      listed-less = let m = marked-less in let l = ap length h in omega arith
+
+      pub opened-less : {a b : ℕ} {S : List ℕ} → S ≡ a ∷ (b ∷ rest) → still_left s (set marks i true) S < still_left s marks stack
+      opened-less t = let m = marked-less in let l = ap length h in let k = ap length t in omega arith
+
+      module _ {f : Fields} (q : f ≡ fields_of (record_at s (16 + 18 * i))) where
         at_top : get_or rs i no_record ≡ record_at s (16 + 18 * i)
         at_top = records_at s i top_within
 
@@ -229,27 +192,23 @@ module _ {s parts : List ℕ} {marks : List Bool} {stack : List ℕ} {depth coun
           both-going = opened rs (earlier s w.accepted) i rest w.marked found here bare (true→T is-and)
 
           -- both its fields have room on the stack
-          pub push-fits : depth + 1 ≤ 128
-          push-fits = let d = both-going.depth in let l = top-length stack (depth - 1) in let m = as_many in let n = w.few in omega arith
+          pub push-fits : length rest + 1 < 128
+          push-fits = let d = both-going.depth in let m = as_many in let n = w.few in omega arith
 
-          pushed : top_first (set (set stack (depth - 1) f.second) (depth - 1 + 1) f.first) (depth - 1 + 2) ≡ first_at rs i ∷ (second_at rs i ∷ rest)
-          pushed =
-              top-two stack f.first f.second (depth - 1) (let d = push-fits in let l = w.stack-long in omega arith)
-              ∙ ap₂ (λ (a b : ℕ). a ∷ (b ∷ rest)) (ap (λ (g : Fields). g.first) q ∙ ap (λ (r : Record). r.first) (sym at_top))
+          both : f.first ∷ (f.second ∷ rest) ≡ first_at rs i ∷ (second_at rs i ∷ rest)
+          both =
+              ap₂ (λ (a b : ℕ). a ∷ (b ∷ rest)) (ap (λ (g : Fields). g.first) q ∙ ap (λ (r : Record). r.first) (sym at_top))
               (ap (λ (g : Fields). g.second) q ∙ ap (λ (r : Record). r.second) (sym at_top))
 
-          pub walking_opened : Walking s parts (set marks (get_or stack (depth - 1) 0) true)
-              (set (set stack (depth - 1) f.second) (depth - 1 + 1) f.first) (depth - 1 + 2) count
-          walking_opened = record {
+          pub walking_opened : {S : List ℕ} → S ≡ f.first ∷ (f.second ∷ rest) → Walking s parts (set marks i true) S count
+          walking_opened t = record {
             accepted = w.accepted;
             marked = i ∷ w.marked;
             same = more-marks;
-            going = subst (λ (S : List ℕ). Going rs (record { marked = i ∷ w.marked; stack = S; found = found })) (sym pushed) both-going;
+            going = subst (λ (S : List ℕ). Going rs (record { marked = i ∷ w.marked; stack = S; found = found })) (sym (t ∙ both)) both-going;
             count_fits = w.count_fits;
-            depth-fits = let d = push-fits in omega arith;
             parts-long = w.parts-long;
             marks-long = length-set marks i true ∙ w.marks-long;
-            stack-long = length-set (set stack (depth - 1) f.second) (depth - 1 + 1) f.first ∙ length-set stack (depth - 1) f.second ∙ w.stack-long;
             few = w.few;
             short = w.short;
             whole = w.whole;
@@ -277,17 +236,15 @@ module _ {s parts : List ℕ} {marks : List Bool} {stack : List ℕ} {depth coun
               ap (λ (z : ℕ). take z (set parts count i)) (add-one count)
               ∙ take-suc-set parts count i (let d = list-fits in let l = w.parts-long in omega arith)
 
-          pub walking_listed : Walking s (set parts count (get_or stack (depth - 1) 0)) (set marks (get_or stack (depth - 1) 0) true) stack (depth - 1) (count + 1)
+          pub walking_listed : Walking s (set parts count i) (set marks i true) rest (count + 1)
           walking_listed = record {
             accepted = w.accepted;
             marked = i ∷ w.marked;
             same = more-marks;
             going = subst (λ (L : List ℕ). Going rs (record { marked = i ∷ w.marked; stack = rest; found = L })) (sym added) one-going;
             count_fits = let d = list-fits in omega arith;
-            depth-fits = let d = w.depth-fits in omega arith;
             parts-long = length-set parts count i ∙ w.parts-long;
             marks-long = length-set marks i true ∙ w.marks-long;
-            stack-long = w.stack-long;
             few = w.few;
             short = w.short;
             whole = w.whole;

@@ -1,3 +1,4 @@
 pub mod Parts
 pub mod Taking
 pub mod Listed
+pub mod Stack

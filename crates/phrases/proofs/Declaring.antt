@@ -1,49 +1,49 @@
 -- The names of one declaration, and all declarations. Assumes nothing.
-use Prim.Native.Nat.{ℕ, zero, suc, ◌+◌, ◌-◌, ◌<◌, ◌≤◌}
-use mathlib.Core.Path.{◌≡◌, refl, sym, ◌∙◌}
+use Prim.Native.Nat.{ℕ, ◌<◌, ◌≤◌}
+use mathlib.Core.Path.{◌≡◌, refl, sym, ◌∙◌, ap, subst}
 use mathlib.Core.Bool.{Bool, true, false, not, cond}
 use mathlib.Core.List.{List, [], ◌∷◌, ◌++◌}
 use native.Mathlib.Omega.{arith}
-use native.Mathlib.Numerals.{add-one}
 use borrow.Author.Tests.{eqb-true, leb-false}
 use lib.Dec.{eqb, leb}
 use lib.ListN.{length}
+use Rattle.std.specs.Prelude.{Some}
+use Rattle.refusals.specs.Reason.{number_of}
+use Rattle.refusals.specs.declared.Reason.TheVariants as reason
+use Rattle.text.specs.declared.kinds.Kind.TheVariants as kind
+use Rattle.text.specs.Kinds.{kind_number}
 use Rattle.text.specs.Token.{Token as TextToken, words, text_marks, number_in, spells}
 use Rattle.text.specs.Syntax.{Order, Scope}
 use Rattle.text.specs.Grammar.{Read, got, read_then, peek, rest, accept, or23, new_refusal, is_in_use, names, declarations}
 use Rattle.text.proofs.Steps.{names_is, declarations_by, declarations_is}
+use Rattle.text.proofs.KindNumbers.{same_kind}
 use Rattle.tokens.specs.declared.Token.{Token}
-use Rattle.tokens.specs.Tokens.{part, tokens_at, read_from, StandsNext}
-use Rattle.tokens.specs.InUse.{order_of, scope_of, NamesFit, Bound}
-use Rattle.tokens.proofs.Scopes.{no_names, none-fit, scope-length}
-use Rattle.phrases.specs.declared.Declarations.{Declarations}
-use Rattle.phrases.specs.Told.{RefusedAt, NamesAre, DeclarationsTold}
-use Rattle.phrases.proofs.Taking.{not_end, name-span, taken, turned, spelled, not_spelled, mark-stands, mark-lacks, mark-taken, mark-turned}
+use Rattle.tokens.specs.declared.TokenFault.{TokenFault}
+use Rattle.tokens.specs.declared.names.Names.{Names}
+use Rattle.tokens.specs.declared.names.Order.{Order as OrderCode}
+use Rattle.tokens.specs.declared.names.Order.TheVariants.{First, Second}
+use Rattle.tokens.specs.Spans.{part}
+use Rattle.tokens.specs.Named.{order_of}
+use Rattle.tokens.specs.Tokens.{tokens_at, read_from, refused_at, StandsNext}
+use Rattle.tokens.specs.InUse.{scope_of, Bound}
+use Rattle.tokens.proofs.Scopes.{no_names, scope-length}
+use Rattle.phrases.specs.declared.Declared.{Declared}
+use Rattle.phrases.specs.Looked.{LiesAt, Declares}
+use Rattle.phrases.specs.Told.{RefusedAt, NamesAre}
+use Rattle.phrases.proofs.Taking.{other_than, not_end, taken, turned, spelled, not_spelled, mark-stands, mark-lacks, mark-taken, mark-turned}
 use Rattle.phrases.proofs.Taking.{is_semicolon}
 
-is_var1 : number_in 0 (words ++ text_marks) "var1" ≡ 1
+is_var1 : number_in 0 (words ++ text_marks) "var1" ≡ kind_number kind.Var1
 unfolding number_in words text_marks
 is_var1 = refl
 
-is_var2 : number_in 0 (words ++ text_marks) "var2" ≡ 2
+is_var2 : number_in 0 (words ++ text_marks) "var2" ≡ kind_number kind.Var2
 unfolding number_in words text_marks
 is_var2 = refl
 
-is_comma : number_in 0 (words ++ text_marks) "," ≡ 11
+is_comma : number_in 0 (words ++ text_marks) "," ≡ kind_number kind.Comma
 unfolding number_in words text_marks
 is_comma = refl
-
--- ---- what is answered
-module _ {s : List ℕ} {at : ℕ} {R : Read Scope} {r : Declarations} where
-  pub told-refused : {k b e : ℕ} → RefusedAt R k b e → (k ≡ 0 → ⊥) → (r.refusal ≡ k) × (r.start ≡ b) × (r.stop ≡ e) → DeclarationsTold s at R r
-  told-refused f z (i, j, l) = record {
-    declares = λ e. absurd (z (sym i ∙ e));
-    refuses = λ _. record { token = f.token; refuses = rw i f.refuses; start_is = rw j f.start_is; stop_is = rw l f.stop_is };
-  }
-
-  pub told-declared : {ns : List ℕ} {n p : ℕ} → NamesAre s at R ns n p
-      → r ≡ record { refusal = 0; start = 0; stop = 0; next = p; in_use = n; names = ns } → DeclarationsTold s at R r
-  told-declared a e = rw e (record { declares = λ _. a; refuses = λ z. absurd (z refl) })
 
 -- ---- a new name
 new-test : (v twice full : Bool) → ◌≡◌ {A = ℕ} 0 (cond (not v) 23 (cond twice 24 (cond full 25 0))) → (v ≡ true) × (full ≡ false)
@@ -54,20 +54,20 @@ new-test false twice full e = absurd (omega arith)
 
 -- what is declared without refusal is a name, and there is a track for it
 module _ (s : List ℕ) (sc : Scope) (t : Token) (e : 0 ≡ new_refusal (is_in_use sc (part s t.start t.stop)) sc (read_from s t)) where
-  new-parts : (eqb t.kind 23 ≡ true) × (leb 8 (length sc) ≡ false)
-  new-parts = new-test (eqb t.kind 23) (is_in_use sc (part s t.start t.stop)) (leb 8 (length sc)) e
+  new-parts : (eqb (kind_number t.kind) 23 ≡ true) × (leb 8 (length sc) ≡ false)
+  new-parts = new-test (eqb (kind_number t.kind) 23) (is_in_use sc (part s t.start t.stop)) (leb 8 (length sc)) e
 
-  pub new-name : t.kind ≡ 23
-  new-name = eqb-true _ 23 new-parts.0
+  pub new-name : t.kind ≡ kind.Name
+  new-name = same_kind t.kind kind.Name (eqb-true _ 23 new-parts.0)
 
   pub new-room : length sc < 8
   new-room = leb-false 8 _ new-parts.1
 
 -- ---- the names of one declaration: the token t stands next
 module _ {s : List ℕ} (o : Order) (sc : Scope) {at : ℕ} {t : Token} (st : StandsNext s at t) where
-  names-turned : {k : ℕ} → k ≡ new_refusal (is_in_use sc (part s t.start t.stop)) sc (read_from s t) → (k ≡ 0 → ⊥)
-      → RefusedAt (names (length (tokens_at s at)) o sc (tokens_at s at)) k t.start t.stop
-  names-turned {k} e z = rw (names_is o sc (tokens_at s at)) (turned st (λ v. new_refusal (is_in_use sc v.bytes) sc v) _ k (sym e) z)
+  names-turned : {f : TokenFault} → number_of f.reason ≡ new_refusal (is_in_use sc (part s t.start t.stop)) sc (read_from s t) → LiesAt t f
+      → RefusedAt (names (length (tokens_at s at)) o sc (tokens_at s at)) f
+  names-turned {f} e l = rw (names_is o sc (tokens_at s at)) (turned st (λ v. new_refusal (is_in_use sc v.bytes) sc v) _ f (sym e) l)
 
   module _ (e : 0 ≡ new_refusal (is_in_use sc (part s t.start t.stop)) sc (read_from s t)) where
     -- with the name
@@ -84,127 +84,150 @@ module _ {s : List ℕ} (o : Order) (sc : Scope) {at : ℕ} {t : Token} (st : St
     names-taken : names (length (tokens_at s at)) o sc (tokens_at s at) ≡ after (tokens_at s t.stop)
     names-taken =
         names_is o sc (tokens_at s at)
-        ∙ taken st (λ v. new_refusal (is_in_use sc v.bytes) sc v) _ (not_end (new-name s sc t e) (omega arith)) (sym e)
+        ∙ taken st (λ v. new_refusal (is_in_use sc v.bytes) sc v) _ (not_end (new-name s sc t e) (λ d. cc)) (sym e)
 
     module _ {u : Token} (su : StandsNext s t.stop u) where
-      names_more : u.kind ≡ 11 → names (length (tokens_at s at)) o sc (tokens_at s at) ≡ names (length (tokens_at s u.stop)) o grown (tokens_at s u.stop)
-      names_more d = names-taken ∙ rw (spelled su "," is_comma d, after) (rw (su.goes_on (not_end d (omega arith))) refl)
+      names_more : u.kind ≡ kind.Comma
+          → names (length (tokens_at s at)) o sc (tokens_at s at) ≡ names (length (tokens_at s u.stop)) o grown (tokens_at s u.stop)
+      names_more d = names-taken ∙ rw (spelled su "," is_comma d, after) (rw (su.goes_on (not_end d (λ z. cc))) refl)
 
-      module _ (z : u.kind ≡ 11 → ⊥) where
+      module _ (z : u.kind ≡ kind.Comma → ⊥) where
         names-ended : names (length (tokens_at s at)) o sc (tokens_at s at)
             ≡ accept (or23 (spells ";" (peek (tokens_at s t.stop)))) (tokens_at s t.stop) (λ _ vs. got grown vs)
         names-ended = names-taken ∙ rw (not_spelled su "," is_comma z, after) refl
 
-        names_lack : (u.kind ≡ 10 → ⊥) → RefusedAt (names (length (tokens_at s at)) o sc (tokens_at s at)) 23 u.start u.stop
-        names_lack y = rw names-ended (mark-turned ";" is_semicolon _ (mark-lacks su 10 y))
+        names_lack : (u.kind ≡ kind.Semicolon → ⊥) → RefusedAt (names (length (tokens_at s at)) o sc (tokens_at s at)) (refused_at u reason.TextGrammar)
+        names_lack y = rw names-ended (mark-turned ";" is_semicolon _ (mark-lacks su kind.Semicolon y))
 
-        names-done : u.kind ≡ 10 → names (length (tokens_at s at)) o sc (tokens_at s at) ≡ got grown (tokens_at s u.stop)
-        names-done d = names-ended ∙ mark-taken ";" is_semicolon _ (mark-stands su 10 (omega arith) d)
+        names-done : u.kind ≡ kind.Semicolon → names (length (tokens_at s at)) o sc (tokens_at s at) ≡ got grown (tokens_at s u.stop)
+        names-done d = names-ended ∙ mark-taken ";" is_semicolon _ (mark-stands su kind.Semicolon (λ c. cc) d)
 
--- from place at₀ on, with the first n₀ names of ns₀ in use, a declaration's names were read up to place p, and now the first n of ns are in use
-pub record Listed (s : List ℕ) (o : ℕ) (ns₀ : List ℕ) (n₀ at₀ : ℕ) (ns : List ℕ) (n p : ℕ) : Type 0 where
-  pub same : names (length (tokens_at s at₀)) (order_of o) (scope_of s ns₀ n₀) (tokens_at s at₀)
-      ≡ names (length (tokens_at s p)) (order_of o) (scope_of s ns n) (tokens_at s p)
-  pub fit : NamesFit s ns n
+-- the names of order o of a declaration that starts at a place, where the names sc are in use
+abbrev listing : List ℕ → OrderCode → Scope → ℕ → Read Scope
+listing s o sc at = names (length (tokens_at s at)) (order_of o) sc (tokens_at s at)
+
+-- k is the refusal of the token t as a new name, or 0
+abbrev NewIs : ℕ → Scope → Token → List ℕ → Type 0
+NewIs k sc t s = k ≡ new_refusal (is_in_use sc (part s t.start t.stop)) sc (read_from s t)
+
+-- from place at₀ of s on, where the names sc₀ are in use, a declaration's names were read up to place p, and now the names ns are in use
+pub record Listed (s : List ℕ) (o : OrderCode) (sc₀ : Scope) (at₀ : ℕ) (ns : Names) (p : ℕ) : Type 0 where
+  pub text_is : ns.text.now ≡ s
+  pub same : listing s o sc₀ at₀ ≡ listing s o (scope_of ns) p
   pub onward : at₀ ≤ p
 
-pub listed-none : (s : List ℕ) (o : ℕ) (ns : List ℕ) (n at : ℕ) → NamesFit s ns n → Listed s o ns n at ns n at
-listed-none s o ns n at f = record { same = refl; fit = f; onward = omega arith }
+-- what is declared without refusal is a name, and there is a track for it
+module _ (ns : Names) (t : Token) (e : NewIs 0 (scope_of ns) t ns.text.now) where
+  pub listed-name : t.kind ≡ kind.Name
+  listed-name = new-name ns.text.now (scope_of ns) t e
 
-module _ {s : List ℕ} {o : ℕ} {ns₀ : List ℕ} {n₀ at₀ : ℕ} {ns : List ℕ} {n p : ℕ} (l : Listed s o ns₀ n₀ at₀ ns n p) {t : Token} (st : StandsNext s p t) where
-  pub listed-turned : {k : ℕ} → k ≡ new_refusal (is_in_use (scope_of s ns n) (part s t.start t.stop)) (scope_of s ns n) (read_from s t) → (k ≡ 0 → ⊥)
-      → RefusedAt (names (length (tokens_at s at₀)) (order_of o) (scope_of s ns₀ n₀) (tokens_at s at₀)) k t.start t.stop
-  listed-turned e z = rw l.same (names-turned (order_of o) (scope_of s ns n) st e z)
+  pub listed-room : ns.count < 8
+  listed-room = rw scope-length at (new-room ns.text.now (scope_of ns) t e)
 
-  module _ {k : ℕ} (f : k ≡ new_refusal (is_in_use (scope_of s ns n) (part s t.start t.stop)) (scope_of s ns n) (read_from s t)) (z : k ≡ 0) where
-    e : 0 ≡ new_refusal (is_in_use (scope_of s ns n) (part s t.start t.stop)) (scope_of s ns n) (read_from s t)
-    e = sym z ∙ f
+module _ {s : List ℕ} {o : OrderCode} {sc₀ : Scope} {at₀ : ℕ} {ns : Names} {p : ℕ} (l : Listed s o sc₀ at₀ ns p) {t : Token}
+    (st : StandsNext ns.text.now p t) where
+  stands : StandsNext s p t
+  stands = subst (λ (x : List ℕ). StandsNext x p t) l.text_is st
 
-    pub listed-name : t.kind ≡ 23
-    listed-name = new-name s (scope_of s ns n) t e
+  pub listed-turned : {f : TokenFault} → NewIs (number_of f.reason) (scope_of ns) t ns.text.now → LiesAt t f → RefusedAt (listing s o sc₀ at₀) f
+  listed-turned {f} e z =
+      rw l.same (names-turned (order_of o) (scope_of ns) stands (subst (NewIs (number_of f.reason) (scope_of ns) t) l.text_is e) z)
 
-    pub listed-room : n < 8
-    listed-room = rw scope-length at (new-room s (scope_of s ns n) t e)
+  module _ (e : NewIs 0 (scope_of ns) t ns.text.now) {ms : Names} (b : Bound ns (record { start = t.start; stop = t.stop; order = o }) ms)
+      {u : Token} (su : StandsNext ms.text.now t.stop u) where
+    accepted : NewIs 0 (scope_of ns) t s
+    accepted = subst (NewIs 0 (scope_of ns) t) l.text_is e
 
-    module _ {ms : List ℕ} (b : Bound ns n t.start t.stop o ms) {u : Token} (su : StandsNext s t.stop u) where
-      pub listed_more : u.kind ≡ 11 → Listed s o ns₀ n₀ at₀ ms (n + 1) u.stop
-      listed_more d =
-          let h = st.onward (not_end listed-name (omega arith)) in
-          let g = su.onward (not_end d (omega arith)) in
-          record {
-            same = l.same ∙ rw (add-one n, b.scope s) (names_more (order_of o) (scope_of s ns n) st e su d);
-            fit = rw (add-one n) (b.fit s l.fit (name-span st listed-name));
-            onward = omega (arith, l.onward);
-          }
+    scope-is : scope_of ms ≡ record { name = part s t.start t.stop; order = order_of o } ∷ scope_of ns
+    scope-is = subst (λ (x : List ℕ). scope_of ms ≡ record { name = part x t.start t.stop; order = order_of o } ∷ scope_of ns) l.text_is b.scope
 
-      pub listed_lack : (u.kind ≡ 11 → ⊥) → (u.kind ≡ 10 → ⊥)
-          → RefusedAt (names (length (tokens_at s at₀)) (order_of o) (scope_of s ns₀ n₀) (tokens_at s at₀)) 23 u.start u.stop
-      listed_lack y x = rw l.same (names_lack (order_of o) (scope_of s ns n) st e su y x)
+    behind : StandsNext s t.stop u
+    behind = subst (λ (x : List ℕ). StandsNext x t.stop u) (b.text ∙ l.text_is) su
 
-      pub listed-done : (u.kind ≡ 11 → ⊥) → u.kind ≡ 10
-          → NamesAre s at₀ (names (length (tokens_at s at₀)) (order_of o) (scope_of s ns₀ n₀) (tokens_at s at₀)) ms (n + 1) u.stop
-      listed-done y d =
-          let h = st.onward (not_end listed-name (omega arith)) in
-          let g = su.onward (not_end d (omega arith)) in
-          record {
-            reads = l.same ∙ rw (add-one n, b.scope s) (names-done (order_of o) (scope_of s ns n) st e su y d);
-            fit = rw (add-one n) (b.fit s l.fit (name-span st listed-name));
-            onward = omega (arith, l.onward);
-          }
+    ends : (u.kind ≡ kind.End → ⊥) → p < u.stop × (u.stop ≤ length s)
+    ends z =
+        let h = stands.onward (not_end (listed-name ns t e) (λ z. cc)) in
+        let g = behind.onward z in
+        (omega arith, omega arith)
+
+    pub listed_more : u.kind ≡ kind.Comma → Listed s o sc₀ at₀ ms u.stop
+    listed_more d =
+        let h = ends (not_end d (λ z. cc)) in
+        record {
+          text_is = b.text ∙ l.text_is;
+          same = l.same ∙ rw scope-is (names_more (order_of o) (scope_of ns) stands accepted behind d);
+          onward = omega (arith, l.onward);
+        }
+
+    pub listed_lack : (u.kind ≡ kind.Comma → ⊥) → (u.kind ≡ kind.Semicolon → ⊥) → RefusedAt (listing s o sc₀ at₀) (refused_at u reason.TextGrammar)
+    listed_lack y x = rw l.same (names_lack (order_of o) (scope_of ns) stands accepted behind y x)
+
+    pub listed-done : u.kind ≡ kind.Semicolon → NamesAre s at₀ (listing s o sc₀ at₀) (record { names = ms; next = u.stop })
+    listed-done d =
+        let h = ends (not_end d (λ z. cc)) in
+        let n : u.kind ≡ kind.Comma → ⊥ = other_than d (λ z. cc) in
+        record {
+          reads = l.same ∙ rw scope-is (names-done (order_of o) (scope_of ns) stands accepted behind n d);
+          text_is = b.text ∙ l.text_is;
+          onward = omega (arith, l.onward);
+        }
 
 -- ---- all declarations: the token t stands next
 module _ {s : List ℕ} (sc : Scope) {at : ℕ} {t : Token} (st : StandsNext s at t) where
-  all_read : (t.kind ≡ 1 → ⊥) → (t.kind ≡ 2 → ⊥) → declarations (length (tokens_at s at)) sc (tokens_at s at) ≡ got sc (tokens_at s at)
+  all_read : (t.kind ≡ kind.Var1 → ⊥) → (t.kind ≡ kind.Var2 → ⊥) → declarations (length (tokens_at s at)) sc (tokens_at s at) ≡ got sc (tokens_at s at)
   all_read y z = declarations_is sc (tokens_at s at) ∙ rw (not_spelled st "var1" is_var1 y, declarations_by) (rw (not_spelled st "var2" is_var2 z) refl)
 
-  abbrev one_more : ℕ → Read Scope
-  one_more o = read_then (names (length (tokens_at s t.stop)) (order_of o) sc (tokens_at s t.stop)) (λ sd us. declarations (length us) sd us)
-
-  one-read : (o : ℕ) → t.kind ≡ o → 1 ≤ o → o ≤ 2 → declarations (length (tokens_at s at)) sc (tokens_at s at) ≡ one_more o
-  one-read zero e h l = absurd (omega arith)
-  one-read (suc zero) e h l =
+  one-read : (o : OrderCode) → Declares t.kind (Some o) → declarations (length (tokens_at s at)) sc (tokens_at s at)
+      ≡ read_then (names (length (tokens_at s t.stop)) (order_of o) sc (tokens_at s t.stop)) (λ sd us. declarations (length us) sd us)
+  one-read First e =
       declarations_is sc (tokens_at s at)
-      ∙ rw (spelled st "var1" is_var1 e, declarations_by) (rw (st.goes_on (not_end e (omega arith))) refl)
-  one-read (suc (suc zero)) e h l =
+      ∙ rw (spelled st "var1" is_var1 e, declarations_by) (rw (st.goes_on (not_end e (λ z. cc))) refl)
+  one-read Second e =
+      let n : t.kind ≡ kind.Var1 → ⊥ = other_than e (λ z. cc) in
       declarations_is sc (tokens_at s at)
-      ∙ rw (not_spelled st "var1" is_var1 (λ z. omega arith), declarations_by)
-      (rw (spelled st "var2" is_var2 e) (rw (st.goes_on (not_end e (omega arith))) refl))
-  one-read (suc (suc (suc o))) e h l = absurd (omega arith)
+      ∙ rw (not_spelled st "var1" is_var1 n, declarations_by)
+      (rw (spelled st "var2" is_var2 e) (rw (st.goes_on (not_end e (λ z. cc))) refl))
 
--- from place at₀ on declarations were read up to place p, and the first n names of ns are declared
-pub record Reached (s : List ℕ) (at₀ : ℕ) (ns : List ℕ) (n p : ℕ) : Type 0 where
-  pub same : declarations (length (tokens_at s at₀)) [] (tokens_at s at₀) ≡ declarations (length (tokens_at s p)) (scope_of s ns n) (tokens_at s p)
-  pub fit : NamesFit s ns n
-  pub onward : at₀ ≤ p
+declares-no_end : (t : Token) (o : OrderCode) → Declares t.kind (Some o) → t.kind ≡ kind.End → ⊥
+declares-no_end t First e = not_end e (λ z. cc)
+declares-no_end t Second e = not_end e (λ z. cc)
 
-pub reached-none : (s : List ℕ) (at : ℕ) (ns : List ℕ) → Reached s at ns 0 at
-reached-none s at ns = record { same = rw no_names refl; fit = none-fit s ns; onward = omega arith }
+-- from place at₀ of s on declarations were read, and those of d are declared
+pub record Reached (s : List ℕ) (at₀ : ℕ) (d : Declared) : Type 0 where
+  pub text_is : d.names.text.now ≡ s
+  pub same : declarations (length (tokens_at s at₀)) [] (tokens_at s at₀)
+      ≡ declarations (length (tokens_at s d.next)) (scope_of d.names) (tokens_at s d.next)
+  pub onward : at₀ ≤ d.next
 
-module _ {s : List ℕ} {at₀ : ℕ} {ns : List ℕ} {n p : ℕ} (l : Reached s at₀ ns n p) {t : Token} (st : StandsNext s p t) where
-  pub reached-last : (t.kind ≡ 1 → ⊥) → (t.kind ≡ 2 → ⊥) → NamesAre s at₀ (declarations (length (tokens_at s at₀)) [] (tokens_at s at₀)) ns n p
-  reached-last y z = record { reads = l.same ∙ all_read (scope_of s ns n) st y z; fit = l.fit; onward = l.onward }
+pub reached-none : (s : List ℕ) (at : ℕ) (ns : Names) → ns.text.now ≡ s → ns.count ≡ 0 → Reached s at (record { names = ns; next = at })
+reached-none s at ns t c = record { text_is = t; same = rw (no_names ns c) refl; onward = omega arith }
 
-  module _ (h : 1 ≤ t.kind) (g : t.kind ≤ 2) {r : Declarations}
-      (d : DeclarationsTold s t.stop (names (length (tokens_at s t.stop)) (order_of t.kind) (scope_of s ns n) (tokens_at s t.stop)) r) where
-    reached-one : declarations (length (tokens_at s at₀)) [] (tokens_at s at₀) ≡ one_more (scope_of s ns n) st t.kind
-    reached-one = l.same ∙ one-read (scope_of s ns n) st t.kind refl h g
+module _ {s : List ℕ} {at₀ : ℕ} {d : Declared} (l : Reached s at₀ d) {t : Token} (st : StandsNext s d.next t) where
+  pub reached-last : (t.kind ≡ kind.Var1 → ⊥) → (t.kind ≡ kind.Var2 → ⊥) → NamesAre s at₀ (declarations (length (tokens_at s at₀)) [] (tokens_at s at₀)) d
+  reached-last y z = record { reads = l.same ∙ all_read (scope_of d.names) st y z; text_is = l.text_is; onward = l.onward }
 
-    pub reached-refused : (r.refusal ≡ 0 → ⊥) → DeclarationsTold s at₀ (declarations (length (tokens_at s at₀)) [] (tokens_at s at₀)) r
-    reached-refused z =
-        let f = d.refuses z in
-        record {
-          declares = λ e. absurd (z e);
-          refuses = λ _. record { token = f.token; refuses = reached-one ∙ rw f.refuses refl; start_is = f.start_is; stop_is = f.stop_is };
-        }
+  module _ (o : OrderCode) (h : Declares t.kind (Some o)) where
+    -- the text of the declared names
+    abbrev their : List ℕ
+    their = d.names.text.now
 
-    pub reached-more : r.refusal ≡ 0 → Reached s at₀ r.names r.in_use r.next
-    reached-more e =
-        let a = d.declares e in
-        let k = st.onward (λ z. omega arith) in
-        record { same = reached-one ∙ rw a.reads refl; fit = a.fit; onward = omega (arith, l.onward, a.onward) }
+    reached-one : declarations (length (tokens_at s at₀)) [] (tokens_at s at₀)
+        ≡ read_then (listing their o (scope_of d.names) t.stop) (λ sd us. declarations (length us) sd us)
+    reached-one =
+        l.same ∙ one-read (scope_of d.names) st o h
+        ∙ ap (λ (x : List ℕ). read_then (listing x o (scope_of d.names) t.stop) (λ sd us. declarations (length us) sd us)) (sym l.text_is)
 
-    pub reached-onward : r.refusal ≡ 0 → length s - r.next < length s - p
-    reached-onward e =
-        let a = d.declares e in
-        let k = st.onward (λ z. omega arith) in
-        omega (arith, a.onward)
+    pub reached-refused : {f : TokenFault} → RefusedAt (listing their o (scope_of d.names) t.stop) f
+        → RefusedAt (declarations (length (tokens_at s at₀)) [] (tokens_at s at₀)) f
+    reached-refused f = record { token = f.token; refuses = reached-one ∙ rw f.refuses refl; start_is = f.start_is; stop_is = f.stop_is }
+
+    module _ {r : Declared} (a : NamesAre their t.stop (listing their o (scope_of d.names) t.stop) r) where
+      pub reached-more : Reached s at₀ r
+      reached-more =
+          let k = st.onward (declares-no_end t o h) in
+          record {
+            text_is = a.text_is ∙ l.text_is;
+            same = reached-one ∙ rw a.reads
+                (ap (λ (x : List ℕ). declarations (length (tokens_at x r.next)) (scope_of r.names) (tokens_at x r.next)) l.text_is);
+            onward = omega (arith, l.onward, a.onward);
+          }

@@ -2,222 +2,117 @@
 // token, and refused at the token at which the definitions refuse it: document 01, "How trainers type a rule".
 #![tactic(auto)]
 
-ghost use Rattle.std.specs.Prelude.{◌≡◌, [], ◌<◌, ◌≤◌, length};
-ghost use Rattle.text.specs.Token.{a_name};
+ghost use Rattle.std.specs.Prelude.{◌≡◌, ◌≢◌, [], ◌<◌, length, IfErr};
 ghost use Rattle.text.specs.Grammar.{new_refusal, is_in_use, spot_of, atom_of, declarations};
 ghost use Rattle.text.specs.Grammar as grammar;
-ghost use Rattle.tokens.specs.Tokens.{part, Span, StandsNext, read_from, tokens_at};
-ghost use Rattle.tokens.specs.InUse.{order_of, scope_of, NamesFit};
-ghost use Rattle.phrases.specs.Looked.{Looked, UsedAs, relation_by, good_order};
+ghost use Rattle.tokens.specs.Spans.{part, Span};
+ghost use Rattle.tokens.specs.Tokens.{StandsNext, read_from, tokens_at};
+ghost use Rattle.tokens.specs.Named.{order_of};
+ghost use Rattle.tokens.specs.InUse.{scope_of};
+ghost use Rattle.phrases.specs.Looked.{Looked, UsedAs, LiesAt, refusal_number, relation_by, good_order, Declares};
 ghost use Rattle.phrases.specs.Told.{MarkTold, BinderTold, SpotTold, BranchTold, AtomTold, RightTold, EqualTold, RelatedTold, DeclarationsTold};
 
-use drafting::{Atom, Spot};
-use text::kinds;
-use tokens::Token;
-
-// Whether a word or mark stands that must: the place behind it, or the refusal's number and the span of the token at which it lies.
-#[derive(Clone, Copy)]
-pub enum Mark {
-    Stands {
-        next: usize,
-    },
-    Refused {
-        number: u64,
-        start: usize,
-        stop: usize,
-    },
-}
+use drafting::{Atom, Branch, Spot};
+use refusals::Reason;
+use text::kinds::Kind;
+use tokens::names::{Name, Names, Order};
+use tokens::{Token, TokenFault};
 
 // What a quantifier binds: the name's span and the place behind the colon.
 #[derive(Clone, Copy)]
-pub enum Binder {
-    Bound {
-        start: usize,
-        stop: usize,
-        next: usize,
-    },
-    Refused {
-        number: u64,
-        start: usize,
-        stop: usize,
-    },
+pub struct Binder {
+    pub start: usize,
+    pub stop: usize,
+    pub next: usize,
 }
 
-// A name looked up: its order, 0 where it is not in use, and its track.
+// What a name in use stands for, and its track.
 #[derive(Clone, Copy)]
 struct Holder {
-    order: usize,
-    track: usize,
-}
-
-// A name used: the number of its refusal, or 0 and its track.
-#[derive(Clone, Copy)]
-struct Use {
-    refusal: u64,
+    order: Order,
     track: usize,
 }
 
 // The right side of an equality, and the place behind it.
 #[derive(Clone, Copy)]
-enum SpotRead {
-    Read {
-        place: Spot,
-        next: usize,
-    },
-    Refused {
-        number: u64,
-        start: usize,
-        stop: usize,
-    },
+struct SpotRead {
+    place: Spot,
+    next: usize,
 }
 
 // An atom, and the place behind it.
 #[derive(Clone, Copy)]
-pub enum AtomRead {
-    Read {
-        atom: Atom,
-        next: usize,
-    },
-    Refused {
-        number: u64,
-        start: usize,
-        stop: usize,
-    },
-}
-
-// Declared names, how many they are, and the place behind them, when refusal is 0; else the refusal's number and the span of the token at which
-// it lies.
-#[derive(Clone, Copy)]
-pub struct Declarations {
-    pub refusal: u64,
-    pub start: usize,
-    pub stop: usize,
+pub struct AtomRead {
+    pub atom: Atom,
     pub next: usize,
-    pub in_use: usize,
-    pub names: [usize; 24],
 }
 
-// A refusal at a token.
-fn refused(refusal: u64, t: Token) -> Declarations
-    ensures { (result.refusal ≡ refusal) × (result.start ≡ t.start) × (result.stop ≡ t.stop) }
-{
-    Declarations {
-        refusal,
-        start: t.start,
-        stop: t.stop,
-        next: 0,
-        in_use: 0,
-        names: [0; 24],
-    }
+// Declared names, and the place behind them.
+#[derive(Clone, Copy)]
+pub struct Declared<'t> {
+    pub names: Names<'t>,
+    pub next: usize,
 }
 
-// Names that were declared, and the place behind them.
-fn declared(names: [usize; 24], in_use: usize, next: usize) -> Declarations
-    ensures { result ≡ record { refusal = 0; start = 0; stop = 0; next = next; in_use = in_use; names = names } }
-{
-    Declarations {
-        refusal: 0,
-        start: 0,
-        stop: 0,
-        next,
-        in_use,
-        names,
-    }
-}
-
-// The word or mark of a kind, which must stand next.
-pub fn read_mark(text: &[u8], kind: usize, at: usize) -> Mark
-    requires { kind < a_name }
+// The word or mark of a kind, which must stand next: the place behind it.
+pub fn read_mark(text: &[u8], kind: Kind, at: usize) -> Result<usize, TokenFault>
+    requires { kind ≢ Kind.End }
     ensures { MarkTold text.now kind at result }
 {
     let t = tokens::token_at(text, at);
     if t.kind != kind {
-        return Mark::Refused {
-            number: 23,
-            start: t.start,
-            stop: t.stop,
-        };
+        return Err(t.refused(Reason::TextGrammar));
     }
-    Mark::Stands { next: t.stop }
+    Ok(t.stop)
 }
 
-// The name and the colon behind a quantifier word.
-pub fn read_binder(text: &[u8], in_use: usize, at: usize) -> Binder
-    ensures { BinderTold text.now in_use at result }
+// The name and the colon behind a quantifier word, where names are in use.
+pub fn read_binder(names: &Names, at: usize) -> Result<Binder, TokenFault>
+    ensures { BinderTold names.now.text.now names.now.count at result }
 {
-    let name = tokens::token_at(text, at);
-    if name.kind != kinds::NAME {
-        return Binder::Refused {
-            number: 23,
-            start: name.start,
-            stop: name.stop,
-        };
+    let name = tokens::token_at(names.text, at);
+    if name.kind != Kind::Name {
+        return Err(name.refused(Reason::TextGrammar));
     }
-    if 8 <= in_use {
-        return Binder::Refused {
-            number: 25,
-            start: name.start,
-            stop: name.stop,
-        };
+    if 8 <= names.count {
+        return Err(name.refused(Reason::TextVariables));
     }
-    match read_mark(text, kinds::COLON, name.stop) {
-        Mark::Stands { next } => Binder::Bound {
-            start: name.start,
-            stop: name.stop,
-            next,
-        },
-        Mark::Refused {
-            number,
-            start,
-            stop,
-        } => Binder::Refused {
-            number,
-            start,
-            stop,
-        },
-    }
+    let next = read_mark(names.text, Kind::Colon, name.stop)?;
+    Ok(Binder {
+        start: name.start,
+        stop: name.stop,
+        next,
+    })
 }
 
-// The name of a span, as the names in use have it.
-fn look_up(text: &[u8], names: &[usize; 24], in_use: usize, start: usize, stop: usize) -> Holder
-    requires names_fit { NamesFit text.now names.now in_use }
-    requires span { Span text.now start stop }
-    ensures { Looked (scope_of text.now names.now in_use) (part text.now start stop) result }
+// The name of a span, if it is in use.
+fn look_up(names: &Names, start: usize, stop: usize) -> Option<Holder>
+    requires { Span names.now.text.now start stop }
+    ensures { Looked (scope_of names.now) (part names.now.text.now start stop) result }
 {
-    let track = tokens::names::find(text, names, in_use, start, stop);
-    if in_use <= track {
-        return Holder { order: 0, track };
-    }
-    if names[3 * track + 2] == 1 {
-        return Holder { order: 1, track };
-    }
-    Holder { order: 2, track }
+    let track = names.find(start, stop)?;
+    Some(Holder {
+        order: names.entries[track].order,
+        track,
+    })
 }
 
-// A token where a name of that order must stand.
-fn use_name(text: &[u8], names: &[usize; 24], in_use: usize, t: Token, order: usize) -> Use
-    requires names_fit { NamesFit text.now names.now in_use }
-    requires span { t.kind ≡ a_name → Span text.now t.start t.stop }
-    requires le_order { (1 ≤ order) × (order ≤ 2) }
-    ensures { UsedAs text.now (scope_of text.now names.now in_use) (order_of order) t result }
+// The track of a token where a name of that order must stand.
+fn use_name(names: &Names, t: Token, order: Order) -> Result<usize, TokenFault>
+    requires { t.kind ≡ Kind.Name → Span names.now.text.now t.start t.stop }
+    ensures { UsedAs names.now.text.now (scope_of names.now) (order_of order) t result }
 {
-    if t.kind != kinds::NAME {
-        return Use {
-            refusal: 23,
-            track: 0,
-        };
+    if t.kind != Kind::Name {
+        return Err(t.refused(Reason::TextGrammar));
     }
-    let held = look_up(text, names, in_use, t.start, t.stop);
+    let wrong = t.refused(Reason::TextName);
+    let Some(held) = look_up(names, t.start, t.stop) else {
+        return Err(wrong);
+    };
     if held.order != order {
-        return Use {
-            refusal: 24,
-            track: 0,
-        };
+        return Err(wrong);
     }
-    Use {
-        refusal: 0,
-        track: held.track,
-    }
+    Ok(held.track)
 }
 
 // The branch of a name of that track, whose name ends at a place, if one is named.
@@ -226,258 +121,201 @@ fn read_branch(text: &[u8], track: usize, at: usize) -> SpotRead
     ensures { BranchTold text.now track at result }
 {
     let mark = tokens::token_at(text, at);
-    if mark.kind == kinds::BRANCH_1 {
-        return SpotRead::Read {
-            place: Spot::Branch { number: 0, track },
+    match mark.kind {
+        Kind::Branch1 => SpotRead {
+            place: Spot::Branch {
+                branch: Branch::One,
+                track,
+            },
             next: mark.stop,
-        };
-    }
-    if mark.kind == kinds::BRANCH_2 {
-        return SpotRead::Read {
-            place: Spot::Branch { number: 1, track },
+        },
+        Kind::Branch2 => SpotRead {
+            place: Spot::Branch {
+                branch: Branch::Two,
+                track,
+            },
             next: mark.stop,
-        };
-    }
-    SpotRead::Read {
-        place: Spot::Variable { track },
-        next: at,
+        },
+        _ => SpotRead {
+            place: Spot::Variable { track },
+            next: at,
+        },
     }
 }
 
 // The right side of an equality: only behind a name is the token after it looked at.
-fn read_spot(text: &[u8], names: &[usize; 24], in_use: usize, at: usize) -> SpotRead
-    requires { NamesFit text.now names.now in_use }
-    ensures { SpotTold text.now (scope_of text.now names.now in_use) at
-        (spot_of (scope_of text.now names.now in_use) (tokens_at text.now at)) result }
+fn read_spot(names: &Names, at: usize) -> Result<SpotRead, TokenFault>
+    ensures { SpotTold names.now.text.now (scope_of names.now) at
+        (spot_of (scope_of names.now) (tokens_at names.now.text.now at)) result }
 {
-    let t = tokens::token_at(text, at);
-    if t.kind == kinds::ROOT {
-        return SpotRead::Read {
+    let t = tokens::token_at(names.text, at);
+    if t.kind == Kind::Root {
+        return Ok(SpotRead {
             place: Spot::Root,
             next: t.stop,
-        };
+        });
     }
-    let used = use_name(text, names, in_use, t, 1);
-    if used.refusal != 0 {
-        return SpotRead::Refused {
-            number: used.refusal,
-            start: t.start,
-            stop: t.stop,
-        };
-    }
-    read_branch(text, used.track, t.stop)
+    let track = use_name(names, t, Order::First)?;
+    Ok(read_branch(names.text, track, t.stop))
 }
 
-// Whether a name of that order, 0 for none, may stand before a token of that kind.
-fn left_good(order: usize, kind: usize) -> bool
+// Whether a name of that order may stand before a token of that kind.
+fn left_good(order: Order, kind: Kind) -> bool
     ensures { result ≡ good_order (relation_by kind) order }
 {
-    if kind == kinds::SUB {
-        return order == 2;
+    match kind {
+        Kind::Sub => order == Order::Second,
+        Kind::In | Kind::Equals => order == Order::First,
+        _ => true,
     }
-    if kind == kinds::IN {
-        return order == 1;
-    }
-    if kind == kinds::EQUALS {
-        return order == 1;
-    }
-    order != 0
 }
 
 // The right side of `sub` or `in`, which is the kind, behind a left name of that track.
-fn read_right(
-    text: &[u8],
-    names: &[usize; 24],
-    in_use: usize,
-    left: usize,
-    kind: usize,
-    at: usize,
-) -> AtomRead
-    requires names_fit { NamesFit text.now names.now in_use }
-    requires left_bound { left < 8 }
-    ensures { RightTold text.now (scope_of text.now names.now in_use) left kind at result }
+fn read_right(names: &Names, left: usize, kind: Kind, at: usize) -> Result<AtomRead, TokenFault>
+    requires { left < 8 }
+    ensures { RightTold names.now.text.now (scope_of names.now) left kind at result }
 {
-    let t = tokens::token_at(text, at);
-    let used = use_name(text, names, in_use, t, 2);
-    if used.refusal != 0 {
-        return AtomRead::Refused {
-            number: used.refusal,
-            start: t.start,
-            stop: t.stop,
-        };
-    }
-    let right = used.track;
-    if kind == kinds::SUB {
-        return AtomRead::Read {
-            atom: Atom::Sub { left, right },
-            next: t.stop,
-        };
-    }
-    AtomRead::Read {
-        atom: Atom::Member {
+    let t = tokens::token_at(names.text, at);
+    let right = use_name(names, t, Order::Second)?;
+    let atom = if kind == Kind::Sub {
+        Atom::Sub { left, right }
+    } else {
+        Atom::Member {
             element: left,
             set: right,
-        },
-        next: t.stop,
-    }
+        }
+    };
+    Ok(AtomRead { atom, next: t.stop })
 }
 
 // The right side of an equality whose left name has that track.
-fn read_equal(text: &[u8], names: &[usize; 24], in_use: usize, left: usize, at: usize) -> AtomRead
-    requires names_fit { NamesFit text.now names.now in_use }
-    requires left_bound { left < 8 }
-    ensures { EqualTold text.now (scope_of text.now names.now in_use) left at result }
+fn read_equal(names: &Names, left: usize, at: usize) -> Result<AtomRead, TokenFault>
+    requires { left < 8 }
+    ensures { EqualTold names.now.text.now (scope_of names.now) left at result }
 {
-    match read_spot(text, names, in_use, at) {
-        SpotRead::Read { place, next } => AtomRead::Read {
-            atom: Atom::Equal { left, place },
-            next,
+    let read = read_spot(names, at)?;
+    Ok(AtomRead {
+        atom: Atom::Equal {
+            left,
+            place: read.place,
         },
-        SpotRead::Refused {
-            number,
-            start,
-            stop,
-        } => AtomRead::Refused {
-            number,
-            start,
-            stop,
-        },
-    }
+        next: read.next,
+    })
 }
 
 // What follows an atom's left name, of that track, from the token behind it on.
-fn read_related(
-    text: &[u8],
-    names: &[usize; 24],
-    in_use: usize,
-    left: usize,
-    relation: Token,
-) -> AtomRead
-    requires names_fit { NamesFit text.now names.now in_use }
-    requires left_bound { left < 8 }
-    ensures { RelatedTold text.now (scope_of text.now names.now in_use) left relation result }
+fn read_related(names: &Names, left: usize, relation: Token) -> Result<AtomRead, TokenFault>
+    requires { left < 8 }
+    ensures { RelatedTold names.now.text.now (scope_of names.now) left relation result }
 {
-    let kind = relation.kind;
-    if kind == kinds::EQUALS {
-        return read_equal(text, names, in_use, left, relation.stop);
-    }
-    if kind == kinds::SUB {
-        return read_right(text, names, in_use, left, kind, relation.stop);
-    }
-    if kind == kinds::IN {
-        return read_right(text, names, in_use, left, kind, relation.stop);
-    }
-    AtomRead::Refused {
-        number: 23,
-        start: relation.start,
-        stop: relation.stop,
+    match relation.kind {
+        Kind::Equals => read_equal(names, left, relation.stop),
+        Kind::Sub => read_right(names, left, Kind::Sub, relation.stop),
+        Kind::In => read_right(names, left, Kind::In, relation.stop),
+        _ => Err(relation.refused(Reason::TextGrammar)),
     }
 }
 
 // An atom, from its first token. A name of the wrong order is refused at the name, though the order that is asked of it shows only at the token
 // behind it.
-pub fn read_atom(text: &[u8], names: &[usize; 24], in_use: usize, left: Token) -> AtomRead
-    requires names_fit { NamesFit text.now names.now in_use }
-    requires stands_next { StandsNext text.now left.start left }
-    ensures { AtomTold text.now (scope_of text.now names.now in_use) left.start
-        (atom_of (scope_of text.now names.now in_use) (tokens_at text.now left.start)) result }
+pub fn read_atom(names: &Names, left: Token) -> Result<AtomRead, TokenFault>
+    requires { StandsNext names.now.text.now left.start left }
+    ensures { AtomTold names.now.text.now (scope_of names.now) left.start
+        (atom_of (scope_of names.now) (tokens_at names.now.text.now left.start)) result }
 {
-    if left.kind != kinds::NAME {
-        return AtomRead::Refused {
-            number: 23,
-            start: left.start,
-            stop: left.stop,
-        };
+    if left.kind != Kind::Name {
+        return Err(left.refused(Reason::TextGrammar));
     }
-    let held = look_up(text, names, in_use, left.start, left.stop);
-    let relation = tokens::token_at(text, left.stop);
+    let wrong = left.refused(Reason::TextName);
+    let Some(held) = look_up(names, left.start, left.stop) else {
+        return Err(wrong);
+    };
+    let relation = tokens::token_at(names.text, left.stop);
     if !left_good(held.order, relation.kind) {
-        return AtomRead::Refused {
-            number: 24,
-            start: left.start,
-            stop: left.stop,
-        };
+        return Err(wrong);
     }
-    read_related(text, names, in_use, held.track, relation)
+    read_related(names, held.track, relation)
 }
 
-// The refusal of a token where a new name must be declared, or 0.
-fn new_refusal(text: &[u8], names: &[usize; 24], in_use: usize, t: Token) -> u64
-    requires names_fit { NamesFit text.now names.now in_use }
-    requires span { t.kind ≡ a_name → Span text.now t.start t.stop }
-    ensures { result ≡ new_refusal (is_in_use (scope_of text.now names.now in_use) (part text.now t.start t.stop))
-        (scope_of text.now names.now in_use) (read_from text.now t) }
+// Whether a token may stand where a new name is declared.
+fn new_refusal(names: &Names, t: Token) -> Result<(), TokenFault>
+    requires { t.kind ≡ Kind.Name → Span names.now.text.now t.start t.stop }
+    ensures value { refusal_number result ≡ new_refusal
+        (is_in_use (scope_of names.now) (part names.now.text.now t.start t.stop)) (scope_of names.now)
+        (read_from names.now.text.now t) }
+    ensures at_token { IfErr result (λ f. LiesAt t f) }
 {
-    if t.kind != kinds::NAME {
-        return 23;
+    if t.kind != Kind::Name {
+        return Err(t.refused(Reason::TextGrammar));
     }
-    if look_up(text, names, in_use, t.start, t.stop).order != 0 {
-        return 24;
+    if look_up(names, t.start, t.stop).is_some() {
+        return Err(t.refused(Reason::TextName));
     }
-    if in_use < 8 {
-        return 0;
+    if names.count < 8 {
+        return Ok(());
     }
-    25
+    Err(t.refused(Reason::TextVariables))
 }
 
 // The names of one declaration, behind its word, and the semicolon.
-fn read_names(
-    text: &[u8],
-    names: [usize; 24],
-    in_use: usize,
-    order: usize,
-    at: usize,
-) -> Declarations
-    requires { NamesFit text.now names in_use }
-    ensures { DeclarationsTold text.now at (grammar.names (length (tokens_at text.now at)) (order_of order)
-        (scope_of text.now names in_use) (tokens_at text.now at)) result }
+fn read_names(mut names: Names, order: Order, at: usize) -> Result<Declared, TokenFault>
+    ensures { DeclarationsTold names.entry.text.now at (grammar.names (length (tokens_at names.entry.text.now at)) (order_of order)
+        (scope_of names.entry) (tokens_at names.entry.text.now at)) result }
 {
-    let mut all = names;
-    let mut count = in_use;
     let mut place = at;
+    // A `loop`: it ends where the declaration does.
     loop {
-        let name = tokens::token_at(text, place);
-        let refusal = new_refusal(text, &all, count, name);
-        if refusal != 0 {
-            return refused(refusal, name);
-        }
-        all = tokens::names::bound(&all, count, name.start, name.stop, order);
-        count += 1;
-        let mark = tokens::token_at(text, name.stop);
-        if mark.kind != kinds::COMMA {
-            if mark.kind != kinds::SEMICOLON {
-                return refused(23, mark);
+        let name = tokens::token_at(names.text, place);
+        new_refusal(&names, name)?;
+        names = names.with(Name {
+            start: name.start,
+            stop: name.stop,
+            order,
+        });
+        let mark = tokens::token_at(names.text, name.stop);
+        match mark.kind {
+            Kind::Comma => {
+                place = mark.stop;
             }
-            return declared(all, count, mark.stop);
+            Kind::Semicolon => {
+                return Ok(Declared {
+                    names,
+                    next: mark.stop,
+                });
+            }
+            _ => {
+                return Err(mark.refused(Reason::TextGrammar));
+            }
         }
-        place = mark.stop;
+    }
+}
+
+// The order of the names that a word declares, if it declares names.
+fn declared_order(word: Kind) -> Option<Order>
+    ensures { Declares word result }
+{
+    match word {
+        Kind::Var1 => Some(Order::First),
+        Kind::Var2 => Some(Order::Second),
+        _ => None,
     }
 }
 
 // Any number of declarations, from a place on.
-pub fn read_declarations(text: &[u8], at: usize) -> Declarations
+pub fn read_declarations(text: &[u8], at: usize) -> Result<Declared, TokenFault>
     ensures { DeclarationsTold text.now at
         (declarations (length (tokens_at text.now at)) [] (tokens_at text.now at)) result }
 {
-    let mut names = [0; 24];
-    let mut in_use: usize = 0;
-    let mut place = at;
+    let mut all = Declared {
+        names: Names::new(text),
+        next: at,
+    };
+    // A `loop`: it ends where the declarations do.
     loop {
-        let word = tokens::token_at(text, place);
-        // `var1` declares names of order 1, `var2` of order 2.
-        let order = word.kind;
-        if order < kinds::VAR1 {
-            return declared(names, in_use, place);
-        }
-        if kinds::VAR2 < order {
-            return declared(names, in_use, place);
-        }
-        let read = read_names(text, names, in_use, order, word.stop);
-        if read.refusal != 0 {
-            return read;
-        }
-        names = read.names;
-        in_use = read.in_use;
-        place = read.next;
+        let word = tokens::token_at(text, all.next);
+        let Some(order) = declared_order(word.kind) else {
+            return Ok(all);
+        };
+        all = read_names(all.names, order, word.stop)?;
     }
 }

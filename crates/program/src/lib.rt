@@ -7,7 +7,7 @@ ghost use Rattle.report.specs.Line.{line_of};
 ghost use Rattle.program.specs.Program.{rule_in, Printed};
 ghost use Rattle.decide.specs.Decide.{verdict_of, out_of};
 
-// What the program prints: the first `count` bytes.
+// What the program prints: the first `count` bytes. There is no heap to hold a line as long as it is, and `Printed` speaks of both fields.
 #[derive(Clone, Copy)]
 pub struct Output {
     pub bytes: [u8; 256],
@@ -18,11 +18,7 @@ pub struct Output {
 fn rule_in(input: &[u8]) -> &[u8]
     ensures { result.now ≡ rule_in input.now }
 {
-    let most = 300;
-    if most < input.len() {
-        return &input[..most];
-    }
-    input
+    input.get(..300).unwrap_or(input)
 }
 
 // The verdict's line for a rule with c = 16 and P = 60 stands at the front of `line`.

@@ -1,5 +1,5 @@
 -- The machine that a table in bytes stands for does what the machine does that is stored there. Assumes nothing.
-use Rattle.words.proofs.Vocabulary.{ℕ, ◌≤◌, ◌<◌, ◌+◌, ◌-◌, ◌^◌, ◌≡◌, ◌∙◌, refl, sym, ap, List, [], ◌∷◌, length, zero-add}
+use Rattle.words.proofs.Vocabulary.{ℕ, ◌≤◌, ◌<◌, ◌+◌, ◌-◌, ◌≡◌, ◌∙◌, refl, sym, ap, List, [], ◌∷◌, length, zero-add}
 use Rattle.words.proofs.Vocabulary.{take, drop, length-drop, get_or-drop, arith}
 use lib.Seq.{take_all}
 use Rattle.layout.specs.Shape.{Shaped, labels_in, share_of, place_in, Tuple}
@@ -18,9 +18,9 @@ use Rattle.records.specs.declared.Summary.{Summary}
 use Rattle.table.specs.Whole.{machine_in, table_in, Whole}
 use Rattle.reading.specs.Reading.{mach_table}
 
--- a part of a workspace that goes to its end
-pub part-all : (n : ℕ) (ws : List ℕ) → take (length ws - n) (drop n ws) ≡ drop n ws
-part-all n ws = take_all (length ws - n) (drop n ws) (let e = length-drop n ws in omega arith)
+-- the part of a workspace from a share on, to its end
+pub part-all : {n m : ℕ} (ws : List ℕ) → n ≡ m → take (length ws - n) (drop n ws) ≡ drop m ws
+part-all {n} ws e = take_all (length ws - n) (drop n ws) (let l = length-drop n ws in omega arith) ∙ ap (λ (i : ℕ). drop i ws) e
 
 module _ (s : Shape) (shape : Shaped s) (base : ℕ) (m : Mach) (k : Summary) (ws table : List ℕ) (st : Stored s base m k ws) (et : table ≡ drop base ws) where
   step_is : (l : ℕ) (is : List ℕ) → l < labels_in s → Tuple s.branches m.count is

@@ -14,10 +14,11 @@ pub fn satisfiable(k: Summary) -> bool
     requires { k.count ≤ 64 }
     ensures { Satisfiable k result }
 {
-    search::satisfiable(k.accept, k.count as usize)
+    search::satisfiable(k.accept, usize::from(k.count))
 }
 
-// The earliest tree that record r's machine accepts, if it has at most p positions.
+// The earliest tree that record r's machine accepts, if it has at most p positions. Here and below, where the machine stands is not a struct
+// with what is kept of it: a caller has them apart, and would build one for a single call.
 pub fn earliest(ws: &[u8], s: Shape, r: usize, k: Summary, p: u64) -> Found
     requires has_machine { HasMachine ws.now s r k }
     requires p_bound { p ≤ 255 }
@@ -26,9 +27,9 @@ pub fn earliest(ws: &[u8], s: Shape, r: usize, k: Summary, p: u64) -> Found
     let base = layout::share_at(s, r);
     search::find(
         s,
-        k.looks as usize,
+        usize::from(k.looks),
         &ws[base..],
-        k.count as usize,
+        usize::from(k.count),
         k.accept,
         p,
     )
@@ -41,8 +42,8 @@ pub fn accepted(ws: &[u8], s: Shape, r: usize, k: Summary, tree: &[u8]) -> bool
     ensures { Accepts ws.now s r k tree.now result }
 {
     let start = layout::share_at(s, r);
-    let looks = k.looks as usize;
-    let count = k.count as usize;
+    let looks = usize::from(k.looks);
+    let count = usize::from(k.count);
     let ran = running::run(tree, 8, s, looks, &ws[start..], count);
     words::has(k.accept, ran.state)
 }

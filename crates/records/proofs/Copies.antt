@@ -1,13 +1,14 @@
 -- A table that is copied, row by row and label by label; and the machine of "not", which has its part's table and the other states
 -- accepting. Assumes nothing.
 use Rattle.words.proofs.Vocabulary.{ℕ, ◌≤◌, ◌<◌, ◌+◌, ◌-◌, ◌≡◌, ◌∙◌, refl, sym, ap, subst, ap₂, ⊎_elim, inl, inr, ◌⊎◌, List, [], ◌∷◌, length, get_or}
-use Rattle.words.proofs.Vocabulary.{set, drop, length-set, length-drop, get_or-set_other, get_or-set_same, get_or-drop, ext_get_or, eq-or-lt_of_le, arith}
+use Rattle.words.proofs.Vocabulary.{drop, length-drop, get_or-drop, ext_get_or, eq-or-lt_of_le, dec_lt, arith}
+use Rattle.std.specs.List.{CopiedTo, SameBelow, SameFrom}
 use Rattle.layout.specs.Shape.{Shaped, labels_in, share_of, share_at, place_in, Tuple}
 use Rattle.layout.specs.declared.Shape.{Shape}
 use Rattle.layout.proofs.Places.{tuple_up, pair_in, pairs_of, place-in, place-one, place-two}
 use Rattle.table.specs.Entry.{seen, entry, through}
-use Rattle.table.specs.declared.plan.Kind.{Kind}
-use Rattle.table.specs.declared.plan.Kind.TheVariants.{Not}
+use Rattle.ops.specs.declared.Op.{Op}
+use Rattle.ops.specs.declared.Op.TheVariants.{Not}
 use Rattle.table.proofs.Masks.{seen_le, seen-seen}
 use Rattle.records.specs.Complement.{Copied, Bytes, Rows, Entries}
 use Rattle.records.specs.Machine.{others_of, TableHolds}
@@ -23,10 +24,19 @@ below_next m l h = eq-or-lt_of_le (omega arith)
 abbrev Row : Shape → ℕ → ℕ → ℕ → ℕ → Type 0
 Row s l n i k = (j : ℕ) × (j < n) × (k ≡ place_in s l (i ∷ j ∷ []))
 
-module _ {from to : ℕ} where
-  pub copied_none : {at : ℕ → Type 0} {ws : List ℕ} → ((k : ℕ) → at k → ⊥) → Copied at from to ws ws
-  copied_none none = record { long = refl; there = λ k h. absurd (none k h); rest = λ q h. refl }
+-- ---- n bytes, as the library's copy within a slice copies them
+pub copied_within : (n from to : ℕ) (ws ws' : List ℕ) → length ws' ≡ length ws
+    → CopiedTo ws ws' from to (from + n - from) × SameBelow ws ws' to × SameFrom ws ws' (to + (from + n - from)) → Copied (Bytes n) from to ws ws'
+copied_within n from to ws ws' long v = record {
+  long = long;
+  there = λ k h. v.0 (to + k) 0 (omega arith) (omega arith) ∙ ap (λ (z : ℕ). get_or ws z 0) (omega arith);
+  rest = λ q h. elim (dec_lt q to) [
+    | yes l ↦ v.1 q 0 l
+    | no l ↦ elim (dec_lt q (to + n)) [ yes k ↦ absurd (h (q - to) (omega arith) (omega arith)) | no k ↦ v.2 q 0 (omega arith) ]
+  ];
+}
 
+module _ {from to : ℕ} where
   copied_as : {at all : ℕ → Type 0} {ws ws' : List ℕ} → ((k : ℕ) → all k → at k) → ((k : ℕ) → at k → all k) → Copied at from to ws ws'
       → Copied all from to ws ws'
   copied_as f g w = record { long = w.long; there = λ k h. w.there k (f k h); rest = λ q h. w.rest q (λ k a. h k (g k a)) }
@@ -43,20 +53,6 @@ module _ {from to : ℕ} where
         (split k h);
     rest = λ q h. g.rest q (λ k m. h k (join k (inr m))) ∙ f.rest q (λ k a. h k (join k (inl a)));
   }
-
-  -- ---- one byte more
-  pub byte_next : {ws₀ ws : List ℕ} (n i : ℕ) → from + n ≤ to → to + n ≤ length ws → i < n → Copied (Bytes i) from to ws₀ ws
-      → Copied (Bytes (i + 1)) from to ws₀ (set ws (to + i) (get_or ws (from + i) 0))
-  byte_next {ws₀} {ws} n i h room hi f =
-      copied_next f one (λ k l. ⊎_elim (λ (e : k ≡ i). inr e) (λ (l : k < i). inl l) (below_next k i l))
-      (λ k. ⊎_elim (λ (l : k < i). omega arith) (λ (e : k ≡ i). omega arith)) (λ k l e. omega arith) (λ k e. omega arith)
-    where
-      one : Copied (λ (k : ℕ). k ≡ i) from to ws (set ws (to + i) (get_or ws (from + i) 0))
-      one = record {
-        long = length-set ws (to + i) (get_or ws (from + i) 0);
-        there = λ k e. rw e (get_or-set_same ws (to + i) (get_or ws (from + i) 0) 0 (omega arith));
-        rest = λ q h. get_or-set_other ws (to + i) q (get_or ws (from + i) 0) 0 (λ e. h i refl e);
-      }
 
   module _ (s : Shape) (shape : Shaped s) (apart : from + share_of s ≤ to) where
     -- ---- one row more
@@ -116,7 +112,7 @@ module _ {from to : ℕ} where
 module _ (x : Decoded) (r : ℕ) (s : Shape) (kf kg : Summary) (ws : List ℕ) (f g : Mach) (is_not : x.kind ≡ Not)
     (stored : PartsStored x s kf kg ws f g) where
   part : Stored s (share_at s x.first) f kf ws
-  part = subst (λ (k : Kind). OfParts k (Stored s (share_at s x.first) f kf ws) (Stored s (share_at s x.second) g kg ws)) is_not stored
+  part = subst (λ (k : Op). OfParts k (Stored s (share_at s x.first) f kf ws) (Stored s (share_at s x.second) g kg ws)) is_not stored
 
   pub few-part : kf.count ≤ s.ceiling
   few-part = omega (arith, part.count, part.few)

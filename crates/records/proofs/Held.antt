@@ -6,8 +6,8 @@ use Rattle.layout.specs.declared.Shape.{Shape}
 use Rattle.layout.proofs.Places.{each_map}
 use Rattle.table.specs.Entry.{Step, Bit}
 use Rattle.table.specs.Succ.{first_part, second_part, pair_code, exists_start, kind_code, start_code}
-use Rattle.table.specs.declared.plan.Kind.{Kind}
-use Rattle.table.specs.declared.plan.Kind.TheVariants.{Subset, Single, Child1, Child2, Root, Not, Or, And, Exists}
+use Rattle.ops.specs.declared.Op.{Op}
+use Rattle.ops.specs.declared.Op.TheVariants.{Subset, Single, Child1, Child2, Root, Not, Or, And, Exists}
 use Rattle.table.proofs.Sets.{closing_same, exists_cong, exists_below}
 use Rattle.exploring.specs.Explore.{codes_at, explore}
 use Rattle.exploring.proofs.Found.{explore-found}
@@ -17,7 +17,7 @@ use Rattle.records.specs.Rule.{OfParts}
 use Rattle.logic.specs.Reach.{position}
 
 -- ---- codes that stand for states of the parts
-abbrev Valid : Kind → ℕ → ℕ → ℕ → Type 0
+abbrev Valid : Op → ℕ → ℕ → ℕ → Type 0
 Valid Subset n m x = Unit {0}
 Valid Single n m x = Unit {0}
 Valid Child1 n m x = Unit {0}
@@ -35,7 +35,7 @@ pub record Part (s : Shape) (e f : Step) (n : ℕ) : Type 0 where
   pub same : (l : ℕ) (is : List ℕ) → l < labels_in s → Tuple s.branches n is → (e l is ≡ f l is) × (f l is < n)
 
 -- what is the same of a record from tables and from steps
-pub record Same (k : Kind) (s : Shape) (wx wy : ℕ) (e f d g : Step) : Type 0 where
+pub record Same (k : Op) (s : Shape) (wx wy : ℕ) (e f d g : Step) : Type 0 where
   pub codes : codes_of k s e d wx wy ≡ codes_of k s f g wx wy
   pub steps : (cs : List ℕ) → codes_of k s e d wx wy ≡ some cs → (l : ℕ) (is : List ℕ) → l < labels_in s → Tuple s.branches (length cs) is
       → step_of (kind_code k e d wx wy) cs l is ≡ step_of (kind_code k f g wx wy) cs l is
@@ -55,7 +55,7 @@ module _ (s : Shape) (shape : Shaped s) (wx wy : ℕ) (bit : Bit wx (labels_in s
         (ap₂ (λ (i j : ℕ). i * 64 + j) a.0 b.0, (omega (arith, p.few, q.few), omega (arith, p.few, q.few)))
 
     -- the successor codes agree, and stay valid
-    kind-step : (k : Kind) (l : ℕ) (xs : List ℕ) → l < labels_in s → length xs ≡ 2 → Each (Valid k n m) xs
+    kind-step : (k : Op) (l : ℕ) (xs : List ℕ) → l < labels_in s → length xs ≡ 2 → Each (Valid k n m) xs
         → (kind_code k e d wx wy l xs ≡ kind_code k f g wx wy l xs) × Valid k n m (kind_code k e d wx wy l xs)
     unfolding kind_code
     kind-step Subset l xs hl two h = (refl, tt)
@@ -71,7 +71,7 @@ module _ (s : Shape) (shape : Shaped s) (wx wy : ℕ) (bit : Bit wx (labels_in s
         let z = exists_cong (labels_in s) n s.branches e f p.few p.same wx bit l xs hl long h in
         (z, subst (Below n) (sym z) (exists_below (labels_in s) n s.branches e f p.few p.same wx bit l xs hl long h))
 
-    start-same : (k : Kind) → (start_code k s.branches e wx ≡ start_code k s.branches f wx) × Valid k n m (start_code k s.branches e wx)
+    start-same : (k : Op) → (start_code k s.branches e wx ≡ start_code k s.branches f wx) × Valid k n m (start_code k s.branches e wx)
     unfolding start_code exists_start
     start-same Subset = (refl, tt)
     start-same Single = (refl, tt)
@@ -86,7 +86,7 @@ module _ (s : Shape) (shape : Shaped s) (wx wy : ℕ) (bit : Bit wx (labels_in s
         (z.0, subst (Below n) (sym z.0) z.1)
 
     -- the codes from the tables are the codes from the steps that they hold, and so are the steps
-    parts_same : (k : Kind) → Same k s wx wy e f d g
+    parts_same : (k : Op) → Same k s wx wy e f d g
     unfolding codes_of step_of
     parts_same k =
         let c = s.ceiling in
@@ -102,7 +102,7 @@ module _ (s : Shape) (shape : Shaped s) (wx wy : ℕ) (bit : Bit wx (labels_in s
               (each_map (Valid k n m) (λ (i : ℕ). get_or cs i 0) valid t.below)).0;
         }
 
-  pub record_same : (n m : ℕ) (e f d g : Step) (k : Kind) → OfParts k (Part s e f n) (Part s d g m) → Same k s wx wy e f d g
+  pub record_same : (n m : ℕ) (e f d g : Step) (k : Op) → OfParts k (Part s e f n) (Part s d g m) → Same k s wx wy e f d g
   unfolding codes_of step_of kind_code start_code
   record_same n m e f d g Subset p = record { codes = refl; steps = λ cs h l is hl t. refl }
   record_same n m e f d g Single p = record { codes = refl; steps = λ cs h l is hl t. refl }

@@ -7,8 +7,8 @@ use Rattle.layout.proofs.Places.{tuple_up, shares_small, share-next, place-one, 
 use Rattle.table.specs.Entry.{Power, seen, Bare, entry, through}
 use Rattle.table.specs.Rows.{Led}
 use Rattle.table.specs.Succ.{PlanRoom, first_step, second_step, kind_code, successor_of, succ_in, start_code, start_of}
-use Rattle.table.specs.declared.plan.Kind.{Kind}
-use Rattle.table.specs.declared.plan.Kind.TheVariants.{Subset, Single, Child1, Child2, Root, Not, Or, And, Exists}
+use Rattle.ops.specs.declared.Op.{Op}
+use Rattle.ops.specs.declared.Op.TheVariants.{Subset, Single, Child1, Child2, Root, Not, Or, And, Exists}
 use Rattle.table.specs.declared.plan.Plan.{Plan}
 use Rattle.table.proofs.Masks.{seen_le, kind-blind}
 use Rattle.exploring.specs.Explore.{are_below}
@@ -48,7 +48,7 @@ room_of x r s n f₁ f₂ f = record {
 }
 
 -- ---- what is asked of the parts
-parts-map : (k : Kind) {A A' B B' : Type 0} → (A → A') → (B → B') → OfParts k A B → OfParts k A' B'
+parts-map : (k : Op) {A A' B B' : Type 0} → (A → A') → (B → B') → OfParts k A B → OfParts k A' B'
 parts-map Subset f g h = tt
 parts-map Single f g h = tt
 parts-map Child1 f g h = tt
@@ -59,7 +59,7 @@ parts-map Or f g h = (f h.0, g h.1)
 parts-map And f g h = (f h.0, g h.1)
 parts-map Exists f g h = f h
 
-pub parts-both : (k : Kind) (A A' B B' : Type 0) → OfParts k A B → OfParts k A' B' → OfParts k (A × A') (B × B')
+pub parts-both : (k : Op) (A A' B B' : Type 0) → OfParts k A B → OfParts k A' B' → OfParts k (A × A') (B × B')
 parts-both Subset A A' B B' p q = tt
 parts-both Single A A' B B' p q = tt
 parts-both Child1 A A' B B' p q = tt
@@ -71,7 +71,7 @@ parts-both And A A' B B' p q = ((p.0, q.0), (p.1, q.1))
 parts-both Exists A A' B B' p q = (p, q)
 
 -- the accepting states go by those of the parts that the kind has
-accept-parts : (k : Kind) (a b a' b' : ℕ) (cs : List ℕ) → OfParts k (a ≡ a') (b ≡ b') → accept_of k a b cs ≡ accept_of k a' b' cs
+accept-parts : (k : Op) (a b a' b' : ℕ) (cs : List ℕ) → OfParts k (a ≡ a') (b ≡ b') → accept_of k a b cs ≡ accept_of k a' b' cs
 unfolding accept_of
 accept-parts Subset a b a' b' cs h = refl
 accept-parts Single a b a' b' cs h = refl
@@ -165,7 +165,7 @@ module _ (x : Decoded) (r : ℕ) (s : Shape) (kf kg : Summary) (ws : List ℕ) (
   pub led_of : Led low plan
   unfolding through
   led_of e =
-      let w = subst (λ (k : Kind). OfParts k First Second) e parts in
+      let w = subst (λ (k : Op). OfParts k First Second) e parts in
       let p = part_at x.first kf f w.0 w.1 in (
         f.count,
         record {

@@ -1,8 +1,8 @@
 -- A rule's records as the builder takes them: document 01, "Strips" and "The logic decided". Assumes nothing.
 use Rattle.std.specs.Prelude.{ℕ, suc, ◌-◌, ◌^◌, cond, [], ◌∷◌, eqb, get_or}
 use Rattle.logic.specs.Rule.{Record}
-use Rattle.table.specs.declared.plan.Kind.{Kind}
-use Rattle.table.specs.declared.plan.Kind.TheVariants.{Subset, Single, Child1, Child2, Root, Not, Or, And, Exists}
+use Rattle.ops.specs.declared.Op.{Op}
+use Rattle.ops.specs.declared.Op.TheVariants.{Subset, Single, Child1, Child2, Root, Not, Or, And, Exists}
 use Rattle.records.specs.declared.Decoded.{Decoded}
 
 -- "variable 0 most significant": the weight of variable x's bit in an n-bit label; 1 for a number that is no variable
@@ -10,7 +10,7 @@ abbrev pub bit_weight : ℕ → ℕ → ℕ
 bit_weight n x = 2 ^ (n - suc x)
 
 -- the builder's kind of each op
-abbrev pub kind_at : ℕ → Kind
+abbrev pub kind_at : ℕ → Op
 kind_at op = get_or (Subset ∷ Single ∷ Child1 ∷ Child2 ∷ Root ∷ Not ∷ Or ∷ And ∷ Exists ∷ []) op Subset
 
 -- the builder's form of a record: "exists" (op 8) has its record second, and the builder takes it first

@@ -8,13 +8,13 @@ use Rattle.layout.specs.declared.Shape.{Shape}
 use Rattle.words.specs.Word.{mem, any, word_where}
 use Rattle.table.specs.Entry.{seen, Step, step_in}
 use Rattle.table.specs.Succ.{first_part, second_part, kind_code, start_code}
-use Rattle.table.specs.declared.plan.Kind.{Kind}
-use Rattle.table.specs.declared.plan.Kind.TheVariants.{Subset, Single, Child1, Child2, Root, Not, Or, And, Exists}
+use Rattle.ops.specs.declared.Op.{Op}
+use Rattle.ops.specs.declared.Op.TheVariants.{Subset, Single, Child1, Child2, Root, Not, Or, And, Exists}
 use Rattle.exploring.specs.Explore.{codes_at, are_below, explore}
 use Rattle.logic.specs.Reach.{position}
 
 -- the codes of a record's states, or none where there are more than the ceiling
-unfoldable pub codes_of : Kind → Shape → Step → Step → ℕ → ℕ → Option (List ℕ)
+unfoldable pub codes_of : Op → Shape → Step → Step → ℕ → ℕ → Option (List ℕ)
 codes_of k s f g wx wy = explore (kind_code k f g wx wy) s.ceiling (labels_in s) (start_code k s.branches f wx)
 
 -- a record's step, from its successor codes and its codes
@@ -31,7 +31,7 @@ unfoldable pub share_byte : Shape → ℕ → ℕ → Step → ℕ → ℕ → �
 share_byte s b n f q old = cond (leb (label_at s q) (seen b (label_at s q)) && are_below n (tuple_at s q)) (f (label_at s q) (tuple_at s q)) old
 
 -- does the state with code x accept, where a and b are the accepting states of the parts; "not" is not explored
-abbrev pub accept_by : Kind → ℕ → ℕ → ℕ → Bool
+abbrev pub accept_by : Op → ℕ → ℕ → ℕ → Bool
 accept_by Subset a b x = eqb x 0
 accept_by Single a b x = eqb x 1
 accept_by Child1 a b x = eqb x 2
@@ -43,7 +43,7 @@ accept_by And a b x = mem (first_part x) a && mem (second_part x) b
 accept_by Exists a b x = any (λ (q : ℕ). mem q x && mem q a) 64
 
 -- the accepting states of a record
-unfoldable pub accept_of : Kind → ℕ → ℕ → List ℕ → ℕ
+unfoldable pub accept_of : Op → ℕ → ℕ → List ℕ → ℕ
 accept_of k a b cs = word_where (λ (s : ℕ). ltb s (length cs) && accept_by k a b (get_or cs s 0)) 64
 
 -- the states below n that are not in a

@@ -9,8 +9,8 @@ use Rattle.logic.specs.Two.{branching}
 use Rattle.table.specs.Entry.{Step, Bit, Power}
 use Rattle.table.specs.Succ.{kind_code, looks_of}
 use Rattle.records.specs.Machine.{codes_of, step_of, accept_of, others_of, TableHolds, share_byte}
-use Rattle.table.specs.declared.plan.Kind.{Kind}
-use Rattle.table.specs.declared.plan.Kind.TheVariants.{Subset, Single, Child1, Child2, Root, Not, Or, And, Exists}
+use Rattle.ops.specs.declared.Op.{Op}
+use Rattle.ops.specs.declared.Op.TheVariants.{Subset, Single, Child1, Child2, Root, Not, Or, And, Exists}
 use Rattle.table.specs.declared.plan.Plan.{Plan}
 use Rattle.records.specs.declared.Decoded.{Decoded}
 use Rattle.records.specs.declared.Summary.{Summary}
@@ -41,7 +41,7 @@ abbrev pub complement_of : Mach → Mach
 complement_of f = record { count = f.count; step = f.step; accept = others_of f.accept f.count }
 
 -- is it a "not"
-abbrev pub is_not : Kind → Bool
+abbrev pub is_not : Op → Bool
 is_not Subset = false
 is_not Single = false
 is_not Child1 = false
@@ -78,7 +78,7 @@ plan_of x r s f g = record {
 }
 
 -- what is asked of the parts that a record of this kind has: of the first, of both, or nothing
-abbrev pub OfParts : Kind → Type 0 → Type 0 → Type 0
+abbrev pub OfParts : Op → Type 0 → Type 0 → Type 0
 OfParts Subset A B = Unit {0}
 OfParts Single A B = Unit {0}
 OfParts Child1 A B = Unit {0}

@@ -1,24 +1,11 @@
 // The machine of "not": the table of its part, copied, and the other states.
 ghost use Rattle.std.specs.Prelude.{◌≡◌, ◌+◌, ◌≤◌, ◌<◌, length};
 ghost use Rattle.layout.specs.Shape.{Shaped, labels_in, share_of};
-ghost use Rattle.records.specs.Complement.{Bytes, Rows, Entries, Copied};
+ghost use Rattle.records.specs.Complement.{Rows, Entries, Copied};
 ghost use Rattle.records.specs.Machine.{others_of};
 
 use layout::Shape;
 use words::{has, with_member};
-
-// n bytes are copied from one place to a later one.
-fn copy(ws: &mut [u8], from: usize, to: usize, n: usize)
-    requires { (from + n ≤ to) × (to + n ≤ length ws.old) }
-    ensures { Copied (Bytes n) from to ws.old ws.new }
-{
-    let mut i = 0;
-    while i < n {
-        let x = ws[from + i];
-        ws[to + i] = x;
-        i += 1;
-    }
-}
 
 // The entries for label l and the states below n are copied, from the table at from to the later one at to.
 fn copy_label(ws: &mut [u8], from: usize, to: usize, s: Shape, l: usize, n: usize)
@@ -26,11 +13,9 @@ fn copy_label(ws: &mut [u8], from: usize, to: usize, s: Shape, l: usize, n: usiz
     requires l_bound { (l < labels_in s) × (n ≤ s.ceiling) × (from + share_of s ≤ to) × (to + share_of s ≤ length ws.old) }
     ensures { Copied (Rows s l n n) from to ws.old ws.new }
 {
-    let mut i = 0;
-    while i < n {
+    for i in 0..n {
         let k = layout::place(s, l, i, 0);
-        copy(ws, from + k, to + k, n);
-        i += 1;
+        ws.copy_within(from + k..from + k + n, to + k);
     }
 }
 
@@ -40,13 +25,10 @@ pub fn copy_table(ws: &mut [u8], from: usize, to: usize, s: Shape, bits: usize, 
     requires n_le_ceiling { (n ≤ s.ceiling) × (from + share_of s ≤ to) × (to + share_of s ≤ length ws.old) }
     ensures { Copied (Entries s bits n (labels_in s)) from to ws.old ws.new }
 {
-    let labels = layout::labels(s);
-    let mut l = 0;
-    while l < labels {
+    for l in 0..layout::labels(s) {
         if l <= l & bits {
             copy_label(ws, from, to, s, l, n);
         }
-        l += 1;
     }
 }
 
@@ -56,12 +38,10 @@ pub fn flipped(a: u64, n: usize) -> u64
     ensures { result ≡ others_of a n }
 {
     let mut r: u64 = 0;
-    let mut i = 0;
-    while i < n {
+    for i in 0..n {
         if !has(a, i) {
             r = with_member(r, i as u64);
         }
-        i += 1;
     }
     r
 }

@@ -13,39 +13,38 @@ ghost use Rattle.table.specs.Succ.{looks_of};
 use crate::complement::{copy_table, flipped};
 use exploring::build_plan;
 use layout::Shape;
+use ops::Op;
 use table::entries::cleared;
-use table::plan::{Kind, Plan};
+use table::plan::Plan;
 use words::{has, meet, with_member};
 
 // Does the state with this code accept, where a and b are the accepting states of the parts? A "not" is not explored.
-fn accepts(kind: Kind, a: u64, b: u64, x: u64) -> bool
+fn accepts(kind: Op, a: u64, b: u64, x: u64) -> bool
     ensures { result ≡ accept_by kind a b x }
 {
     match kind {
-        Kind::Subset => x == 0,
-        Kind::Single => x == 1,
-        Kind::Child1 => x == 2,
-        Kind::Child2 => x == 2,
-        Kind::Root => x == 1,
-        Kind::Not => false,
-        Kind::Or => has(a, (x / 64 % 64) as usize) || has(b, (x % 64) as usize),
-        Kind::And => has(a, (x / 64 % 64) as usize) && has(b, (x % 64) as usize),
-        Kind::Exists => meet(x, a),
+        Op::Subset => x == 0,
+        Op::Single => x == 1,
+        Op::Child1 => x == 2,
+        Op::Child2 => x == 2,
+        Op::Root => x == 1,
+        Op::Not => false,
+        Op::Or => has(a, (x / 64 % 64) as usize) || has(b, (x % 64) as usize),
+        Op::And => has(a, (x / 64 % 64) as usize) && has(b, (x % 64) as usize),
+        Op::Exists => meet(x, a),
     }
 }
 
 // The set of the accepting states, where the first codes are the states'.
-fn accept_word(codes: &[u64; 64], count: usize, kind: Kind, a: u64, b: u64) -> u64
+fn accept_word(codes: &[u64; 64], count: usize, kind: Op, a: u64, b: u64) -> u64
     requires { (count ≤ 64) × (length codes.now ≡ 64) }
     ensures { result ≡ accept_of kind a b (take count codes.now) }
 {
     let mut r: u64 = 0;
-    let mut i = 0;
-    while i < count {
-        if accepts(kind, a, b, codes[i]) {
+    for (i, code) in codes[..count].iter().enumerate() {
+        if accepts(kind, a, b, *code) {
             r = with_member(r, i as u64);
         }
-        i += 1;
     }
     r
 }
@@ -53,7 +52,7 @@ fn accept_word(codes: &[u64; 64], count: usize, kind: Kind, a: u64, b: u64) -> u
 // A record of a rule: its kind, the numbers of the records that are its parts, and the weights of its variables' bits.
 #[derive(Clone, Copy)]
 pub struct Decoded {
-    pub kind: Kind,
+    pub kind: Op,
     pub first: u8,
     pub second: u8,
     pub wx: u8,
@@ -69,17 +68,17 @@ pub struct Summary {
 }
 
 // The bits that a record looks at, where its parts look at f and g.
-fn looks_of(kind: Kind, wx: usize, wy: usize, f: usize, g: usize) -> usize
+fn looks_of(kind: Op, wx: usize, wy: usize, f: usize, g: usize) -> usize
     requires { (0 < wx) × (wx ≤ 128) }
     ensures { result ≡ looks_of kind wx wy f g }
 {
     match kind {
-        Kind::Single => wx,
-        Kind::Root => wx,
-        Kind::Not => f,
-        Kind::Or => f | g,
-        Kind::And => f | g,
-        Kind::Exists => cleared(wx, f),
+        Op::Single => wx,
+        Op::Root => wx,
+        Op::Not => f,
+        Op::Or => f | g,
+        Op::And => f | g,
+        Op::Exists => cleared(wx, f),
         _ => wx | wy,
     }
 }
@@ -142,7 +141,7 @@ fn explore_next(ws: &mut [u8], x: Decoded, f: Summary, g: Summary, r: usize, s: 
 // The machine of record r, a "not", from its part's: the table is copied, and the other states accept.
 fn complement_next(ws: &mut [u8], x: Decoded, f: Summary, g: Summary, r: usize, s: Shape) -> Summary
     requires fits { Fits x r s (length ws.old) }
-    requires kind_value { x.kind ≡ Kind.Not }
+    requires kind_value { x.kind ≡ Op.Not }
     requires some_parts { SomeParts x s f g ws.old }
     ensures adds { Adds x s r f g result ws.old ws.new }
     ensures spared { Spared s r ws.old ws.new }
@@ -170,7 +169,7 @@ pub fn build_next(ws: &mut [u8], x: Decoded, f: Summary, g: Summary, r: usize, s
 {
     let kind = x.kind;
     match kind {
-        Kind::Not => complement_next(ws, x, f, g, r, s),
+        Op::Not => complement_next(ws, x, f, g, r, s),
         _ => explore_next(ws, x, f, g, r, s),
     }
 }

@@ -24,8 +24,8 @@ use Rattle.table.specs.Entry.{Step}
 use Rattle.table.specs.Succ.{pair_code, kind_code, start_code}
 use Rattle.records.specs.Machine.{codes_of, step_of, accept_by, accept_of, others_of}
 use Rattle.records.specs.Rule.{Mach, mach_of, mach_from, complement_of, numbered_by}
-use Rattle.table.specs.declared.plan.Kind.{Kind}
-use Rattle.table.specs.declared.plan.Kind.TheVariants.{Or, And, Exists}
+use Rattle.ops.specs.declared.Op.{Op}
+use Rattle.ops.specs.declared.Op.TheVariants.{Or, And, Exists}
 use Rattle.records.specs.declared.Decoded.{Decoded}
 use Rattle.exploring.proofs.Found.{Codes, Found, explore-found, explore-many, explore-closed}
 use Rattle.exploring.proofs.Place.{place-own}
@@ -36,7 +36,7 @@ use Rattle.joining.proofs.Meaning.{join-count, join-agrees}
 use Rattle.refinement.proofs.Sets.{of_sets}
 
 -- the machine over codes of a record of kind k
-abbrev pub code_machine : Kind → Mach → Mach → ℕ → ℕ → Machine 2 ℕ
+abbrev pub code_machine : Op → Mach → Mach → ℕ → ℕ → Machine 2 ℕ
 code_machine k f g wx wy = branching (start_code k 2 f.step wx) (kind_code k f.step g.step wx wy) (accept_by k f.accept g.accept)
 
 -- m decides F, is a's machine up to the names of its states, and has at most c of them, all reached

@@ -1,1 +1,3 @@
+pub mod Reason
+pub mod Fault
 pub mod Refusal

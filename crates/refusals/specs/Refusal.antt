@@ -1,35 +1,35 @@
 -- The refusals of an operation, one after another: the first that applies, with its place where it has one. Assumes nothing.
-use Rattle.std.specs.Prelude.{ℕ, cond, eqb}
-use Rattle.bits.specs.declared.Fault.{Fault}
-use Rattle.bits.specs.declared.Fault.TheVariants.{Sound, At}
+use Rattle.std.specs.Prelude.{Result, Ok, Err}
+use Rattle.refusals.specs.declared.Fault.{Fault}
+use Rattle.refusals.specs.declared.Reason.{Reason}
+use Rattle.refusals.specs.declared.Reason.TheVariants as reason
 use Rattle.refusals.specs.declared.Refusal.{Refusal}
-use Rattle.refusals.specs.declared.Refusal.TheVariants.{Nothing, Placed, Plain, TooManyStates}
+use Rattle.refusals.specs.declared.Refusal.TheVariants.{Placed, Plain, TooManyStates}
 use Rattle.refusals.specs.declared.RefusalNumbers.{RefusalNumbers}
+use Rattle.refusals.specs.Reason.{number_of}
 
 -- a strip is checked, and then come the later refusals: "beside the number, the bit place"
-abbrev pub checked : Fault → Refusal → Refusal
-checked Sound later = later
-checked (At number place) later = Placed number place
+abbrev pub checked : Result Unit Fault → Result Unit Refusal → Result Unit Refusal
+checked (Ok u) later = later
+checked (Err f) later = Err (Placed f)
 
--- another refusal is tested, whose number is 0 where it does not apply, and then come the later ones: "Refusals outside these checks [..]
--- have no place"
-abbrev pub tested : ℕ → Refusal → Refusal
-tested number later = cond (eqb number 0) later (Plain number)
+-- another refusal is tested, and then come the later ones: "Refusals outside these checks [..] have no place"
+abbrev pub tested : Result Unit Reason → Result Unit Refusal → Result Unit Refusal
+tested (Ok u) later = later
+tested (Err k) later = Err (Plain k)
 
 -- one thing where no refusal applies, another where one does
-abbrev pub unless_refused : {A : Type 0} → Refusal → A → A → A
-unless_refused Nothing a b = a
-unless_refused (Placed number place) a b = b
-unless_refused (Plain number) a b = b
-unless_refused (TooManyStates r) a b = b
+abbrev pub unless_refused : {A : Type 0} → Result Unit Refusal → A → A → A
+unless_refused (Ok u) a b = a
+unless_refused (Err r) a b = b
 
 -- an operation's result: its answer where no refusal applies, and else the refusal
-abbrev pub answer_unless : {A : Type 0} → (Refusal → A) → Refusal → A → A
-answer_unless refused r a = unless_refused r a (refused r)
+abbrev pub answer_unless : {A : Type 0} → Result Unit Refusal → Result A Refusal → Result A Refusal
+answer_unless (Ok u) a = a
+answer_unless (Err r) a = Err r
 
 -- "A refusal returns its number, and the record with 14", and a strip's its place
 abbrev pub refusal_numbers : Refusal → RefusalNumbers
-refusal_numbers Nothing = record { number = 0; recordnumber = 0; place = 0 }
-refusal_numbers (Placed number place) = record { number = number; recordnumber = 0; place = place }
-refusal_numbers (Plain number) = record { number = number; recordnumber = 0; place = 0 }
-refusal_numbers (TooManyStates r) = record { number = 14; recordnumber = r; place = 0 }
+refusal_numbers (Placed f) = record { number = number_of f.reason; recordnumber = 0; place = f.place }
+refusal_numbers (Plain k) = record { number = number_of k; recordnumber = 0; place = 0 }
+refusal_numbers (TooManyStates r) = record { number = number_of reason.States; recordnumber = r; place = 0 }

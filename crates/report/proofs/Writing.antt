@@ -1,15 +1,16 @@
 -- Texts written at a place of a line, one after the other. Assumes nothing.
 use Prim.Native.Nat.{ℕ, zero, suc, ◌+◌, ◌-◌, ◌*◌, ◌/◌, ◌%◌, ◌≤◌, ◌<◌}
 use mathlib.Core.Path.{◌≡◌, refl, sym, ap, ◌∙◌}
-use mathlib.Core.Bool.{cond}
-use mathlib.Core.List.{List, [], ◌∷◌, ◌++◌}
+use mathlib.Core.List.{List, [], ◌∷◌, ◌++◌, append_assoc}
 use native.Mathlib.Nat.{add-zero, add-suc, suc-add}
-use native.Mathlib.Numerals.{add-one}
 use native.Mathlib.Omega.{arith}
 use borrow.Author.Tests.{lt-ltb, le-ltb}
-use lib.ListN.{length, set, take, drop, get_or, length-append, length-set}
-use lib.Seq.{sets, length-sets, sets-eq, take_at, drop-cons, drop-length}
-use Rattle.report.specs.Text.{glyph, decimal, hex, Put}
+use borrow.Rule.Slice.PartMut.{put_mid}
+use lib.ListN.{length, set, take, drop, get_or, length-append}
+use lib.Seq.{sets, length-sets, sets-eq, take_at, length-take-le, drop-drop}
+use Rattle.std.proofs.lemmas.List.{take_more}
+use Rattle.report.specs.Text.{glyph, decimal, hex, Put, Wrote}
+use Rattle.report.specs.declared.text.Line.{Line}
 
 -- a text after another
 sets-append : (xs ys l : List ℕ) (i : ℕ) → sets (sets l i xs) (i + length xs) ys ≡ sets l i (xs ++ ys)
@@ -18,17 +19,20 @@ sets-append (x ∷ xs) ys l i =
     let e : i + suc (length xs) ≡ suc i + length xs = add-suc i (length xs) ∙ sym (suc-add i (length xs)) in
     rw e (sets-append xs ys (set l i x) (suc i))
 
-nothing : (l : List ℕ) (at : ℕ) → at ≤ length l → Put l at [] at l
-nothing l at h = record { place = sym (add-zero at); fits = h; line = refl }
-
-pub then : {a b c xs ys : List ℕ} {i j k : ℕ} → Put a i xs j b → Put b j ys k c → Put a i (xs ++ ys) k c
-then {a} {b} {c} {xs} {ys} {i} {j} {k} p q = record {
+after : {a b c xs ys : List ℕ} {i j k : ℕ} → Put a i xs j b → Put b j ys k c → Put a i (xs ++ ys) k c
+after {a} {b} {c} {xs} {ys} {i} {j} {k} p q = record {
   place = omega (arith, p.place, q.place, length-append xs ys);
   fits = q.fits;
   line = q.line ∙ ap (λ (l : List ℕ). sets l j ys) p.line ∙ ap (λ (n : ℕ). sets (sets a i xs) n ys) p.place ∙ sets-append xs ys a i;
 }
 
--- a line keeps its length
+pub then : {a b c : Line} {xs ys : List ℕ} → Wrote a xs b → Wrote b ys c → Wrote a (xs ++ ys) c
+then p q = record { same = q.same ∙ p.same; size = q.size ∙ p.size; put = after p.put q.put }
+
+-- nothing is written yet
+pub none : (a : Line) → a.at ≤ length a.bytes.now → Wrote a [] a
+none a h = record { same = refl; size = refl; put = record { place = sym (add-zero a.at); fits = h; line = refl } }
+
 pub size : {a b xs : List ℕ} {i j : ℕ} → Put a i xs j b → length b ≡ length a
 size {a} {b} {xs} {i} p = ap length p.line ∙ length-sets a i xs
 
@@ -39,74 +43,45 @@ whole {a} {b} {xs} {j} p =
     let f : 0 + length xs ≤ length a = omega (arith, p.fits, p.place, size p) in
     rw (p.line, n, sets-eq xs a 0 f, take_at xs (drop (0 + length xs) a) (length xs) refl) refl
 
--- one byte
-byte : (l : List ℕ) (at x : ℕ) → at < length l → Put l at (x ∷ []) (at + 1) (set l at x)
-byte l at x h = record { place = refl; fits = omega (arith, length-set l at x); line = refl }
+-- a text copied onto a line
+pub copied : (l : List ℕ) (at k : ℕ) (s t : List ℕ) → t ≡ s → k ≡ length s → at + length s ≤ length l → Put l at s (at + length s) (put_mid at k l t)
+copied l at k s t e q h =
+    let w : put_mid at k l t ≡ sets l at s =
+    rw (e, q, sets-eq s l at h, append_assoc (take at l) s (drop (at + length s) l), ← (drop-drop (length s) at l)) refl in
+    record { place = refl; fits = omega (arith, ap length w ∙ length-sets l at s); line = w }
 
--- the start of put_bytes
-pub bytes-start : (l : List ℕ) (at : ℕ) (s : List ℕ) → sets l (at + 0) s ≡ sets l at s
-bytes-start l at s = ap (λ (k : ℕ). sets l k s) (add-zero at)
-
--- a turn of put_bytes: what is left to write falls by the byte that is written
-pub bytes-turn : (l : List ℕ) (at i : ℕ) (s : List ℕ) → i < length s
-    → sets (set l (at + i) (get_or s i 0)) (at + (i + 1)) (drop (i + 1) s) ≡ sets l (at + i) (drop i s)
-bytes-turn l at i s h =
-    let e : at + (i + 1) ≡ suc (at + i) = omega arith in
-    rw (e, add-one i, drop-cons s i 0 h) refl
-
--- the end of put_bytes
-pub bytes-end : (l₀ l : List ℕ) (at i : ℕ) (s : List ℕ) → length s ≤ i → i ≤ length s → at + i ≤ length l
-    → sets l (at + i) (drop i s) ≡ sets l₀ at s → Put l₀ at s (at + i) l
-bytes-end l₀ l at i s p q f e =
-    let n : i ≡ length s = omega arith in
-    record { place = ap (λ (k : ℕ). at + k) n; fits = f; line = sym (ap (λ (r : List ℕ). sets l (at + i) r) (ap (λ (k : ℕ). drop k s) n ∙ drop-length s)) ∙ e }
-
--- the three ways of put_decimal
-pub decimal-none : (l : List ℕ) (at d n : ℕ) → at ≤ length l → d ≡ 0 → Put l at (decimal d n) at l
+-- the digits of a number: none, one or more
+pub decimal-none : (d n : ℕ) → d ≡ 0 → decimal d n ≡ []
 unfolding decimal
-decimal-none l at d n h e = rw e (nothing l at h)
+decimal-none d n e = rw e refl
 
-decimal-last : (d n : ℕ) → n < 10 → decimal (suc d) n ≡ glyph n ∷ []
+pub decimal-one : (d n : ℕ) → (d ≡ 0 → ⊥) → n < 10 → decimal d n ≡ glyph (n % 10) ∷ []
 unfolding decimal
-decimal-last d n h = ap (λ b. cond b (glyph n ∷ []) (decimal d (n / 10) ++ (glyph (n % 10) ∷ []))) (lt-ltb n 10 h)
+decimal-one zero n e h = absurd (e refl)
+decimal-one (suc d) n e h = let q : n % 10 ≡ n = omega arith in rw (lt-ltb n 10 h, q, lt-ltb n 10 h) refl
 
-decimal_suc : (d n : ℕ) → 10 ≤ n → decimal (suc d) n ≡ decimal d (n / 10) ++ (glyph (n % 10) ∷ [])
+pub decimal-more : (d n : ℕ) → (d ≡ 0 → ⊥) → 10 ≤ n → decimal d n ≡ decimal (d - 1) (n / 10) ++ (glyph (n % 10) ∷ [])
 unfolding decimal
-decimal_suc d n h = ap (λ b. cond b (glyph n ∷ []) (decimal d (n / 10) ++ (glyph (n % 10) ∷ []))) (le-ltb n 10 h)
+decimal-more zero n e h = absurd (e refl)
+decimal-more (suc d) n e h = let k : suc d - 1 ≡ d = omega arith in rw (k, le-ltb n 10 h) refl
 
-pub decimal-one : (l : List ℕ) (at d n g : ℕ) → at < length l → (d ≡ 0 → ⊥) → n < 10 → g ≡ glyph n → Put l at (decimal d n) (at + 1) (set l at g)
-decimal-one l at zero n g f e h q = absurd (e refl)
-decimal-one l at (suc d) n g f e h q = rw (decimal-last d n h, ← q) (byte l at g f)
-
-pub decimal-more : (l l' : List ℕ) (at d n next g : ℕ) → next < length l' → (d ≡ 0 → ⊥) → 10 ≤ n → Put l at (decimal (d - 1) (n / 10)) next l'
-    → g ≡ glyph (n % 10)
-    → Put l at (decimal d n) (next + 1) (set l' next g)
-decimal-more l l' at zero n next g f e h p q = absurd (e refl)
-decimal-more l l' at (suc d) n next g f e h p q =
-    let k : suc d - 1 ≡ d = omega arith in
-    rw (decimal_suc d n h, ← q) (then (rw k at p) (byte l' next g f))
-
--- a turn of put_hex, and its end
-pub hex-turn : (l : List ℕ) (next i x a b : ℕ) (s : List ℕ) → i < length s → x ≡ get_or s i 0 → a ≡ glyph (x / 16) → b ≡ glyph (x % 16)
-    → sets (set (set l next a) (next + 1) b) (next + 2) (hex (drop (i + 1) s)) ≡ sets l next (hex (drop i s))
+-- the digits of one more byte
+pub hex-append : (s t : List ℕ) → hex (s ++ t) ≡ hex s ++ hex t
 unfolding hex
-hex-turn l next i x a b s h g p q =
-    let e : next + 2 ≡ suc (suc next) = omega arith in
-    rw (add-one i, add-one next, e, drop-cons s i 0 h, p, q, g) refl
+hex-append [] t = refl
+hex-append (x ∷ s) t = ap (λ (r : List ℕ). glyph (x / 16) ∷ glyph (x % 16) ∷ r) (hex-append s t)
+
+pub hex-more : (s : List ℕ) (i : ℕ) → i < length s → hex (take (i + 1) s) ≡ hex (take i s) ++ (glyph (get_or s i 0 / 16) ∷ glyph (get_or s i 0 % 16) ∷ [])
+unfolding hex
+hex-more s i h = rw (take_more s i 0 h) (hex-append (take i s) (get_or s i 0 ∷ []))
 
 pub length-hex : (s : List ℕ) → length (hex s) ≡ 2 * length s
 unfolding hex
 length-hex [] = refl
 length-hex (x ∷ s) = omega (arith, length-hex s)
 
-pub hex-end : (l₀ l : List ℕ) (at next i : ℕ) (s : List ℕ) → length s ≤ i → i ≤ length s → next ≤ length l → next ≡ at + 2 * i
-    → sets l next (hex (drop i s)) ≡ sets l₀ at (hex s) → Put l₀ at (hex s) next l
-unfolding hex
-hex-end l₀ l at next i s p q f r e =
-    let n : i ≡ length s = omega arith in
-    record {
-      place = omega (arith, length-hex s);
-      fits = f;
-      line = sym (ap (λ (t : List ℕ). sets l next (hex t)) (ap (λ (k : ℕ). drop k s) n ∙ drop-length s))
-          ∙ e;
-    }
+-- there is room for those of one more byte
+pub hex-room : {a b : Line} (s : List ℕ) (i : ℕ) → i < length s → a.at + 2 * length s ≤ length a.bytes.now → Wrote a (hex (take i s)) b
+    → b.at + 2 ≤ length b.bytes.now
+hex-room s i h r w =
+    omega (arith, w.put.place, w.size, length-hex (take i s), length-take-le i s (omega arith))

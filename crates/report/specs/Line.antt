@@ -1,10 +1,11 @@
 -- The line of a verdict: document 01, "The verdict program". Assumes nothing.
-use Rattle.std.specs.Prelude.{ℕ, List, [], ◌∷◌, ◌++◌, take}
+use Rattle.std.specs.Prelude.{ℕ, List, [], ◌∷◌, ◌++◌, take, Result, Ok, Err}
 use Rattle.report.specs.Text.{decimal, hex}
 use Rattle.decide.specs.declared.Verdict.{Verdict}
-use Rattle.decide.specs.declared.Verdict.TheVariants.{Shown, None, Larger, Refused}
+use Rattle.decide.specs.declared.Verdict.TheVariants.{Shown, None, Larger}
 use Rattle.refusals.specs.declared.Refusal.{Refusal}
-use Rattle.refusals.specs.declared.Refusal.TheVariants.{Nothing, Placed, Plain, TooManyStates}
+use Rattle.refusals.specs.declared.Refusal.TheVariants.{Placed, Plain, TooManyStates}
+use Rattle.refusals.specs.Reason.{number_of}
 
 -- `shown `
 abbrev pub shown_word : List ℕ
@@ -42,15 +43,14 @@ shown_line positions states strip = counted shown_word positions ++ (counted spa
 
 -- "`refused number`, or `refused 14 record`", and of a strip's refusal also the place: "the verdict program prints it last on its line"
 unfoldable pub refused_line : Refusal → List ℕ
-refused_line Nothing = counted refused_word 0 ++ line_end
-refused_line (Placed number place) = counted refused_word number ++ (counted space place ++ line_end)
-refused_line (Plain number) = counted refused_word number ++ line_end
-refused_line (TooManyStates number) = counted refused14_word number ++ line_end
+refused_line (Placed f) = counted refused_word (number_of f.reason) ++ (counted space f.place ++ line_end)
+refused_line (Plain k) = counted refused_word (number_of k) ++ line_end
+refused_line (TooManyStates r) = counted refused14_word r ++ line_end
 
 -- "`shown positions states HEX`, `none states`, `larger states`" or the line of a refusal, and the line's end. out: the buffer whose front
 -- holds the tree strip
-unfoldable pub line_of : Verdict → List ℕ → List ℕ
-line_of (Shown positions states size) out = shown_line positions states (take size out)
-line_of (None states) out = counted none_word states ++ line_end
-line_of (Larger states) out = counted larger_word states ++ line_end
-line_of (Refused r) out = refused_line r
+unfoldable pub line_of : Result Verdict Refusal → List ℕ → List ℕ
+line_of (Ok (Shown positions states size)) out = shown_line positions states (take size out)
+line_of (Ok (None states)) out = counted none_word states ++ line_end
+line_of (Ok (Larger states)) out = counted larger_word states ++ line_end
+line_of (Err r) out = refused_line r

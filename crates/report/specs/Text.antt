@@ -2,6 +2,7 @@
 -- Assumes nothing.
 use Rattle.std.specs.Prelude.{ℕ, zero, suc, ◌+◌, ◌/◌, ◌%◌, ◌≤◌, ◌≡◌, cond, List, [], ◌∷◌, ◌++◌, ltb, length}
 use Rattle.std.proofs.lemmas.List.Edits.{sets}
+use Rattle.report.specs.declared.text.Line.{Line}
 
 -- a digit below 16: `0` to `9`, then `A` to `F`
 abbrev pub glyph : ℕ → ℕ
@@ -22,3 +23,9 @@ pub record Put (before : List ℕ) (at : ℕ) (text : List ℕ) (next : ℕ) (af
   pub place : next ≡ at + length text
   pub fits : next ≤ length after
   pub line : after ≡ sets before at text
+
+-- a text written on a line whose bytes are lent: they are the same ones, and as many
+pub record Wrote (before : Line) (text : List ℕ) (after : Line) : Type 0 where
+  pub same : after.bytes.ghost_name ≡ before.bytes.ghost_name
+  pub size : length after.bytes.now ≡ length before.bytes.now
+  pub put : Put before.bytes.now before.at text after.at after.bytes.now

@@ -6,7 +6,7 @@ use mathlib.Core.List.{List, [], ◌∷◌, ◌++◌, append_assoc}
 use native.Mathlib.Nat.{not-suc-le-zero, mod-lt, zero-lt-suc}
 use native.Mathlib.Numerals.{add-one}
 use native.Mathlib.Omega.{arith}
-use borrow.Author.Tests.{ltb-true, ltb-false, lt-ltb, le-ltb}
+use borrow.Author.Tests.{ltb-true, ltb-false}
 use lib.Dec.{ltb, lit<}
 use lib.ListN.{length, get_or, set, replicate, length-append, get_or-append, get_or-eq_default}
 use lib.Seq.{sets, get_or-append-add, get_or_at}
@@ -94,19 +94,19 @@ module _ (ws : List ℕ) where
 
 -- ---- a byte, as it is computed
 
-module _ (m : ℕ) (ws : List ℕ) (i : ℕ) where
-  pub word-there : i < m → get_or ws i 0 % 262144 ≡ word_at m ws i
-  unfolding word_at
-  word-there h = rw (lt-ltb i m h) refl
+-- past the last number `get_or` gives 0
+word-is : (ws : List ℕ) (i : ℕ) → get_or ws i 0 % 262144 ≡ word_at (length ws) ws i
+unfolding word_at
+word-is ws i = go (ltb i (length ws)) refl
+  where
+    go : (v : Bool) → ltb i (length ws) ≡ v → get_or ws i 0 % 262144 ≡ cond v (get_or ws i 0 % 262144) 0
+    go true e = refl
+    go false e = rw (get_or-eq_default ws 0 (ltb-false i (length ws) e)) refl
 
-  pub word_past : m ≤ i → 0 ≡ word_at m ws i
-  unfolding word_at
-  word_past h = rw (le-ltb i m h) refl
-
-pub byte-is : (m : ℕ) (ws : List ℕ) (k y : ℕ) → 8 * k < 18 * m → y ≡ word_at m ws (8 * k / 18 + 1)
-    → (get_or ws (8 * k / 18) 0 % 262144 * 262144 + y) / 2 ^ (28 - 8 * k % 18) % 256 ≡ record_byte m ws k
+pub byte-is : (ws : List ℕ) (k x : ℕ) → x ≡ get_or ws (8 * k / 18 + 1) 0
+    → (get_or ws (8 * k / 18) 0 % 262144 * 262144 + x % 262144) / 2 ^ (28 - 8 * k % 18) % 256 ≡ record_byte (length ws) ws k
 unfolding record_byte
-byte-is m ws k y h e = rw (word-there m ws (8 * k / 18) (omega arith), e) refl
+byte-is ws k x e = rw (e, word-is ws (8 * k / 18), word-is ws (8 * k / 18 + 1)) refl
 
 -- ---- the first k bytes of the records
 

@@ -2,6 +2,7 @@
 -- the records, the head before the rest. Assumes nothing.
 use mathlib.Core.Path.{◌≡◌, refl, sym, ap, ◌∙◌}
 use mathlib.Core.Bool.{Bool, true, false, not, ◌&&◌, true≢false, cond}
+use Rattle.std.specs.Prelude.{Result, Ok, Err}
 use mathlib.Core.List.{List, [], ◌∷◌}
 use Prim.Native.Nat.{ℕ, zero, suc, ◌+◌, ◌-◌, ◌*◌, ◌/◌, ◌%◌, ◌^◌, ◌≤◌, ◌<◌}
 use native.Mathlib.Nat.{not-suc-le-zero, le_of_suc-le-suc, div-one}
@@ -12,23 +13,22 @@ use lib.ListN.{length, get_or, length-drop}
 use lib.Pow.{shr-shr}
 use lib.Seq.{slice, take_all}
 use borrow.Author.Tests.{lt-leb, leb-true, eqb-true, lt-ltb, le-ltb, not-false}
-use Rattle.logic.specs.Rule.{Record as RuleRecord}
+use Rattle.logic.specs.Rule.{Record}
 use Rattle.bits.specs.Bits.{bits, field, between, any_set, first_set, bit_length}
-use Rattle.bits.specs.Faults.{or_else}
-use Rattle.bits.specs.declared.Fault.{Fault}
-use Rattle.bits.specs.declared.Fault.TheVariants.{Sound, At}
 use Rattle.bits.proofs.Fields.{length-bits}
 use Rattle.bits.proofs.Packing.{field-within}
 use Rattle.bits.proofs.Places.{any-first}
+use Rattle.refusals.specs.Fault.{sound, fault, or_else}
+use Rattle.refusals.specs.declared.Fault.{Fault}
+use Rattle.refusals.specs.declared.Reason.{Reason}
+use Rattle.refusals.specs.declared.Reason.TheVariants as reason
 use Rattle.rule_strip.specs.RuleStrip.{version_of, variables_of, count_of, record_at, records_from, records_of, rule_bytes, first_use, second_use}
 use Rattle.rule_strip.specs.RuleStrip.{bad_variable, bad_earlier, bad_unused, record_fault, records_fault, records_end, rule_padding, head_fault, rule_fault}
 use Rattle.rule_strip.specs.RuleAnswers.{use_refusal, field_fault, fields_of, record_or, read_record, read_records, GoodHead, checked_rule}
 use Rattle.rule_strip.specs.declared.Fields.{Fields}
 use Rattle.rule_strip.specs.declared.Read.{Read}
-use Rattle.rule_strip.specs.declared.Read.TheVariants.{Record, Refused}
 use Rattle.rule_strip.specs.declared.Use.{Use}
 use Rattle.rule_strip.specs.declared.Use.TheVariants.{Variable, Earlier, Unused}
-use Rattle.rule_strip.specs.declared.RuleCheck.TheVariants.{Accepted as accepted, Refused as turned_down}
 
 -- ---- one record
 
@@ -43,36 +43,36 @@ above_zero zero = refl
 above_zero (suc v) = rw (eqb-suc-zero, leb-suc-suc, leb-zero) refl
 
 -- a test that finds a fault, and what stands after it
-pub test-first : (t : Bool) (k p : ℕ) (later : Fault) → cond t (At k p) later ≡ or_else (cond t (At k p) Sound) later
+test-first : (t : Bool) (k : Reason) (p : ℕ) (later : Result Unit Fault) → cond t (fault k p) later ≡ or_else (cond t (fault k p) sound) later
 test-first true k p later = refl
 test-first false k p later = refl
 
-pub or_sound : (f : Fault) → or_else f Sound ≡ f
-or_sound Sound = refl
-or_sound (At k p) = refl
+or_sound : (f : Result Unit Fault) → or_else f sound ≡ f
+or_sound (Ok u) = refl
+or_sound (Err f) = refl
 
 module _ (n i at a b : ℕ) where
   -- the tests of `record_fault`
-  abbrev both : Use → Use → Fault
+  abbrev both : Use → Use → Result Unit Fault
   both u w =
-      cond (bad_variable n u a) (At 8 (at + 4))
-      (cond (bad_variable n w b) (At 8 (at + 11))
-      (cond (bad_earlier i u a) (At 9 (at + 4))
-      (cond (bad_earlier i w b) (At 9 (at + 11))
-      (cond (bad_unused u a) (At 10 (at + 4))
-      (cond (bad_unused w b) (At 10 (at + 11)) Sound)))))
+      cond (bad_variable n u a) (fault reason.Variable (at + 4))
+      (cond (bad_variable n w b) (fault reason.Variable (at + 11))
+      (cond (bad_earlier i u a) (fault reason.Record (at + 4))
+      (cond (bad_earlier i w b) (fault reason.Record (at + 11))
+      (cond (bad_unused u a) (fault reason.Unused (at + 4))
+      (cond (bad_unused w b) (fault reason.Unused (at + 11)) sound)))))
 
   -- where the first field's use has no later number, its fault comes first
   two_fields : (u w : Use) → use_refusal u ≤ use_refusal w → both u w ≡ or_else (field_fault n i (at + 4) u a) (field_fault n i (at + 11) w b)
-  two_fields Variable Variable h = test-first (leb n a) 8 (at + 4) _
-  two_fields Variable Earlier h = test-first (leb n a) 8 (at + 4) _
-  two_fields Variable Unused h = rw (above_zero b) (test-first (leb n a) 8 (at + 4) _)
+  two_fields Variable Variable h = test-first (leb n a) reason.Variable (at + 4) _
+  two_fields Variable Earlier h = test-first (leb n a) reason.Variable (at + 4) _
+  two_fields Variable Unused h = rw (above_zero b) (test-first (leb n a) reason.Variable (at + 4) _)
   two_fields Earlier Variable h = absurd (omega arith)
-  two_fields Earlier Earlier h = test-first (leb i a) 9 (at + 4) _
-  two_fields Earlier Unused h = rw (above_zero b) (test-first (leb i a) 9 (at + 4) _)
+  two_fields Earlier Earlier h = test-first (leb i a) reason.Record (at + 4) _
+  two_fields Earlier Unused h = rw (above_zero b) (test-first (leb i a) reason.Record (at + 4) _)
   two_fields Unused Variable h = absurd (omega arith)
   two_fields Unused Earlier h = absurd (omega arith)
-  two_fields Unused Unused h = rw (above_zero a, above_zero b) (test-first (leb 1 a) 10 (at + 4) _)
+  two_fields Unused Unused h = rw (above_zero a, above_zero b) (test-first (leb 1 a) reason.Unused (at + 4) _)
 
 -- so it is of each op
 ordered : (op : ℕ) → use_refusal (first_use op) ≤ use_refusal (second_use op)
@@ -91,17 +91,17 @@ ordered (suc (suc (suc (suc (suc (suc (suc (suc (suc op))))))))) = lit≤ tt
 -- a record's fault is that of its op, else that of its first field, else that of its second
 pub record_split : (n i at op a b : ℕ)
     → record_fault n i at (record { op = op; first = a; second = b })
-    ≡ cond (leb 9 op) (At 7 at) (or_else (field_fault n i (at + 4) (first_use op) a) (field_fault n i (at + 11) (second_use op) b))
+    ≡ cond (leb 9 op) (fault reason.Op at) (or_else (field_fault n i (at + 4) (first_use op) a) (field_fault n i (at + 11) (second_use op) b))
 unfolding record_fault
-record_split n i at op a b = ap (cond (leb 9 op) (At 7 at)) (two_fields n i at a b (first_use op) (second_use op) (ordered op))
+record_split n i at op a b = ap (cond (leb 9 op) (fault reason.Op at)) (two_fields n i at a b (first_use op) (second_use op) (ordered op))
 
-module _ (n i at op a b : ℕ) (h : op < 9) (use₁ : Use) (u : use₁ ≡ first_use op) (f : Fault) (q : f ≡ field_fault n i (at + 4) use₁ a) where
-  pub record_first : {k p : ℕ} → f ≡ At k p → f ≡ record_fault n i at (record { op = op; first = a; second = b })
-  record_first e = sym (record_split n i at op a b ∙ rw (lt-leb 9 op h, ← u, ← q, e) refl)
+module _ (n i at op a b : ℕ) (h : op < 9) {use₁ : Use} (u : use₁ ≡ first_use op) {f : Result Unit Fault} (q : f ≡ field_fault n i (at + 4) use₁ a) where
+  pub record_first : {g : Fault} → f ≡ Err g → record_fault n i at (record { op = op; first = a; second = b }) ≡ Err g
+  record_first e = record_split n i at op a b ∙ rw (lt-leb 9 op h, ← u, ← q, e) refl
 
-  pub record_second : f ≡ Sound → (use₂ : Use) (g : Fault) → use₂ ≡ second_use op → g ≡ field_fault n i (at + 11) use₂ b
-      → g ≡ record_fault n i at (record { op = op; first = a; second = b })
-  record_second e use₂ g w r = sym (record_split n i at op a b ∙ rw (lt-leb 9 op h, ← u, ← q, ← w, ← r, e) refl)
+  pub record_second : {v : Unit} → f ≡ Ok v → {use₂ : Use} → use₂ ≡ second_use op
+      → record_fault n i at (record { op = op; first = a; second = b }) ≡ field_fault n i (at + 11) use₂ b
+  record_second e w = record_split n i at op a b ∙ rw (lt-leb 9 op h, ← u, ← q, ← w, e) refl
 
 -- ---- its fields, out of three bytes, if it starts at an even place
 
@@ -130,33 +130,20 @@ module _ (s : List ℕ) (at : ℕ) (even : at % 2 ≡ 0) (room : at + 18 ≤ 8 *
 -- ---- one turn of the loop
 
 -- the reader's answer is the record, or a fault
-pub or_record : (f : Fault) (r : RuleRecord) (next : ℕ) {op a b m : ℕ} → record_or f r next ≡ Record op a b m → (f ≡ Sound) × (m ≡ next)
-or_record Sound r next e = (refl, cc)
-or_record (At k p) r next e = absurd (let z : ◌≡◌ {A = ℕ} 0 1 = cc in omega arith)
+or_record : (f : Result Unit Fault) (r : Record) (next : ℕ) {read : Read} → record_or f r next ≡ Ok read → (f ≡ sound) × (read.next ≡ next)
+or_record (Ok u) r next {read} e = (refl, let z : record { fields = fields_of r; next = next } ≡ read = cc in sym (ap (λ (x : Read). x.next) z))
+or_record (Err f) r next e = absurd cc
 
-pub or_refused : (f : Fault) (r : RuleRecord) (next : ℕ) {k p : ℕ} → record_or f r next ≡ Refused k p → f ≡ At k p
-or_refused Sound r next e = absurd (let z : ◌≡◌ {A = ℕ} 0 1 = cc in omega arith)
-or_refused (At l q) r next e = cc
-
--- what was read is what the reader answers
-module _ (s : List ℕ) (n i at : ℕ) (f : Fault) (r : Fields) (p : r ≡ fields_of (record_at s at))
-    (h : f ≡ record_fault n i at (record { op = r.op; first = r.first; second = r.second })) where
-  here_is : read_record s n i at ≡ record_or f (record { op = r.op; first = r.first; second = r.second }) (at + 18)
-  unfolding read_record
-  here_is = rw (h, p) refl
-
-  pub read_is : f ≡ Sound → Record r.op r.first r.second (at + 18) ≡ read_record s n i at
-  read_is e = sym (here_is ∙ rw e refl)
-
-  pub refused_is : {k q : ℕ} → f ≡ At k q → Refused k q ≡ read_record s n i at
-  refused_is e = sym (here_is ∙ rw e refl)
+or_refused : (f : Result Unit Fault) (r : Record) (next : ℕ) {g : Fault} → record_or f r next ≡ Err g → f ≡ Err g
+or_refused (Ok u) r next e = absurd cc
+or_refused (Err f) r next e = cc
 
 -- the records from number i of m on
-abbrev pub rest_fault : List ℕ → ℕ → ℕ → ℕ → ℕ → Fault
+abbrev pub rest_fault : List ℕ → ℕ → ℕ → ℕ → ℕ → Result Unit Fault
 rest_fault s n m i at = records_fault n i at (records_from s at (m - i))
 
 module _ (s : List ℕ) (n m i at : ℕ) (h : i < m) where
-  pub rest-step : rest_fault s n m i at ≡ or_else (record_fault n i at (record_at s at)) (rest_fault s n m (i + 1) (at + 18))
+  rest-step : rest_fault s n m i at ≡ or_else (record_fault n i at (record_at s at)) (rest_fault s n m (i + 1) (at + 18))
   unfolding records_fault records_from
   rest-step = let e : m - i ≡ suc (m - (i + 1)) = omega arith in rw (e, add-one i) refl
 
@@ -166,38 +153,50 @@ module _ (s : List ℕ) (n m i at : ℕ) (h : i < m) where
   rest-last l =
       sym (rest-step ∙ ap (or_else (record_fault n i at (record_at s at))) none ∙ or_sound _)
     where
-      none : rest_fault s n m (i + 1) (at + 18) ≡ Sound
+      none : rest_fault s n m (i + 1) (at + 18) ≡ sound
       none = let e : m - (i + 1) ≡ 0 = omega arith in rw e refl
 
--- the loop over the records: number i is reached, at its place, and no fault was met before it
-pub record Reached (s : List ℕ) (n m at i : ℕ) : Type 0 where
+-- the loop over the records: number i is read, at its place, and no fault was met before it
+pub record Reached (s : List ℕ) (n m i : ℕ) (r : Result Read Fault) : Type 0 where
   pub below : i < m
-  pub place : at ≡ 16 + 18 * i
-  pub same : records_fault n 0 16 (records_from s 16 m) ≡ rest_fault s n m i at
+  pub here : r ≡ read_record s n i (16 + 18 * i)
+  pub same : records_fault n 0 16 (records_from s 16 m) ≡ rest_fault s n m i (16 + 18 * i)
 
-pub reach-first : (s : List ℕ) (n m : ℕ) → 1 ≤ m → Reached s n m 16 0
-reach-first s n m h = let e : m - 0 ≡ m = omega arith in record { below = h; place = refl; same = rw e refl }
-
-module _ {s : List ℕ} {n m at i : ℕ} (w : Reached s n m at i) {r : Read} (q : r ≡ read_record s n i at) where
-  pub reach-next : {op a b next : ℕ} → r ≡ Record op a b next → i + 1 < m → Reached s n m next (i + 1)
+module _ {s : List ℕ} {n m i : ℕ} {r : Result Read Fault} (w : Reached s n m i r) where
+  -- it is read, and the next one stands behind it
+  pub reach-next : {read : Read} → r ≡ Ok read → read.next ≡ 16 + 18 * (i + 1)
   unfolding read_record
-  reach-next e h =
-      let f = or_record (record_fault n i at (record_at s at)) (record_at s at) (at + 18) (sym q ∙ e) in
-      record { below = h; place = omega arith; same = w.same ∙ rest-step s n m i at w.below ∙ rw (f.0, f.1) refl }
+  reach-next e =
+      let f = or_record (record_fault n i (16 + 18 * i) (record_at s (16 + 18 * i))) (record_at s (16 + 18 * i)) (16 + 18 * i + 18) (sym w.here ∙ e) in
+      omega (arith, f.1)
 
-  pub reach-refused : {k p : ℕ} → r ≡ Refused k p → r ≡ read_records s n m
+  pub reach-more : {j : ℕ} {read : Read} → r ≡ Ok read → j ≡ i + 1 → j < m → {q : Result Read Fault} → q ≡ read_record s n j read.next → Reached s n m j q
+  unfolding read_record
+  reach-more e k h g =
+      let at = 16 + 18 * i in
+      let f = or_record (record_fault n i at (record_at s at)) (record_at s at) (at + 18) (sym w.here ∙ e) in
+      let p : 16 + 18 * (i + 1) ≡ at + 18 = omega arith in
+      rw k (record {
+        below = rw k at h;
+        here = rw k at g ∙ ap (read_record s n (i + 1)) (reach-next e);
+        same = w.same ∙ rest-step s n m i at w.below ∙ rw (f.0, p) refl;
+      })
+
+  pub reach-refused : {g : Fault} → r ≡ Err g → r ≡ read_records s n m
   unfolding read_record read_records
   reach-refused e =
-      let f = or_refused (record_fault n i at (record_at s at)) (record_at s at) (at + 18) (sym q ∙ e) in
+      let at = 16 + 18 * i in
+      let f = or_refused (record_fault n i at (record_at s at)) (record_at s at) (at + 18) (sym w.here ∙ e) in
       e ∙ sym (rw (w.same, rest-step s n m i at w.below, f) refl)
 
   pub reach-last : m ≤ i + 1 → r ≡ read_records s n m
   unfolding read_record read_records
   reach-last h =
+      let at = 16 + 18 * i in
       let f = sym (w.same ∙ sym (rest-last s n m i at w.below h)) in
-      let b : at ≡ 16 + 18 * (m - 1) = omega arith in
-      let c : at + 18 ≡ 16 + 18 * m = omega arith in
-      q ∙ rw (f, c, b) refl
+      let b : at ≡ 16 + 18 * (m - 1) = let l = w.below in omega arith in
+      let c : at + 18 ≡ 16 + 18 * m = let l = w.below in omega arith in
+      w.here ∙ rw (f, c, b) refl
 
 -- ---- the whole check
 
@@ -219,63 +218,19 @@ in_range low high v e = go (leb low v) (leb v high) refl refl e
     go false q f g e = absurd (true≢false e)
 
 -- a test that finds a fault found none
-pub test-passed : (t : Bool) (k p : ℕ) (later : Fault) → cond t (At k p) later ≡ Sound → (t ≡ false) × (later ≡ Sound)
-test-passed true k p later e = absurd (let z : ◌≡◌ {A = ℕ} 0 1 = cc in omega arith)
+pub test-passed : (t : Bool) (k : Reason) (p : ℕ) (later : Result Unit Fault) → cond t (fault k p) later ≡ sound → (t ≡ false) × (later ≡ sound)
+test-passed true k p later e = absurd cc
 test-passed false k p later e = (refl, e)
 
 module _ (s : List ℕ) where
-  abbrev pub short : Bool
-  short = ltb (length s) 2
-
-  abbrev pub other_version : Bool
-  other_version = not (eqb (version_of s) 1)
-
-  abbrev pub bad_variables : Bool
-  bad_variables = not (between 1 8 (variables_of s))
-
-  abbrev pub bad_count : Bool
-  bad_count = not (between 1 128 (count_of s))
-
-  abbrev pub bad_length : Bool
-  bad_length = not (eqb (length s) (rule_bytes (count_of s)))
-
-  -- the head's fault, by the tests that led to it
-  pub head_1 : short ≡ true → (p : ℕ) → p ≡ bit_length s → At 1 p ≡ head_fault s
-  unfolding head_fault
-  head_1 a p q = rw (a, q) refl
-
-  module _ (a : short ≡ false) where
-    pub head_2 : other_version ≡ true → At 2 0 ≡ head_fault s
-    unfolding head_fault
-    head_2 b = rw (a, b) refl
-
-    module _ (b : other_version ≡ false) where
-      pub head_3 : bad_variables ≡ true → At 3 4 ≡ head_fault s
-      unfolding head_fault
-      head_3 c = rw (a, b, c) refl
-
-      module _ (c : bad_variables ≡ false) where
-        pub head_4 : bad_count ≡ true → At 4 8 ≡ head_fault s
-        unfolding head_fault
-        head_4 d = rw (a, b, c, d) refl
-
-        module _ (d : bad_count ≡ false) where
-          pub head_5 : bad_length ≡ true → (p : ℕ) → p ≡ bit_length s → At 5 p ≡ head_fault s
-          unfolding head_fault
-          head_5 e p q = rw (a, b, c, d, e, q) refl
-
-          pub head_sound : bad_length ≡ false → Sound ≡ head_fault s
-          unfolding head_fault
-          head_sound e = rw (a, b, c, d, e) refl
-
-  pub head_facts : head_fault s ≡ Sound → Head s
+  pub head_facts : head_fault s ≡ sound → Head s
   unfolding head_fault
   head_facts e =
-      let a = test-passed short 1 (bit_length s) _ e in
-      let b = test-passed other_version 2 0 _ a.1 in
-      let c = test-passed bad_variables 3 4 _ b.1 in
-      let d = test-passed bad_count 4 8 _ c.1 in
-      let l = test-passed bad_length 5 (bit_length s) _ d.1 in
+      let a = test-passed (ltb (length s) 2) reason.RuleShort (bit_length s) _ e in
+      let b = test-passed (not (eqb (version_of s) 1)) reason.RuleVersion 0 _ a.1 in
+      let c = test-passed (not (between 1 8 (variables_of s))) reason.RuleVariables 4 _ b.1 in
+      let d = test-passed (not (between 1 128 (count_of s))) reason.RuleRecords 8 _ c.1 in
+      let l = test-passed (not (eqb (length s) (rule_bytes (count_of s)))) reason.RuleLength (bit_length s) _ d.1 in
       let n = in_range 1 8 (variables_of s) c.0 in
       let m = in_range 1 128 (count_of s) d.0 in
       record {
@@ -287,7 +242,7 @@ module _ (s : List ℕ) where
         size = eqb-true _ _ (not-false _ l.0);
       }
 
-  pub check_head : {k p : ℕ} (f : Fault) → f ≡ head_fault s → f ≡ At k p → turned_down k p ≡ checked_rule s
+  pub check_head : {g : Fault} (f : Result Unit Fault) → f ≡ head_fault s → f ≡ Err g → Err g ≡ checked_rule s
   unfolding checked_rule rule_fault
   check_head f e g = rw (← e, g) refl
 
@@ -301,7 +256,7 @@ module _ (s : List ℕ) where
       any_is : any_set (rule_padding s) ≡ ltb (first_set (rule_padding s)) (length (rule_padding s))
       any_is = any-first (rule_padding s)
 
-      pub check_padding : set < 8 * length s → turned_down 6 set ≡ checked_rule s
+      pub check_padding : set < 8 * length s → Err (record { reason = reason.RulePadding; place = set }) ≡ checked_rule s
       unfolding checked_rule rule_fault
       check_padding k =
           let f = found in
@@ -309,7 +264,7 @@ module _ (s : List ℕ) where
           let b = length-bits s in
           rw (h.good, any_is, lt-ltb (first_set (rule_padding s)) (length (rule_padding s)) (omega arith), ← f) refl
 
-      module _ (k : 8 * length s ≤ set) (r : Read) (g : r ≡ read_records s n m) where
+      module _ (k : 8 * length s ≤ set) (r : Result Read Fault) (g : r ≡ read_records s n m) where
         body : rule_fault s ≡ records_fault n 0 16 (records_from s 16 m)
         unfolding rule_fault records_of
         body =
@@ -318,11 +273,11 @@ module _ (s : List ℕ) where
             let b = length-bits s in
             rw (h.good, any_is, le-ltb (first_set (rule_padding s)) (length (rule_padding s)) (omega arith), h.variables, h.count) refl
 
-        pub check_records : {l p : ℕ} → r ≡ Refused l p → turned_down l p ≡ checked_rule s
+        pub check_records : {f : Fault} → r ≡ Err f → Err f ≡ checked_rule s
         unfolding read_records checked_rule
         check_records d = rw (body ∙ or_refused (records_fault n 0 16 (records_from s 16 m)) _ _ (sym g ∙ d)) refl
 
-        pub check_accepted : {op a b next : ℕ} → r ≡ Record op a b next → accepted n m ≡ checked_rule s
+        pub check_accepted : {read : Read} → r ≡ Ok read → Ok (record { variables = n; records = m }) ≡ checked_rule s
         unfolding read_records checked_rule
         check_accepted d =
             let w = or_record (records_fault n 0 16 (records_from s 16 m)) _ _ (sym g ∙ d) in

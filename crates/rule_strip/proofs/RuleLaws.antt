@@ -2,6 +2,7 @@
 use mathlib.Core.Path.{◌≡◌, refl, sym, ap, ◌∙◌}
 use mathlib.Core.Logic.{◌↔◌}
 use mathlib.Core.Bool.{Bool, true, false, ◌&&◌}
+use Rattle.std.specs.Prelude.{Result, Ok, Err}
 use mathlib.Core.List.{List, [], ◌∷◌}
 use Prim.Native.Nat.{ℕ, zero, suc, ◌+◌, ◌*◌, ◌≤◌, ◌<◌}
 use native.Mathlib.Nat.{not-suc-le-zero, le_of_suc-le-suc}
@@ -11,34 +12,34 @@ use lib.ListN.{length, get_or}
 use borrow.Author.Tests.{lt-leb, leb-false, le-ltb}
 use Rattle.logic.specs.Rule.{Record, no_record, good, good_from, Accepted}
 use Rattle.bits.specs.Bits.{any_set, first_set}
-use Rattle.bits.specs.Faults.{or_else}
-use Rattle.bits.specs.declared.Fault.{Fault}
-use Rattle.bits.specs.declared.Fault.TheVariants.{Sound, At}
+use Rattle.refusals.specs.Fault.{sound, or_else}
+use Rattle.refusals.specs.declared.Fault.{Fault}
+use Rattle.refusals.specs.declared.Reason.TheVariants as reason
 use Rattle.rule_strip.specs.RuleStrip.{variables_of, count_of, record_at, records_from, records_of, rule_bytes, first_use, second_use, record_fault}
 use Rattle.rule_strip.specs.RuleStrip.{records_fault, records_end, rule_padding, head_fault, rule_fault, AcceptedRule}
-use Rattle.rule_strip.specs.RuleAnswers.{use_refusal, limit_of, field_fault, rule_answer, checked_rule}
+use Rattle.rule_strip.specs.RuleAnswers.{use_reason, limit_of, field_fault, rule_answer, checked_rule}
 use Rattle.rule_strip.specs.RulePlaces.{Keeps}
 use Rattle.rule_strip.specs.declared.Use.{Use}
 use Rattle.rule_strip.specs.declared.Use.TheVariants.{Variable, Earlier, Unused}
-use Rattle.rule_strip.specs.declared.RuleCheck.TheVariants.{Accepted as accepted, Refused as turned_down}
+use Rattle.rule_strip.specs.declared.RuleSize.{RuleSize}
 use Rattle.bits.proofs.Packing.{field_below}
 use Rattle.rule_strip.proofs.RuleChecks.{record_split, test-passed, head_facts}
 
 -- ---- one record
 
-pub or_passed : (f g : Fault) → or_else f g ≡ Sound → (f ≡ Sound) × (g ≡ Sound)
-or_passed Sound g e = (refl, e)
-or_passed (At k p) g e = absurd (let z : ◌≡◌ {A = ℕ} 0 1 = cc in omega arith)
+pub or_passed : (f g : Result Unit Fault) → or_else f g ≡ sound → (f ≡ sound) × (g ≡ sound)
+or_passed (Ok u) g e = (refl, e)
+or_passed (Err f) g e = absurd cc
 
-pub field-passed : (n i at : ℕ) (u : Use) (v : ℕ) → field_fault n i at u v ≡ Sound → v < limit_of n i u
-field-passed n i at u v e = leb-false (limit_of n i u) v (test-passed (leb (limit_of n i u) v) (use_refusal u) at Sound e).0
+pub field-passed : (n i at : ℕ) (u : Use) (v : ℕ) → field_fault n i at u v ≡ sound → v < limit_of n i u
+field-passed n i at u v e = leb-false (limit_of n i u) v (test-passed (leb (limit_of n i u) v) (use_reason u) at sound e).0
 
-field-good : (n i at : ℕ) (u : Use) (v : ℕ) → v < limit_of n i u → field_fault n i at u v ≡ Sound
+field-good : (n i at : ℕ) (u : Use) (v : ℕ) → v < limit_of n i u → field_fault n i at u v ≡ sound
 field-good n i at u v h = rw (lt-leb _ v h) refl
 
-pub record_kept : (n i at : ℕ) (r : Record) → record_fault n i at r ≡ Sound → Keeps n i r
+pub record_kept : (n i at : ℕ) (r : Record) → record_fault n i at r ≡ sound → Keeps n i r
 record_kept n i at r e =
-    let w = test-passed (leb 9 r.op) 7 at _ (sym (record_split n i at r.op r.first r.second) ∙ e) in
+    let w = test-passed (leb 9 r.op) reason.Op at _ (sym (record_split n i at r.op r.first r.second) ∙ e) in
     let f = or_passed (field_fault n i (at + 4) (first_use r.op) r.first) (field_fault n i (at + 11) (second_use r.op) r.second) w.1 in
     record {
       known = leb-false 9 r.op w.0;
@@ -46,7 +47,7 @@ record_kept n i at r e =
       second_below = field-passed n i (at + 11) (second_use r.op) r.second f.1;
     }
 
-pub record_unrefused : (n i at : ℕ) (r : Record) → Keeps n i r → record_fault n i at r ≡ Sound
+pub record_unrefused : (n i at : ℕ) (r : Record) → Keeps n i r → record_fault n i at r ≡ sound
 record_unrefused n i at r w =
     record_split n i at r.op r.first r.second
     ∙ rw (lt-leb 9 r.op w.known, field-good n i (at + 4) (first_use r.op) r.first w.first_below)
@@ -100,17 +101,17 @@ abbrev second_good : ℕ → ℕ → Record → Bool
 second_good n i r = fits n i (second_use r.op) r.second
 
 -- the refusals 7 to 10 are what `good` asks
-pub good_iff : (n i at : ℕ) (r : Record) → (record_fault n i at r ≡ Sound) ↔ T (good 2 n i r)
+pub good_iff : (n i at : ℕ) (r : Record) → (record_fault n i at r ≡ sound) ↔ T (good 2 n i r)
 good_iff n i at r = (forth, back)
   where
-    forth : record_fault n i at r ≡ Sound → T (good 2 n i r)
+    forth : record_fault n i at r ≡ sound → T (good 2 n i r)
     forth e =
         let w = record_kept n i at r e in
         let f = of_both (first_good n i r) (second_good n i r) (below-fits n i (first_use r.op) r.first w.first_below)
         (below-fits n i (second_use r.op) r.second w.second_below) in
         rw (good_is n i r.op r.first r.second) (of_both (ltb r.op 9) (first_good n i r && second_good n i r) (lt→ltb r.op 9 w.known) f)
 
-    back : T (good 2 n i r) → record_fault n i at r ≡ Sound
+    back : T (good 2 n i r) → record_fault n i at r ≡ sound
     back t =
         let w = both_of (ltb r.op 9) (first_good n i r && second_good n i r) (rw (good_is n i r.op r.first r.second) at t) in
         let v = both_of (first_good n i r) (second_good n i r) w.1 in
@@ -123,7 +124,7 @@ good_iff n i at r = (forth, back)
 
 -- ---- all records
 
-records-good : (n i at : ℕ) (rs : List Record) → records_fault n i at rs ≡ Sound → T (good_from 2 n i rs)
+records-good : (n i at : ℕ) (rs : List Record) → records_fault n i at rs ≡ sound → T (good_from 2 n i rs)
 unfolding records_fault good_from
 records-good n i at [] e = tt
 records-good n i at (r ∷ rs) e =
@@ -164,12 +165,12 @@ pub widths_at : (s : List ℕ) (at : ℕ) → ((record_at s at).op < 16) × ((re
 unfolding record_at
 widths_at s at = (field_below s at 4, field_below s (at + 4) 7, field_below s (at + 11) 7)
 
-module _ (s : List ℕ) (e : rule_fault s ≡ Sound) where
-  parts : (head_fault s ≡ Sound) × (records_fault (variables_of s) 0 16 (records_of s) ≡ Sound)
+module _ (s : List ℕ) (e : rule_fault s ≡ sound) where
+  parts : (head_fault s ≡ sound) × (records_fault (variables_of s) 0 16 (records_of s) ≡ sound)
   unfolding rule_fault
   parts =
       let w = or_passed (head_fault s) _ e in
-      (w.0, (test-passed (any_set (rule_padding s)) 6 (records_end s + first_set (rule_padding s)) _ w.1).1)
+      (w.0, (test-passed (any_set (rule_padding s)) reason.RulePadding (records_end s + first_set (rule_padding s)) _ w.1).1)
 
   records-count : length (records_of s) ≡ count_of s
   unfolding records_of
@@ -191,18 +192,20 @@ module _ (s : List ℕ) (e : rule_fault s ≡ Sound) where
 
 -- ---- what the check's answer says
 module _ (s : List ℕ) where
-  pub checked-accepted : (n m : ℕ) → checked_rule s ≡ accepted n m → AcceptedRule s n m
+  pub checked-accepted : (size : RuleSize) → checked_rule s ≡ Ok size → AcceptedRule s size.variables size.records
   unfolding checked_rule
-  checked-accepted n m e = go (rule_fault s) refl e
+  checked-accepted size e = go (rule_fault s) refl e
     where
-      go : (f : Fault) → rule_fault s ≡ f → rule_answer s f ≡ accepted n m → AcceptedRule s n m
-      go Sound p q = record { unrefused = p; variables = cc; count = cc }
-      go (At k at) p q = absurd (let z : ◌≡◌ {A = ℕ} 0 1 = cc in omega arith)
+      go : (f : Result Unit Fault) → rule_fault s ≡ f → rule_answer s f ≡ Ok size → AcceptedRule s size.variables size.records
+      go (Ok u) p q =
+          let z : record { variables = variables_of s; records = count_of s } ≡ size = cc in
+          record { unrefused = p; variables = sym (ap (λ (x : RuleSize). x.variables) z); count = sym (ap (λ (x : RuleSize). x.records) z) }
+      go (Err f) p q = absurd cc
 
-  pub checked_refused : (k p : ℕ) → checked_rule s ≡ turned_down k p → rule_fault s ≡ At k p
+  pub checked_refused : (f : Fault) → checked_rule s ≡ Err f → rule_fault s ≡ Err f
   unfolding checked_rule
-  checked_refused k p e = go (rule_fault s) refl e
+  checked_refused f e = go (rule_fault s) refl e
     where
-      go : (f : Fault) → rule_fault s ≡ f → rule_answer s f ≡ turned_down k p → rule_fault s ≡ At k p
-      go Sound g q = absurd (let z : ◌≡◌ {A = ℕ} 0 1 = cc in omega arith)
-      go (At l at) g q = g ∙ cc
+      go : (g : Result Unit Fault) → rule_fault s ≡ g → rule_answer s g ≡ Err f → rule_fault s ≡ Err f
+      go (Ok u) p q = absurd cc
+      go (Err g) p q = let z : g ≡ f = cc in rw z at p

@@ -2,6 +2,7 @@
 use Prim.Native.Nat.{ℕ, zero, suc, ◌+◌, ◌*◌, ◌/◌, ◌%◌, ◌≤◌, ◌<◌}
 use mathlib.Core.Path.{◌≡◌, refl, sym, ◌∙◌, ap, ap₂}
 use mathlib.Core.Bool.{false}
+use Rattle.std.specs.Prelude.{Ok}
 use mathlib.Core.List.{List, [], ◌∷◌, ◌++◌, append_assoc, append-nil}
 use native.Mathlib.Omega.{arith}
 use borrow.Author.Tests.{eq-eqb, le-ltb, le-leb}
@@ -10,17 +11,16 @@ use lib.ListN.{length, drop, replicate, length-append, length-replicate}
 use lib.Seq.{drop_at}
 use Rattle.logic.specs.Rule.{Record, good, good_from}
 use Rattle.bits.specs.Bits.{digits, bits, any_set, pack}
-use Rattle.bits.specs.declared.Fault.TheVariants.{Sound}
 use Rattle.bits.proofs.Fields.{length_digits, length-bits, digits_low, digits-split}
 use Rattle.bits.proofs.Packing.{AreBits, bits-append, digits-bits, field_is, behind, pack-bits}
 use Rattle.bits.proofs.Places.{zeros_unset}
+use Rattle.refusals.specs.Fault.{sound}
 use Rattle.rule_strip.specs.RuleStrip.{version_of, variables_of, count_of, record_at, records_from, records_of, rule_bytes, first_use, second_use}
 use Rattle.rule_strip.specs.RuleStrip.{records_fault, head_fault, rule_fault}
 use Rattle.rule_strip.specs.RuleAnswers.{limit_of, checked_rule}
 use Rattle.rule_strip.specs.RuleWriting.{record_bits, strip_of_rule, record_word, record_of_word, records_of_words}
 use Rattle.rule_strip.specs.declared.Use.{Use}
 use Rattle.rule_strip.specs.declared.Use.TheVariants.{Variable, Earlier, Unused}
-use Rattle.rule_strip.specs.declared.RuleCheck.TheVariants.{Accepted as accepted}
 use Rattle.rule_strip.proofs.RuleLaws.{both_of, record_kept, good_iff}
 
 -- ---- good records are small
@@ -51,7 +51,7 @@ good-small n i (r ∷ rs) h k t =
     let q = limit_small n i (second_use r.op) (omega arith) (omega arith) in
     (record { op_small = omega arith; first_small = omega arith; second-small = omega arith }, good-small n (suc i) rs h (omega arith) w.1)
 
-good-unrefused : (n i at : ℕ) (rs : List Record) → T (good_from 2 n i rs) → records_fault n i at rs ≡ Sound
+good-unrefused : (n i at : ℕ) (rs : List Record) → T (good_from 2 n i rs) → records_fault n i at rs ≡ sound
 unfolding good_from records_fault
 good-unrefused n i at [] t = refl
 good-unrefused n i at (r ∷ rs) t =
@@ -136,7 +136,7 @@ strip_bits-bits n rs =
 
 -- what the check finds in a strip of the records rs over n variables
 pub record Passes (n : ℕ) (rs : List Record) (s : List ℕ) : Type 0 where
-  pub unrefused : rule_fault s ≡ Sound
+  pub unrefused : rule_fault s ≡ sound
   pub variables_are : variables_of s ≡ n
   pub count_is : count_of s ≡ length rs
   pub records_are_they : records_of s ≡ rs
@@ -198,7 +198,7 @@ module _ (n : ℕ) (rs : List Record) (some : 1 ≤ n) (few : n ≤ 8) (any : 1 
       let p = pack-bits (strip_bits n rs) (omega arith) (strip_bits-bits n rs) in
       passes-from (pack 0 8 (strip_bits n rs)) p.0 p.1 p.2
 
-  pub strip-checked : checked_rule (strip_of_rule n rs) ≡ accepted n (length rs)
+  pub strip-checked : checked_rule (strip_of_rule n rs) ≡ Ok (record { variables = n; records = length rs })
   unfolding checked_rule
   strip-checked = let p = strip-passes in rw (p.unrefused, p.variables_are, p.count_is) refl
 

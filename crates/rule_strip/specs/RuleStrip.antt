@@ -1,10 +1,10 @@
 -- Rule strips: document 01, "Strips" and "Check a rule strip". Assumes nothing.
-use Rattle.std.specs.Prelude.{ℕ, zero, suc, ◌+◌, ◌*◌, ◌/◌, ◌≡◌, Bool, false, not, cond, List, [], ◌∷◌, ltb, leb, eqb, length, get_or, drop}
+use Rattle.std.specs.Prelude.{ℕ, zero, suc, ◌+◌, ◌*◌, ◌/◌, ◌≡◌, Bool, false, not, cond, Result, List, [], ◌∷◌, ltb, leb, eqb, length, get_or, drop}
 use Rattle.logic.specs.Rule.{Record}
 use Rattle.bits.specs.Bits.{between, bits, field, any_set, first_set, bit_length}
-use Rattle.bits.specs.Faults.{or_else}
-use Rattle.bits.specs.declared.Fault.{Fault}
-use Rattle.bits.specs.declared.Fault.TheVariants.{Sound, At}
+use Rattle.refusals.specs.Fault.{sound, fault, or_else}
+use Rattle.refusals.specs.declared.Fault.{Fault}
+use Rattle.refusals.specs.declared.Reason.TheVariants as reason
 use Rattle.rule_strip.specs.declared.Use.{Use}
 use Rattle.rule_strip.specs.declared.Use.TheVariants.{Variable, Earlier, Unused}
 
@@ -71,19 +71,19 @@ bad_unused Unused v = not (eqb v 0)
 -- of record number i, which starts at bit place at: "7 op 9 to 15; 8 a variable not below n; 9 a record number not below its own; 10 an
 -- unused field not 0", at the op, 4 bits on or 11 bits on, "where the offending field starts"; "Of two such fields in one record the first
 -- is meant"
-unfoldable pub record_fault : ℕ → ℕ → ℕ → Record → Fault
+unfoldable pub record_fault : ℕ → ℕ → ℕ → Record → Result Unit Fault
 record_fault n i at r =
-    cond (leb 9 r.op) (At 7 at)
-    (cond (bad_variable n (first_use r.op) r.first) (At 8 (at + 4))
-    (cond (bad_variable n (second_use r.op) r.second) (At 8 (at + 11))
-    (cond (bad_earlier i (first_use r.op) r.first) (At 9 (at + 4))
-    (cond (bad_earlier i (second_use r.op) r.second) (At 9 (at + 11))
-    (cond (bad_unused (first_use r.op) r.first) (At 10 (at + 4))
-    (cond (bad_unused (second_use r.op) r.second) (At 10 (at + 11)) Sound))))))
+    cond (leb 9 r.op) (fault reason.Op at)
+    (cond (bad_variable n (first_use r.op) r.first) (fault reason.Variable (at + 4))
+    (cond (bad_variable n (second_use r.op) r.second) (fault reason.Variable (at + 11))
+    (cond (bad_earlier i (first_use r.op) r.first) (fault reason.Record (at + 4))
+    (cond (bad_earlier i (second_use r.op) r.second) (fault reason.Record (at + 11))
+    (cond (bad_unused (first_use r.op) r.first) (fault reason.Unused (at + 4))
+    (cond (bad_unused (second_use r.op) r.second) (fault reason.Unused (at + 11)) sound))))))
 
 -- "for the earliest bad record": of records number i on, from bit place at on
-unfoldable pub records_fault : ℕ → ℕ → ℕ → List Record → Fault
-records_fault n i at [] = Sound
+unfoldable pub records_fault : ℕ → ℕ → ℕ → List Record → Result Unit Fault
+records_fault n i at [] = sound
 records_fault n i at (r ∷ rs) = or_else (record_fault n i at r) (records_fault n (suc i) (at + 18) rs)
 
 -- where the records end, and the bits from there on
@@ -95,24 +95,24 @@ rule_padding s = drop (records_end s) (bits s)
 
 -- "in order: 1 fewer than two bytes; 2 version not 1; 3 n not 1 to 8; 4 m not 1 to 128; 5 length not as above", each with its place: "for
 -- 1, 5 [..] the bit length handed in", else where the field starts
-unfoldable pub head_fault : List ℕ → Fault
+unfoldable pub head_fault : List ℕ → Result Unit Fault
 head_fault s =
-    cond (ltb (length s) 2) (At 1 (bit_length s))
-    (cond (not (eqb (version_of s) 1)) (At 2 0)
-    (cond (not (between 1 8 (variables_of s))) (At 3 4)
-    (cond (not (between 1 128 (count_of s))) (At 4 8)
-    (cond (not (eqb (length s) (rule_bytes (count_of s)))) (At 5 (bit_length s)) Sound))))
+    cond (ltb (length s) 2) (fault reason.RuleShort (bit_length s))
+    (cond (not (eqb (version_of s) 1)) (fault reason.RuleVersion 0)
+    (cond (not (between 1 8 (variables_of s))) (fault reason.RuleVariables 4)
+    (cond (not (between 1 128 (count_of s))) (fault reason.RuleRecords 8)
+    (cond (not (eqb (length s) (rule_bytes (count_of s)))) (fault reason.RuleLength (bit_length s)) sound))))
 
 -- THE EARLIEST FAULT, its number and its place together: 1 to 5; "6 a padding bit set", at "the first set padding bit"; "then, for the
 -- earliest bad record", 7 to 10
-unfoldable pub rule_fault : List ℕ → Fault
+unfoldable pub rule_fault : List ℕ → Result Unit Fault
 rule_fault s =
     or_else (head_fault s)
-    (cond (any_set (rule_padding s)) (At 6 (records_end s + first_set (rule_padding s)))
+    (cond (any_set (rule_padding s)) (fault reason.RulePadding (records_end s + first_set (rule_padding s)))
     (records_fault (variables_of s) 0 16 (records_of s)))
 
 -- an accepted strip of m records over n variables
 pub record AcceptedRule (s : List ℕ) (n m : ℕ) : Type 0 where
-  pub unrefused : rule_fault s ≡ Sound
+  pub unrefused : rule_fault s ≡ sound
   pub variables : n ≡ variables_of s
   pub count : m ≡ count_of s

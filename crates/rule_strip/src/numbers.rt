@@ -2,7 +2,9 @@
 ghost use Rattle.std.specs.Prelude.{◌≡◌};
 ghost use Rattle.rule_strip.specs.Numbers.{rule_numbers, written_rule, unwritten_rule};
 
-use crate::RuleCheck;
+use crate::RuleSize;
+use crate::write::Written;
+use refusals::Fault;
 
 // place is the bit place that a refusal names.
 #[repr(C)]
@@ -26,14 +28,15 @@ pub struct WrittenNumbers {
     pub strip: u64,
 }
 
-pub fn written_rule(variables: usize, records: usize, length: usize) -> WrittenNumbers
-    ensures { result ≡ written_rule variables records length }
+// These are functions, and no `From`: the exports' clauses say `rule_numbers` and the like, and the code is plainer with the same word.
+pub fn written_rule(w: Written) -> WrittenNumbers
+    ensures { result ≡ written_rule w }
 {
     WrittenNumbers {
         refusal: 0,
-        variables: variables as u64,
-        records: records as u64,
-        length: length as u64,
+        variables: w.variables as u64,
+        records: w.records as u64,
+        length: w.length as u64,
         place: 0,
         strip: 0,
     }
@@ -52,21 +55,21 @@ pub fn unwritten_rule(refusal: u64, place: u64, strip: u64) -> WrittenNumbers
     }
 }
 
-pub fn rule_numbers(r: RuleCheck) -> RuleNumbers
+pub fn rule_numbers(r: Result<RuleSize, Fault>) -> RuleNumbers
     ensures { result ≡ rule_numbers r }
 {
     match r {
-        RuleCheck::Accepted { variables, records } => RuleNumbers {
+        Ok(size) => RuleNumbers {
             refusal: 0,
-            variables: variables as u64,
-            records: records as u64,
+            variables: size.variables as u64,
+            records: size.records as u64,
             place: 0,
         },
-        RuleCheck::Refused { number, place } => RuleNumbers {
-            refusal: number,
+        Err(fault) => RuleNumbers {
+            refusal: fault.reason.number(),
             variables: 0,
             records: 0,
-            place,
+            place: fault.place,
         },
     }
 }

@@ -1,5 +1,5 @@
 -- Decoding a rule strip, record by record. Assumes nothing.
-use Rattle.words.proofs.Vocabulary.{ℕ, ◌+◌, ◌*◌, ◌≤◌, ◌<◌, ◌≡◌, refl, ◌∙◌, List, ℕ_discrete, arith, length, set, length-set, get_or-set_same, get_or-set_other}
+use Rattle.words.proofs.Vocabulary.{ℕ, ◌+◌, ◌*◌, ◌≤◌, ◌<◌, ◌≡◌, refl, ◌∙◌, List, ℕ_discrete, arith, length, set, get_or-set_same, get_or-set_other}
 use Rattle.records.specs.declared.Decoded.{Decoded}
 use Rattle.records.specs.Rule.{no_decoded}
 use Rattle.records.specs.Decode.{decoded_of}
@@ -9,56 +9,31 @@ use Rattle.rule_strip.specs.declared.Fields.{Fields}
 use Rattle.rule_strip.proofs.RuleLaws.{rule-accepted, records_at, widths_at}
 use Rattle.rules.specs.Decoding.{DecodesTo}
 
--- a record's fields fit in a byte
-pub fields-byte : (s : List ℕ) (at : ℕ) (f : Fields) → f ≡ fields_of (record_at s at) → (f.first < 128) × (f.second < 128)
-fields-byte s at f q = let w = widths_at s at in rw q (w.1, w.2)
-
--- the loop's invariant
-pub record Decoding (s : List ℕ) (n m : ℕ) (records : List Decoded) (at i : ℕ) : Type 0 where
-  pub low : i ≤ m
-  pub place : at ≡ 16 + 18 * i
-  pub long : length records ≡ 128
-  pub done : DecodesTo s i records
-  pub few : m ≤ 128
+-- the sizes of an accepted strip
+pub record Sizes (s : List ℕ) (n m : ℕ) : Type 0 where
   pub few-variables : n ≤ 8
+  pub few-records : m ≤ 128
   pub short : length s ≤ 4096
   pub whole : 16 + 18 * m ≤ 8 * length s
 
 module _ {s : List ℕ} {n m : ℕ} (accepted : AcceptedRule s n m) where
-  pub decoding_first : (records : List Decoded) → length records ≡ 128 → Decoding s n m records 16 0
-  decoding_first records l =
+  pub decode-sizes : Sizes s n m
+  decode-sizes =
       let f = rule-accepted s accepted.unrefused in
-      let e = f.size in
-      let k = f.few-records in
-      record {
-        low = omega arith;
-        place = refl;
-        long = l;
-        done = λ i h. absurd (omega arith);
-        few = omega arith;
-        few-variables = let v = f.few-variables in omega arith;
-        short = omega arith;
-        whole = omega arith;
-      }
+      rw (accepted.variables, accepted.count)
+      (record { few-variables = f.few-variables; few-records = f.few-records; short = omega arith; whole = omega arith })
 
-  module _ {records : List Decoded} {at i : ℕ} (v : Decoding s n m records at i) (h : i < m) {f : Fields} (q : f ≡ fields_of (record_at s at)) where
-    pub decoding_next : {x : Decoded} → x ≡ decoded_of n (record { op = f.op; first = f.first; second = f.second })
-        → Decoding s n m (set records i x) (at + 18) (i + 1)
-    decoding_next {x} ex =
-        record {
-          low = omega arith;
-          place = omega arith;
-          long = length-set records i x ∙ v.long;
-          done = λ j l. elim (ℕ_discrete j i) [
-            | yes p ↦ rw (p, get_or-set_same records i x no_decoded (omega arith))
-                (ex ∙ rw (accepted.variables, q, v.place, records_at s i (omega arith)) refl)
-            | no p ↦ rw (get_or-set_other records i j x no_decoded p) (v.done j (omega arith))
-          ];
-          few = v.few;
-          few-variables = v.few-variables;
-          short = v.short;
-          whole = v.whole;
-        }
+  -- one more record
+  pub decode-next : (records : List Decoded) (i : ℕ) → length records ≡ 128 → DecodesTo s i records → i < m → {f : Fields}
+      → f ≡ fields_of (record_at s (16 + 18 * i)) → {x : Decoded} → x ≡ decoded_of n (record { op = f.op; first = f.first; second = f.second })
+      → DecodesTo s (i + 1) (set records i x)
+  decode-next records i long done h {f} q {x} ex =
+      λ j l. elim (ℕ_discrete j i) [
+        | yes p ↦ rw (p, get_or-set_same records i x no_decoded (let z = decode-sizes in omega arith))
+            (ex ∙ rw (accepted.variables, q, records_at s i (let k = accepted.count in omega arith)) refl)
+        | no p ↦ rw (get_or-set_other records i j x no_decoded p) (done j (omega arith))
+      ]
 
-pub decoding_last : {s : List ℕ} {n m : ℕ} {records : List Decoded} {at i : ℕ} → Decoding s n m records at i → m ≤ i → DecodesTo s m records
-decoding_last v h j l = v.done j (omega arith)
+-- a record's fields fit in a byte
+pub fields_byte : (s : List ℕ) (at : ℕ) (f : Fields) → f ≡ fields_of (record_at s at) → (f.first < 128) × (f.second < 128)
+fields_byte s at f q = let w = widths_at s at in rw q (w.1, w.2)

@@ -1,5 +1,5 @@
 -- From a rule's machine to decide's and judge's answers. Assumes nothing.
-use Rattle.words.proofs.Vocabulary.{ℕ, ◌-◌, ◌≡◌, refl, sym, ap, ◌∙◌, Bool, List}
+use Rattle.words.proofs.Vocabulary.{ℕ, ◌-◌, ◌≡◌, refl, ap, ◌∙◌, Bool, List}
 use Rattle.logic.proofs.Answers.{trimmed_iff}
 use Rattle.logic.proofs.Builders.{decide-any, judge_any}
 use Rattle.logic.specs.Decide.{say}
@@ -30,7 +30,7 @@ module _ {rule : List ℕ} {c room : ℕ} (w : Workable rule c room) {k : Summar
       let h = d.last.readable in
       let e = (rw (es, en, em) at finds) h.machine h.stored in
       record {
-        ended = record { answer = refl; counted = λ t g. e.counted t (sym e.answer ∙ g); back = e.back; low = e.low; high = e.high };
+        ended = record { answer = refl; shown = e.shown };
         decided = rw (h.stored.count, e.answer)
             (decide-any 2 (variables_of rule) (records_of rule) (rule-accepted rule w.sound).records-accepted c P d.roomy _ d.last.decides _
             d.last.full);

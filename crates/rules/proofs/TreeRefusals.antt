@@ -1,43 +1,33 @@
 -- A tree strip beside a rule: its refusals, and what holds where there is none. Assumes nothing.
-use Rattle.words.proofs.Vocabulary.{ℕ, ◌≡◌, refl, sym, subst, ◌∙◌, Bool, true, false, cond, List, arith, eq-eqb, ne_eqb, eqb-true, eqb}
+use Rattle.words.proofs.Vocabulary.{ℕ, ◌≡◌, refl, subst, List, arith}
+use Rattle.std.specs.Prelude.{Ok}
+use Rattle.std.proofs.lemmas.Grind.{common_steps}
 use Rattle.bits.specs.Bits.{field}
-use Rattle.bits.specs.declared.Fault.TheVariants.{Sound}
 use Rattle.layout.specs.Shape.{shape_of}
 use Rattle.reading.specs.Reading.{HasTree}
-use Rattle.refusals.specs.declared.Refusal.TheVariants.{Nothing, Placed, Plain}
-use Rattle.refusals.proofs.Refusals.{checked-free, tested-free}
+use Rattle.refusals.specs.Fault.{sound}
+use Rattle.refusals.proofs.Refusals.{free, checked-free, tested-free}
 use Rattle.tree_strip.specs.TreeStrip.{Parsed, parsed, refused, read_tree, tree_fault}
 use Rattle.tree_strip.specs.TreeAnswers.{answered, checked_tree}
-use Rattle.tree_strip.specs.declared.check.TreeCheck.TheVariants.{Accepted, Refused}
-use Rattle.tree_strip.proofs.TreeLaws.{TreeFacts, tree-accepted, checked_refused, sound-read, facts_length, tree_bytes-most}
+use Rattle.tree_strip.specs.declared.check.TreeSize.{TreeSize}
+use Rattle.tree_strip.proofs.TreeLaws.{TreeFacts, tree-accepted, sound-read, facts_length, tree_bytes-most}
 use Rattle.tree_strip.proofs.TreeWalk.{facts_stand}
 use Rattle.rules.specs.Trees.{other_variables, tree_refusal, AcceptedTree}
 
--- a tree strip that is turned down
-pub tree_placed : (s : List ℕ) (n : ℕ) {k p : ℕ} → checked_tree s ≡ Refused k p → Placed k p ≡ tree_refusal s n
-unfolding tree_refusal
-tree_placed s n {k} {p} e = rw (checked_refused s k p e)
+-- a tree strip that is accepted, over so many variables
+pub tree_sound : (s : List ℕ) (size : TreeSize) → checked_tree s ≡ Ok size → (tree_fault s ≡ sound) × (field s 4 4 ≡ size.variables)
+unfolding tree_fault
+tree_sound s size e = go (read_tree s) refl e
+  where
+    go : (p : Parsed) → read_tree s ≡ p → answered s p ≡ Ok size → (tree_fault s ≡ sound) × (field s 4 4 ≡ size.variables)
+    go (refused f) q h = absurd cc
+    go (parsed t met rest) q h = (rw q refl, cc)
 
--- one that is accepted, over so many variables
-module _ (s : List ℕ) (n : ℕ) {i N : ℕ} (e : checked_tree s ≡ Accepted i N) where
-  sound : (tree_fault s ≡ Sound) × (field s 4 4 ≡ i)
-  unfolding tree_fault
-  sound = go (read_tree s) refl e
-    where
-      go : (p : Parsed) → read_tree s ≡ p → answered s p ≡ Accepted i N → (tree_fault s ≡ Sound) × (field s 4 4 ≡ i)
-      go (refused k p) q f = absurd (let z : ◌≡◌ {A = ℕ} 0 1 = cc in omega arith)
-      go (parsed t met rest) q f = (rw q refl, cc)
-
-  pub tree-other : (i ≡ n → ⊥) → Plain 22 ≡ tree_refusal s n
-  unfolding tree_refusal
-  tree-other h = let w = sound in rw (w.0, ne_eqb (field s 4 4) n (λ q. h (sym w.1 ∙ q)))
-
-  pub tree-same : i ≡ n → Nothing ≡ tree_refusal s n
-  unfolding tree_refusal
-  tree-same h = let w = sound in rw (w.0, eq-eqb (field s 4 4) n (w.1 ∙ h))
+same_variables : (s : List ℕ) (n : ℕ) → other_variables s n ≡ Ok tt → field s 4 4 ≡ n
+same_variables s n e = grind (arith, common_steps)
 
 -- what no refusal says
-pub tree_free : (s : List ℕ) (n : ℕ) → tree_refusal s n ≡ Nothing → AcceptedTree s n
+pub tree_free : (s : List ℕ) (n : ℕ) → tree_refusal s n ≡ free → AcceptedTree s n
 unfolding tree_refusal
 tree_free s n e =
     let d = checked-free (tree_fault s) _ e in
@@ -47,12 +37,8 @@ tree_free s n e =
       met = r.1;
       rest = r.2;
       read = r.3;
-      variables = go (eqb (field s 4 4) n) refl (tested-free (other_variables s n) _ d.1).0;
+      variables = same_variables s n (tested-free (other_variables s n) _ d.1).0;
     }
-  where
-    go : (v : Bool) → eqb (field s 4 4) n ≡ v → ◌≡◌ {A = ℕ} (cond v 0 22) 0 → field s 4 4 ≡ n
-    go true q f = eqb-true (field s 4 4) n q
-    go false q f = absurd (omega arith)
 
 -- its tree, in its place
 module _ {s : List ℕ} {n : ℕ} (w : AcceptedTree s n) where

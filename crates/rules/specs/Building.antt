@@ -1,5 +1,5 @@
 -- A rule strip's machines, built: refusal 14, or the last record's machine, which decides the rule; and what is read off it. Assumes nothing.
-use Rattle.std.specs.Prelude.{ℕ, ◌-◌, ◌≡◌, Bool, List}
+use Rattle.std.specs.Prelude.{ℕ, ◌-◌, ◌≡◌, Bool, Result, Ok, Err, List}
 use Rattle.logic.specs.Meaning.{Formula}
 use Rattle.logic.specs.Rule.{formula_at, last_of}
 use Rattle.logic.specs.ReachedRecords.{ReachedRecord}
@@ -12,16 +12,13 @@ use Rattle.layout.specs.declared.Shape.{Shape}
 use Rattle.records.specs.Rule.{mach_of}
 use Rattle.records.specs.declared.Summary.{Summary}
 use Rattle.building.specs.Build.{entry_of}
-use Rattle.building.specs.declared.Ending.{Ending}
-use Rattle.building.specs.declared.Ending.TheVariants.{Over as TooMany, Ready as AllBuilt}
 use Rattle.building.specs.declared.Machines.{Machines}
 use Rattle.reading.specs.Reading.{HasMachine}
+use Rattle.refusals.specs.declared.OverCeiling.{OverCeiling}
 use Rattle.search.specs.Rounds.{answer_of, Ended}
 use Rattle.search.specs.declared.Found.{Found}
 use Rattle.tree_strip.specs.TreeStrip.{parsed, read_tree}
 use Rattle.rule_strip.specs.RuleStrip.{variables_of, count_of, records_of}
-use Rattle.rules.specs.declared.build.Built.{Built}
-use Rattle.rules.specs.declared.build.Built.TheVariants.{Over, Ready}
 
 -- the tables of the strip's machines have this shape
 abbrev pub rule_shape : List ℕ → ℕ → Shape
@@ -38,23 +35,20 @@ pub record MachineFor (rule : List ℕ) (c : ℕ) (ws : List ℕ) (r : ℕ) (k :
 abbrev pub ReachedBuilt : List ℕ → ℕ → (ℕ → Summary) → List ℕ → Type 0
 ReachedBuilt rule c es ws = (r : ℕ) → ReachedRecord (records_of rule) r → MachineFor rule c ws r (es r) (formula_at (records_of rule) r)
 
--- how building the records ended
-abbrev pub EndedAs : List ℕ → ℕ → (ℕ → Summary) → Ending → List ℕ → Type 0
-EndedAs rule c es (TooMany r) ws = FirstOver 2 (variables_of rule) (records_of rule) c r
-EndedAs rule c es AllBuilt ws = Roomy 2 (variables_of rule) (records_of rule) c × ReachedBuilt rule c es ws
-
-abbrev pub BuiltRecords : List ℕ → ℕ → Machines → List ℕ → Type 0
-BuiltRecords rule c t ws = EndedAs rule c (entry_of t) t.ending ws
+-- what building the records came to
+abbrev pub BuiltRecords : List ℕ → ℕ → Result Machines OverCeiling → List ℕ → Type 0
+BuiltRecords rule c (Ok t) ws = Roomy 2 (variables_of rule) (records_of rule) c × ReachedBuilt rule c (entry_of t) ws
+BuiltRecords rule c (Err o) ws = FirstOver 2 (variables_of rule) (records_of rule) c o.at
 
 -- no record that is reached has more than c states, and k is kept of the last one's machine
 pub record Decider (rule : List ℕ) (c : ℕ) (k : Summary) (ws : List ℕ) : Type 0 where
   pub roomy : Roomy 2 (variables_of rule) (records_of rule) c
   pub last : MachineFor rule c ws (count_of rule - 1) k (formula_at (records_of rule) (last_of (records_of rule)))
 
--- how building ended
-abbrev pub BuiltRule : List ℕ → ℕ → Built → List ℕ → Type 0
-BuiltRule rule c (Over r) ws = FirstOver 2 (variables_of rule) (records_of rule) c r
-BuiltRule rule c (Ready k) ws = Decider rule c k ws
+-- what building the rule came to
+abbrev pub BuiltRule : List ℕ → ℕ → Result Summary OverCeiling → List ℕ → Type 0
+BuiltRule rule c (Ok k) ws = Decider rule c k ws
+BuiltRule rule c (Err o) ws = FirstOver 2 (variables_of rule) (records_of rule) c o.at
 
 -- what a search over that machine found: decide's answer, and ranks that a writer can follow down
 pub record FoundFor (rule : List ℕ) (c P : ℕ) (k : Summary) (f : Found) : Type 0 where

@@ -9,6 +9,7 @@ use records::Summary;
 use search::Found;
 
 // The earliest tree that satisfies the rule, if it has at most p positions.
+#[tactic(auto, using(crate::proofs::Rules::rule_long))]
 pub fn earliest(rule: &[u8], c: usize, ws: &[u8], k: Summary, p: u64) -> Found
     requires workable { Workable rule.now c (length ws.now) }
     requires decider { Decider rule.now c k ws.now }
@@ -21,6 +22,7 @@ pub fn earliest(rule: &[u8], c: usize, ws: &[u8], k: Summary, p: u64) -> Found
 }
 
 // Do the sets of the tree in a strip satisfy the rule?
+#[tactic(auto, using(crate::proofs::Rules::rule_long))]
 pub fn satisfied(rule: &[u8], c: usize, ws: &[u8], k: Summary, tree: &[u8]) -> bool
     requires workable { Workable rule.now c (length ws.now) }
     requires decider { Decider rule.now c k ws.now }

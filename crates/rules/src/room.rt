@@ -1,12 +1,12 @@
-// The room that machines and strips take, and the refusals for want of it: a function each, which answers 0 where its refusal does not apply.
-ghost use Rattle.std.specs.Prelude.{◌≡◌, ◌≤◌, ◌<◌};
+// The room that machines and strips take, and the refusals for want of it.
+ghost use Rattle.std.specs.Prelude.{Ok, ◌≡◌, ◌≤◌, ◌<◌};
 ghost use Rattle.tree_strip.specs.TreeStrip.{tree_bytes};
-ghost use Rattle.refusals.specs.declared.Refusal.TheVariants.{Nothing};
 ghost use Rattle.rules.specs.Room.{room_for, ceiling_refusal, places_refusal, workspace_refusal, out_refusal, work_refusal};
 
-use refusals::Refusal;
+use refusals::{Reason, Refusal};
 
 // The bytes of workspace that m records of n variables and c states take.
+#[tactic(auto, using(crate::proofs::Rooms::shaped, crate::proofs::Rooms::room_shares))]
 pub fn needed(n: usize, m: usize, c: usize) -> usize
     requires { (1 ≤ n) × (n ≤ 8) × (m < 256) × (1 ≤ c) × (c ≤ 64) }
     ensures { result ≡ room_for n m c }
@@ -15,6 +15,7 @@ pub fn needed(n: usize, m: usize, c: usize) -> usize
 }
 
 // The bytes of the strip of a tree of p positions over n variables.
+#[tactic(auto, using(crate::proofs::Rooms::strip_few))]
 pub fn strip_bytes(n: usize, p: usize) -> usize
     requires { (n ≤ 8) × (p ≤ 255) }
     ensures { result ≡ tree_bytes n p }
@@ -23,62 +24,58 @@ pub fn strip_bytes(n: usize, p: usize) -> usize
 }
 
 // 11, for the state ceiling.
-pub fn ceiling_refusal(c: u64) -> u64
+#[tactic(auto, unfolding(crate::specs::Room::ceiling_refusal))]
+pub fn ceiling_refusal(c: u64) -> Result<(), Reason>
     ensures { result ≡ ceiling_refusal c }
 {
-    if c < 1 {
-        return 11;
+    if (1..=64).contains(&c) {
+        return Ok(());
     }
-    if 64 < c {
-        return 11;
-    }
-    0
+    Err(Reason::Ceiling)
 }
 
 // 11, for the place ceiling.
-pub fn places_refusal(p: u64) -> u64
+#[tactic(auto, unfolding(crate::specs::Room::places_refusal))]
+pub fn places_refusal(p: u64) -> Result<(), Reason>
     ensures { result ≡ places_refusal p }
 {
     if 255 < p {
-        return 11;
+        return Err(Reason::Ceiling);
     }
-    0
+    Ok(())
 }
 
 // 12, for the machines of m records: those of the strip, or more where an operation builds more.
-pub fn workspace_refusal(n: usize, m: usize, c: usize, room: usize) -> u64
+#[tactic(auto, unfolding(crate::specs::Room::workspace_refusal))]
+pub fn workspace_refusal(n: usize, m: usize, c: usize, room: usize) -> Result<(), Reason>
     requires { (1 ≤ n) × (n ≤ 8) × (m < 256) × (1 ≤ c) × (c ≤ 64) }
     ensures { result ≡ workspace_refusal n m c room }
 {
     if room < needed(n, m, c) {
-        return 12;
+        return Err(Reason::Workspace);
     }
-    0
+    Ok(())
 }
 
 // 11 for the state ceiling, and then 12: what every operation tests that builds machines.
-pub fn work_refusal(n: usize, m: usize, c: u64, room: usize) -> Refusal
+#[tactic(auto, unfolding(crate::specs::Room::work_refusal), using(crate::proofs::Rooms::ceiling_free))]
+pub fn work_refusal(n: usize, m: usize, c: u64, room: usize) -> Result<(), Refusal>
     requires { (1 ≤ n) × (n ≤ 8) × (m < 256) }
-    ensures { result ≡ work_refusal n m c room Nothing }
+    ensures { result ≡ work_refusal n m c room (Ok tt) }
 {
-    let states = ceiling_refusal(c);
-    if states != 0 {
-        return Refusal::Plain(states);
-    }
-    let short = workspace_refusal(n, m, c as usize, room);
-    if short != 0 {
-        return Refusal::Plain(short);
-    }
-    Refusal::Nothing
+    ceiling_refusal(c)?;
+    workspace_refusal(n, m, c as usize, room)?;
+    Ok(())
 }
 
 // 13, for a tree of p positions.
-pub fn out_refusal(n: usize, p: usize, room: usize) -> u64
+#[tactic(auto, unfolding(crate::specs::Room::out_refusal))]
+pub fn out_refusal(n: usize, p: usize, room: usize) -> Result<(), Reason>
     requires { (n ≤ 8) × (p ≤ 255) }
     ensures { result ≡ out_refusal n p room }
 {
     if room < strip_bytes(n, p) {
-        return 13;
+        return Err(Reason::Out);
     }
-    0
+    Ok(())
 }

@@ -12,7 +12,8 @@ pub struct Ran {
     pub next: usize,
 }
 
-// The state of the tree at a bit place.
+// The state of the tree at a bit place. What belongs to the table is not one struct: `Runnable` and `Came` name its parts one by one, as
+// `Whole` does, and a struct would be built for each call from outside and taken apart for `step_in`.
 pub fn run(strip: &[u8], at: usize, s: Shape, looks: usize, table: &[u8], count: usize) -> Ran
     requires { Runnable strip.now at s looks table.now count }
     ensures { Came strip.now at s looks table.now count result }

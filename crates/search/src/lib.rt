@@ -1,243 +1,204 @@
 // The earliest accepted tree over a machine's table.
 #![tactic(auto)]
 
-ghost use Rattle.std.specs.Prelude.{◌≡◌, [], ◌∷◌, ℕ, ◌-◌, ◌<◌, ◌≤◌};
+ghost use Rattle.std.specs.Prelude.{◌≡◌, [], ◌∷◌, get_or, ℕ, ◌-◌, ◌<◌, ◌≤◌};
 ghost use Rattle.layout.specs.Shape.{labels_in};
 ghost use Rattle.words.specs.Word.{mem};
 ghost use Rattle.logic.specs.Tree.{empty};
 ghost use Rattle.logic.specs.Search.{nothing, any_below, rounds, search};
+ghost use Rattle.table.specs.Entry.{step_in};
 ghost use Rattle.table.specs.Whole.{machine_in, table_in, Whole};
-ghost use Rattle.search.specs.Scan.{kept, ScanReady, Turn, Held, code_view, best_in, scan_second, scan_first, scan_label};
-ghost use Rattle.search.specs.Rounds.{Ended, found_as};
+ghost use Rattle.search.specs.Scan.{kept, Stepped, ReadyIn, Turn, Held, view_in, best_in, scan_second, scan_first, scan_label};
+ghost use Rattle.search.specs.Rounds.{first_settled, settled_too, Ended};
 
 use layout::Shape;
-use table::entries::{step_in, wide};
+use table::entries::step_in;
+use tree_strip::write::{Rank, Ranks};
 
-// The best candidate so far: its positions, or 0 for none; its label and the ranks of its branches.
+// A machine's table: its shape, the bits of the labels that the machine looks at, and its entries.
+#[derive(Clone, Copy)]
+struct Table<'t> {
+    shape: Shape,
+    looks: usize,
+    entries: &'t [u8],
+}
+
+// A candidate: its positions, its label and the ranks of its branches.
 #[derive(Clone, Copy)]
 struct Pick {
     size: u64,
-    label: usize,
-    first: usize,
-    second: usize,
+    rank: Rank,
 }
 
-// A candidate of w positions, for a state that is settled already unless `old` is 0.
-fn consider(best: Pick, old: u8, w: u64, l: usize, i: usize, j: usize) -> Pick
-    ensures { result ≡ kept best old w l i j }
+// The better of the best so far and a new candidate, of equals the first one met; one for a state that is settled already is none.
+fn consider(best: Option<Pick>, old: bool, new: Pick) -> Option<Pick>
+    ensures { result ≡ kept best old new }
 {
-    if old != 0 {
+    if old {
         return best;
     }
-    let size = best.size;
-    if size == 0 {
-        return Pick {
-            size: w,
-            label: l,
-            first: i,
-            second: j,
-        };
+    match best {
+        Some(pick) => {
+            if new.size < pick.size {
+                Some(new)
+            } else {
+                best
+            }
+        }
+        None => Some(new),
     }
-    if w < size {
-        return Pick {
-            size: w,
-            label: l,
-            first: i,
-            second: j,
+}
+
+// The trees that are settled: their ranks, and of each the state that it comes to and its positions; and whether a state is that of one.
+#[derive(Clone, Copy)]
+struct Settled {
+    ranks: Ranks,
+    state: [u8; 64],
+    size: [u64; 64],
+    done: [bool; 64],
+}
+
+impl Settled {
+    // The empty tree alone.
+    fn first() -> Settled
+        ensures { result ≡ first_settled }
+    {
+        let none = Rank {
+            label: 0,
+            first: 0,
+            second: 0,
         };
+        let mut done = [false; 64];
+        done[0] = true;
+        Settled {
+            ranks: Ranks {
+                nodes: [none; 64],
+                count: 1,
+            },
+            state: [0; 64],
+            size: [0; 64],
+            done,
+        }
     }
-    best
+
+    // The state that the tree of a label and of two ranks comes to.
+    fn step(&self, table: &Table, rank: Rank) -> usize
+        requires { Stepped table.now.shape table.now.entries.now self.now.state rank }
+        ensures { result ≡ step_in table.now.shape table.now.entries.now 0 table.now.looks rank.label
+            (get_or self.now.state rank.first 0 ∷ get_or self.now.state rank.second 0 ∷ []) }
+    {
+        let i = usize::from(self.state[rank.first]);
+        let j = usize::from(self.state[rank.second]);
+        step_in(table.entries, table.shape, 0, table.looks, rank.label, i, j)
+    }
+
+    // One tree more, which comes to state q.
+    fn add(&mut self, pick: Pick, q: usize)
+        requires { (self.old.ranks.count < 64) × (q < 64) }
+        ensures { self.new ≡ settled_too self.old pick q }
+    {
+        let n = self.ranks.count;
+        self.ranks.nodes[n] = pick.rank;
+        self.ranks.count = n + 1;
+        self.state[n] = q as u8;
+        self.size[n] = pick.size;
+        self.done[q] = true;
+    }
 }
 
 // The inner loop: the label l, the first branch of rank i, second branches of all ranks.
-fn row(
-    s: Shape,
-    looks: usize,
-    table: &[u8],
-    done: &[u8; 64],
-    state: &[u8; 64],
-    size: &[u64; 64],
-    n: usize,
-    l: usize,
-    i: usize,
-    best: Pick,
-) -> Pick
-    requires scan_ready { ScanReady s looks table.now state.now size.now n }
-    requires turn { Turn s n l i }
-    requires held { Held (code_view s looks table.now done.now state.now size.now) (best_in best) best }
-    ensures { Held (code_view s looks table.now done.now state.now size.now)
-        (scan_second (code_view s looks table.now done.now state.now size.now) l i n (best_in best)) result }
+fn row(table: &Table, settled: &Settled, l: usize, i: usize, best: Option<Pick>) -> Option<Pick>
+    requires scan_ready { ReadyIn table.now settled.now }
+    requires turn { Turn table.now.shape settled.now.ranks.count l i }
+    requires held { Held (view_in table.now settled.now) (best_in best) best }
+    ensures { Held (view_in table.now settled.now)
+        (scan_second (view_in table.now settled.now) l i settled.now.ranks.count (best_in best)) result }
 {
     let mut b = best;
-    let mut j: usize = 0;
-    while j < n {
-        let q = step_in(
-            table,
-            s,
-            0,
-            looks,
-            l,
-            wide(state[i]) as usize,
-            wide(state[j]) as usize,
-        );
-        b = consider(b, done[q], size[i] + size[j] + 1, l, i, j);
-        j += 1;
+    for j in 0..settled.ranks.count {
+        let rank = Rank {
+            label: l,
+            first: i,
+            second: j,
+        };
+        let q = settled.step(table, rank);
+        let size = settled.size[i] + settled.size[j] + 1;
+        b = consider(b, settled.done[q], Pick { size, rank });
     }
     b
 }
 
 // The middle loop: the label l, first branches of all ranks.
-fn rows(
-    s: Shape,
-    looks: usize,
-    table: &[u8],
-    done: &[u8; 64],
-    state: &[u8; 64],
-    size: &[u64; 64],
-    n: usize,
-    l: usize,
-    best: Pick,
-) -> Pick
-    requires scan_ready { ScanReady s looks table.now state.now size.now n }
-    requires l_bound { l < labels_in s }
-    requires held { Held (code_view s looks table.now done.now state.now size.now) (best_in best) best }
-    ensures { Held (code_view s looks table.now done.now state.now size.now)
-        (scan_first (code_view s looks table.now done.now state.now size.now) n l n (best_in best)) result }
+fn rows(table: &Table, settled: &Settled, l: usize, best: Option<Pick>) -> Option<Pick>
+    requires scan_ready { ReadyIn table.now settled.now }
+    requires l_bound { l < labels_in table.now.shape }
+    requires held { Held (view_in table.now settled.now) (best_in best) best }
+    ensures { Held (view_in table.now settled.now)
+        (scan_first (view_in table.now settled.now) settled.now.ranks.count l settled.now.ranks.count
+        (best_in best)) result }
 {
     let mut b = best;
-    let mut i: usize = 0;
-    while i < n {
-        b = row(s, looks, table, done, state, size, n, l, i, b);
-        i += 1;
+    for i in 0..settled.ranks.count {
+        b = row(table, settled, l, i, b);
     }
     b
 }
 
 // The outer loop: the labels with no bit but those that the record looks at. Any other has the steps of an earlier one.
-fn scan(
-    s: Shape,
-    looks: usize,
-    table: &[u8],
-    done: &[u8; 64],
-    state: &[u8; 64],
-    size: &[u64; 64],
-    n: usize,
-) -> Pick
-    requires { ScanReady s looks table.now state.now size.now n }
-    ensures { Held (code_view s looks table.now done.now state.now size.now)
-        (scan_label (code_view s looks table.now done.now state.now size.now) n (labels_in s) nothing) result }
+fn scan(table: &Table, settled: &Settled) -> Option<Pick>
+    requires { ReadyIn table.now settled.now }
+    ensures { Held (view_in table.now settled.now)
+        (scan_label (view_in table.now settled.now) settled.now.ranks.count (labels_in table.now.shape) nothing) result }
 {
-    let labels = layout::labels(s);
-    let mut b = Pick {
-        size: 0,
-        label: 0,
-        first: 0,
-        second: 0,
-    };
-    let mut l: usize = 0;
-    while l < labels {
-        if l <= l & looks {
-            b = rows(s, looks, table, done, state, size, n, l, b);
+    let mut b = None;
+    for l in 0..layout::labels(table.shape) {
+        if l <= l & table.looks {
+            b = rows(table, settled, l, b);
         }
-        l += 1;
     }
     b
 }
 
-fn narrow(x: usize) -> u8
-    requires { x < 64 }
-    ensures { result ≡ x }
-{
-    x as u8
+// The earliest accepted tree: its positions, and the ranks of which it is the last.
+#[derive(Clone, Copy)]
+pub struct Earliest {
+    pub positions: u64,
+    pub ranks: Ranks,
 }
 
 // What the rounds found: no accepted tree, none within the place ceiling, or one that is shown.
 #[derive(Clone, Copy)]
-pub enum Finding {
+pub enum Found {
     None,
     Larger,
-    Shown,
+    Shown(Earliest),
 }
 
-// How the rounds ended: the tree that is shown is that of rank n - 1 and has so many positions; each rank's label and branches.
-#[derive(Clone, Copy)]
-pub struct Found {
-    pub finding: Finding,
-    pub n: usize,
-    pub positions: u64,
-    pub label: [usize; 64],
-    pub first: [usize; 64],
-    pub second: [usize; 64],
-}
-
-// An end of the rounds.
-fn ended(
-    finding: Finding,
-    n: usize,
-    positions: u64,
-    label: [usize; 64],
-    first: [usize; 64],
-    second: [usize; 64],
-) -> Found
-    ensures { result ≡ found_as finding n positions label first second }
-{
-    Found {
-        finding,
-        n,
-        positions,
-        label,
-        first,
-        second,
-    }
-}
-
-// The rounds, from the empty tree on.
-fn settle(s: Shape, looks: usize, table: &[u8], count: usize, accept: u64, p: u64) -> Found
-    requires whole { Whole s looks table.now count }
+// The rounds, from the empty tree on: each settles one state more.
+fn settle(table: &Table, count: usize, accept: u64, p: u64) -> Found
+    requires whole { Whole table.now.shape table.now.looks table.now.entries.now count }
     requires p_bound { p ≤ 255 }
-    ensures { Ended (rounds (labels_in s) (machine_in s looks table.now accept) p (count - 1) (empty ∷ [])) result }
+    ensures { let m = machine_in table.now.shape table.now.looks table.now.entries.now accept in
+        Ended (rounds (labels_in table.now.shape) m p (count - 1) (empty ∷ [])) result }
 {
-    let mut done = [0u8; 64];
-    let mut state = [0u8; 64];
-    let mut size = [0u64; 64];
-    let mut label = [0usize; 64];
-    let mut first = [0usize; 64];
-    let mut second = [0usize; 64];
-    done[0] = 1;
-    let mut n: usize = 1;
-    while n < count {
-        let b = scan(s, looks, table, &done, &state, &size, n);
-        let w = b.size;
-        if w == 0 {
-            return ended(Finding::None, n, 0, label, first, second);
+    let mut settled = Settled::first();
+    for _n in 1..count {
+        let Some(pick) = scan(table, &settled) else {
+            return Found::None;
+        };
+        if p < pick.size {
+            return Found::Larger;
         }
-        if p < w {
-            return ended(Finding::Larger, n, 0, label, first, second);
-        }
-        let l = b.label;
-        let i = b.first;
-        let j = b.second;
-        let q = step_in(
-            table,
-            s,
-            0,
-            looks,
-            l,
-            wide(state[i]) as usize,
-            wide(state[j]) as usize,
-        );
-        label[n] = l;
-        first[n] = i;
-        second[n] = j;
-        state[n] = narrow(q);
-        size[n] = w;
-        done[q] = 1;
-        n += 1;
+        let q = settled.step(table, pick.rank);
+        settled.add(pick, q);
         if words::has(accept, q) {
-            return ended(Finding::Shown, n, w, label, first, second);
+            return Found::Shown(Earliest {
+                positions: pick.size,
+                ranks: settled.ranks,
+            });
         }
     }
-    ended(Finding::None, n, 0, label, first, second)
+    Found::None
 }
 
 // Does a state below count accept?
@@ -245,29 +206,28 @@ pub fn satisfiable(accept: u64, count: usize) -> bool
     requires { count ≤ 64 }
     ensures { result ≡ any_below (λ (q : ℕ). mem q accept) count }
 {
-    let mut r = false;
-    let mut q: usize = 0;
-    while q < count {
-        if words::has(accept, q) {
-            r = true;
-        }
-        q += 1;
-    }
-    r
+    (0..count).any(|q| words::has(accept, q))
 }
 
-// The whole search: the contract is an equation with the definition.
+// The earliest accepted tree of a table of `count` states, if it has at most p positions.
 pub fn find(s: Shape, looks: usize, table: &[u8], count: usize, accept: u64, p: u64) -> Found
     requires whole { Whole s looks table.now count }
     requires p_bound { p ≤ 255 }
     ensures { Ended (search (labels_in s) (table_in s looks table.now accept count) p) result }
 {
-    let zero = [0usize; 64];
-    if satisfiable(accept, count) {
-        if words::has(accept, 0) {
-            return ended(Finding::Shown, 1, 0, zero, zero, zero);
-        }
-        return settle(s, looks, table, count, accept, p);
+    if !satisfiable(accept, count) {
+        return Found::None;
     }
-    ended(Finding::None, 1, 0, zero, zero, zero)
+    if words::has(accept, 0) {
+        return Found::Shown(Earliest {
+            positions: 0,
+            ranks: Settled::first().ranks,
+        });
+    }
+    let table = Table {
+        shape: s,
+        looks,
+        entries: table,
+    };
+    settle(&table, count, accept, p)
 }

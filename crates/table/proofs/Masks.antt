@@ -6,8 +6,8 @@ use Rattle.table.specs.Entry.{seen, Step, through, off, on, Power}
 use Rattle.table.specs.Succ.{first_part, second_part, pair_code, hit, choice, exists_code, atom_index, rule_at, subset_rule, single_rule, child1_rule, child2_rule}
 use Rattle.table.specs.Succ.{root_rule, kind_code, looks_of}
 use Rattle.words.specs.Word.{mem, digit, word_where}
-use Rattle.table.specs.declared.plan.Kind.{Kind}
-use Rattle.table.specs.declared.plan.Kind.TheVariants.{Subset, Single, Child1, Child2, Root, Not, Or, And, Exists}
+use Rattle.ops.specs.declared.Op.{Op}
+use Rattle.ops.specs.declared.Op.TheVariants.{Subset, Single, Child1, Child2, Root, Not, Or, And, Exists}
 use Rattle.words.proofs.WordLaws.{mem_or, mem_and, mem-one, mem_shr, digit-mem, word_ext}
 
 -- ---- numbers with the same members are the same
@@ -162,7 +162,7 @@ module _ (e d : Step) (wx wy f g : ℕ) (px : Power wx) (py : Power wy) (l : ℕ
   abbrev union : ℕ → ℕ → ℕ
   union a b = word_where (λ (q : ℕ). choice (λ (is : List ℕ). eqb (e a is % 64) q || eqb (e b is % 64) q) xs) 64
 
-  pub kind-blind : (k : Kind)
+  pub kind-blind : (k : Op)
       → kind_code k (through f e) (through g d) wx wy (seen (looks_of k wx wy f g) l) xs ≡ kind_code k (through f e) (through g d) wx wy l xs
   unfolding kind_code through pair_code exists_code hit
   kind-blind Subset = ap (rule_at subset_rule) (atom-seen wx wy l _ _ px py)

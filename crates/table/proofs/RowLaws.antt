@@ -1,49 +1,56 @@
 -- The rows of "exists": their filling, and the successors that their unions are. Assumes nothing.
-use Rattle.words.proofs.Vocabulary.{ℕ, ◌≤◌, ◌<◌, ◌+◌, ◌-◌, Bool, true, false, ◌||◌, ◌&&◌, ◌≡◌, ◌∙◌, sym, ap, List, [], ◌∷◌, below_more, ne_eqb, bit_and, ones}
+use Rattle.words.proofs.Vocabulary.{ℕ, ◌≤◌, ◌<◌, ◌+◌, Bool, true, false, ◌||◌, ◌&&◌, ◌≡◌, ◌∙◌, sym, ap, List, [], ◌∷◌, below_more, ne_eqb, bit_and, length}
 use Rattle.words.proofs.Vocabulary.{get_or, set, length-set, get_or-set_other, get_or-set_same, ℕ_discrete, arith}
-use Rattle.words.specs.Word.{Below, mem, any, Without}
-use Rattle.table.specs.Rows.{FullRows, hit_column, union_of, Follows, Serves, UnionsUpTo}
+use Rattle.words.specs.Word.{Below, mem, any, Smallest, Without}
+use Rattle.table.specs.Rows.{hit_column, union_of, Follows, Serves, UnionsUpTo}
 use Rattle.table.specs.Entry.{Step, through, off, on, seen}
 use Rattle.table.specs.Succ.{hit, hit_row, hit_set, choice, exists_code}
 use Rattle.words.proofs.Any.{and_cong, any_cong, any_in, any_swap, any-true}
-use Rattle.words.proofs.Members.{none_in}
-use Rattle.words.proofs.WordLaws.{word_cong}
+use Rattle.words.proofs.WordLaws.{mem-zero, word_cong}
 
--- both arrays stay long
+-- both arrays have a word for each state
+pub record FullRows (left right : List ℕ) : Type 0 where
+  pub left-long : length left ≡ 64
+  pub right-long : length right ≡ 64
+
+-- and they stay long
 full-set : {left right : List ℕ} (t x y : ℕ) → FullRows left right → FullRows (set left t x) (set right t y)
 full-set t x y h = record { left-long = simp length-set h.left-long; right-long = simp length-set h.right-long }
 
--- the rows are right at the states of `seen` that are not in `rest`, which has n members
-pub record Filling (f : Step) (l m s seen rest n : ℕ) (left right : List ℕ) : Type 0 where
-  pub size : n ≡ ones rest
+-- the rows are right at the states of `seen` that are not in `rest`
+pub record Filling (f : Step) (l m s seen rest : ℕ) (left right : List ℕ) : Type 0 where
   pub full : FullRows left right
   pub done : (t : ℕ) → mem t seen ≡ true → mem t rest ≡ false → Follows f l m s t left right
 
-pub filling_first : {f : Step} {l m s seen n : ℕ} {left right : List ℕ} → n ≡ ones seen → FullRows left right → Filling f l m s seen seen n left right
-filling_first e h = record { size = e; full = h; done = λ t a b. let z : ◌≡◌ {A = ℕ} 0 1 = cc in absurd (omega arith) }
+pub filling_first : {f : Step} {l m s seen rest : ℕ} {left right : List ℕ} → rest ≡ seen → FullRows left right → Filling f l m s seen rest left right
+filling_first e h =
+    record { full = h; done = λ t a b. let same = rw e at b in let z : ◌≡◌ {A = ℕ} 0 1 = cc in absurd (omega arith) }
 
-pub filling_next : {f : Step} {l m s seen rest n : ℕ} {left right : List ℕ} {t rest' : ℕ} (x y : ℕ) → t < 64
-    → Filling f l m s seen rest n left right → Without rest t rest'
+pub filling_next : {f : Step} {l m s seen rest : ℕ} {left right : List ℕ} {t rest' : ℕ} (x y : ℕ)
+    → Filling f l m s seen rest left right → Smallest rest t × Without rest t rest'
     → ((q : ℕ) → mem q x ≡ any (hit_column f l m s q t) 64) → ((q : ℕ) → mem q y ≡ any (hit_row f l m s q t) 64)
-    → Filling f l m s seen rest' (n - 1) (set left t x) (set right t y)
-filling_next {f} {l} {m} {s} {seen} {rest} {n} {left} {right} {t} {rest'} x y h w o ex ey =
-    record { size = omega arith; full = full-set t x y w.full; done = λ u a b. go u a b (ℕ_discrete u t) }
+    → Filling f l m s seen rest' (set left t x) (set right t y)
+filling_next {f} {l} {m} {s} {seen} {rest} {left} {right} {t} {rest'} x y w o ex ey =
+    record { full = full-set t x y w.full; done = λ u a b. go u a b (ℕ_discrete u t) }
   where
+    top : t < 64
+    top = o.0.top
+
     go : (u : ℕ) → mem u seen ≡ true → mem u rest' ≡ false → Dec (u ≡ t) → Follows f l m s u (set left t x) (set right t y)
     go u a b (yes e) = record {
-      after = λ q. rw (e, get_or-set_same left t x 0 (omega arith)) (ex q);
-      before = λ q. rw (e, get_or-set_same right t y 0 (omega arith)) (ey q);
+      after = λ q. rw (e, get_or-set_same left t x 0 (omega (arith, top))) (ex q);
+      before = λ q. rw (e, get_or-set_same right t y 0 (omega (arith, top))) (ey q);
     }
     go u a b (no n) =
-        let old = w.done u a (o.same u ∙ ap (λ (v : Bool). v || mem u rest') (ne_eqb t u (λ e. n (sym e))) ∙ b) in
+        let old = w.done u a (o.1.same u ∙ ap (λ (v : Bool). v || mem u rest') (ne_eqb t u (λ e. n (sym e))) ∙ b) in
         record {
           after = λ q. rw (get_or-set_other left t u x 0 n) (old.after q);
           before = λ q. rw (get_or-set_other right t u y 0 n) (old.before q);
         }
 
-pub filling_last : {f : Step} {l m s seen rest n : ℕ} {left right : List ℕ} → n ≤ 0 → Filling f l m s seen rest n left right → (t : ℕ) → mem t seen ≡ true
-    → Follows f l m s t left right
-filling_last {rest = rest} h w t a = w.done t a (none_in t rest (omega (arith, w.size)))
+pub filling_last : {f : Step} {l m s seen rest : ℕ} {left right : List ℕ} → rest ≡ 0 → Filling f l m s seen rest left right → (t : ℕ)
+    → mem t seen ≡ true → Follows f l m s t left right
+filling_last e w t a = w.done t a (rw (e, mem-zero t))
 
 -- the union of the rows at the members of a set that was seen is the successor
 module _ (f : Step) (w l s seen : ℕ) (left right : List ℕ) (rows : (t : ℕ) → mem t seen ≡ true → Follows f (off w l) (on w l) s t left right) (x : ℕ)
@@ -65,23 +72,19 @@ module _ (f : Step) (w l s seen : ℕ) (left right : List ℕ) (rows : (t : ℕ)
       ∙ any_swap 64 64 (λ (t : ℕ). mem t x) (λ (i : ℕ). mem i s) (λ t i. hit f (off w l) (on w l) q (i ∷ t ∷ []))
 
 -- the unions of the rows of set k, at the labels as a part sees them, are the successors of set k and each set up to it
-pub serves : {e : Step} (f w l : ℕ) (sets : List ℕ) (k seen : ℕ) {n : ℕ} {lefts rights left right : List ℕ} → n ≡ off w l
+pub serves : {e : Step} (f w l : ℕ) (sets : List ℕ) (k seen : ℕ) {n : ℕ} {lefts rights : List ℕ} (left right : List ℕ) → n ≡ off w l
     → ((q : ℕ) → mem q seen ≡ any (λ (i : ℕ). mem q (get_or sets i 0)) (k + 1))
     → ((t : ℕ) → mem t seen ≡ true → Follows e (bit_and n f) (bit_and (n + w) f) (get_or sets k 0) t lefts rights)
-    → FullRows left right × UnionsUpTo k lefts rights sets left right
-    → FullRows left right × Serves (exists_code (through f e) w) l sets k left right
+    → UnionsUpTo k lefts rights sets left right → Serves (exists_code (through f e) w) l sets k left right
 unfolding through hit on seen
-serves {e} f w l sets k seen {n} {lefts} {rights} is all rows u = (
-  u.0,
-  λ i h.
-      let to : (t : ℕ) → mem t seen ≡ true → Follows (through f e) (off w l) (on w l) (get_or sets k 0) t lefts rights =
-      λ t h. let r = rw is at (rows t h) in record { after = r.after; before = r.before } in
-      let within : (t : ℕ) → mem t (get_or sets i 0) ≡ true → mem t seen ≡ true =
-      λ t m. all t ∙ any_in (λ (j : ℕ). mem t (get_or sets j 0)) (k + 1) i (omega arith) m in (
-        (u.1 i h).0 ∙ right_is (through f e) w l (get_or sets k 0) seen lefts rights to (get_or sets i 0) within,
-        (u.1 i h).1 ∙ left_is (through f e) w l (get_or sets k 0) seen lefts rights to (get_or sets i 0) within,
-      ),
-)
+serves {e} f w l sets k seen {n} {lefts} {rights} left right is all rows u i h =
+    let to : (t : ℕ) → mem t seen ≡ true → Follows (through f e) (off w l) (on w l) (get_or sets k 0) t lefts rights =
+    λ t h. let r = rw is at (rows t h) in record { after = r.after; before = r.before } in
+    let within : (t : ℕ) → mem t (get_or sets i 0) ≡ true → mem t seen ≡ true =
+    λ t m. all t ∙ any_in (λ (j : ℕ). mem t (get_or sets j 0)) (k + 1) i (omega arith) m in (
+      (u i h).0 ∙ right_is (through f e) w l (get_or sets k 0) seen lefts rights to (get_or sets i 0) within,
+      (u i h).1 ∙ left_is (through f e) w l (get_or sets k 0) seen lefts rights to (get_or sets i 0) within,
+    )
 
 -- no member of the sets up to k is missed
 pub joined-below : (n : ℕ) (sets : List ℕ) (k seen : ℕ) → ((q : ℕ) → mem q seen ≡ any (λ (i : ℕ). mem q (get_or sets i 0)) (k + 1))
@@ -90,30 +93,25 @@ joined-below n sets k seen all below q h m =
     let i = any-true (λ (i : ℕ). mem q (get_or sets i 0)) (k + 1) (sym (all q) ∙ m) in
     below i.0 (omega arith) q h i.2
 
--- two arrays, whose first n words are given
-pub record Written (F G : ℕ → ℕ) (n : ℕ) (left right : List ℕ) : Type 0 where
+-- two arrays, of whose first n words F and G hold
+pub record Written (F G : ℕ → ℕ → Type 0) (n : ℕ) (left right : List ℕ) : Type 0 where
   pub full : FullRows left right
-  pub done : (i : ℕ) → i < n → (get_or right i 0 ≡ F i) × (get_or left i 0 ≡ G i)
+  pub done : (i : ℕ) → i < n → F i (get_or right i 0) × G i (get_or left i 0)
 
--- the successors of code k and each code below n
-abbrev pub Served : Step → ℕ → List ℕ → ℕ → ℕ → List ℕ → List ℕ → Type 0
-Served succ l codes k =
-    Written (λ (i : ℕ). succ l (get_or codes i 0 ∷ get_or codes k 0 ∷ [])) (λ (i : ℕ). succ l (get_or codes k 0 ∷ get_or codes i 0 ∷ []))
-
-pub written-first : {F G : ℕ → ℕ} {left right : List ℕ} → FullRows left right → Written F G 0 left right
+pub written-first : {F G : ℕ → ℕ → Type 0} {left right : List ℕ} → FullRows left right → Written F G 0 left right
 written-first h = record { full = h; done = λ i h. absurd (omega arith) }
 
-pub written_next : {F G : ℕ → ℕ} {n : ℕ} {left right : List ℕ} {x y : ℕ} → n < 64 → Written F G n left right → x ≡ F n → y ≡ G n
+pub written_next : {F G : ℕ → ℕ → Type 0} {n : ℕ} {left right : List ℕ} {x y : ℕ} → n < 64 → Written F G n left right → F n x → G n y
     → Written F G (n + 1) (set left n y) (set right n x)
 written_next {F} {G} {n} {left} {right} {x} {y} h w ex ey = record {
   full = full-set n y x w.full;
-  done = below_more (λ (i : ℕ). (get_or (set right n x) i 0 ≡ F i) × (get_or (set left n y) i 0 ≡ G i)) n
+  done = below_more (λ (i : ℕ). F i (get_or (set right n x) i 0) × G i (get_or (set left n y) i 0)) n
       (λ i hi.
       let far : i ≡ n → ⊥ = λ e. omega arith in
-      (get_or-set_other right n i x 0 far ∙ (w.done i hi).0, get_or-set_other left n i y 0 far ∙ (w.done i hi).1))
-      (get_or-set_same right n x 0 (omega arith) ∙ ex, get_or-set_same left n y 0 (omega arith) ∙ ey);
+      rw (get_or-set_other right n i x 0 far, get_or-set_other left n i y 0 far) (w.done i hi))
+      (rw (get_or-set_same right n x 0 (omega arith), get_or-set_same left n y 0 (omega arith)) (ex, ey));
 }
 
-pub written_last : {F G : ℕ → ℕ} {n k : ℕ} {left right : List ℕ} → k < n → Written F G n left right
-    → FullRows left right × ((i : ℕ) → i ≤ k → (get_or right i 0 ≡ F i) × (get_or left i 0 ≡ G i))
-written_last h w = (w.full, λ i l. w.done i (omega arith))
+pub written_last : {F G : ℕ → ℕ → Type 0} {n k : ℕ} {left right : List ℕ} → k < n → Written F G n left right
+    → (i : ℕ) → i ≤ k → F i (get_or right i 0) × G i (get_or left i 0)
+written_last h w i l = w.done i (omega arith)

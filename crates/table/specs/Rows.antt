@@ -8,7 +8,7 @@ use Rattle.table.specs.Entry.{Bit, Step, Within, on}
 use Rattle.table.specs.Succ.{hit, hit_row, first_step}
 use Rattle.words.specs.Word.{mem, any, word_where, Below}
 use Rattle.table.specs.declared.plan.Plan.{Plan}
-use Rattle.table.specs.declared.plan.Kind.TheVariants.{Exists}
+use Rattle.ops.specs.declared.Op.TheVariants.{Exists}
 
 -- does state q follow an i that is a member of x and state j under the label l or m
 abbrev pub hit_column : Step → ℕ → ℕ → ℕ → ℕ → ℕ → ℕ → Bool
@@ -34,17 +34,11 @@ abbrev pub UnionsUpTo : ℕ → List ℕ → List ℕ → List ℕ → List ℕ 
 UnionsUpTo k lefts rights sets left right =
     (i : ℕ) → i ≤ k → (get_or right i 0 ≡ union_of rights (get_or sets i 0)) × (get_or left i 0 ≡ union_of lefts (get_or sets i 0))
 
--- both arrays have a word for each state
-pub record FullRows (left right : List ℕ) : Type 0 where
-  pub left-long : length left ≡ 64
-  pub right-long : length right ≡ 64
-
--- the steps under the labels l and m, from members of s, can be read off the table at a
-pub record Readable (sh : Shape) (low : List ℕ) (a l m s : ℕ) : Type 0 where
+-- the steps under the labels l and m can be read off the table at a
+pub record Readable (sh : Shape) (low : List ℕ) (a l m : ℕ) : Type 0 where
   pub table : Within sh low a
   pub first-label : l < labels_in sh
   pub second-label : m < labels_in sh
-  pub states : Below sh.ceiling s
 
 -- the entries that the successors of the sets up to k are taken from, with the bit of weight w cleared and set, lie within `low`
 pub record RowsReady (sh : Shape) (low : List ℕ) (a w l : ℕ) (sets : List ℕ) (k : ℕ) : Type 0 where

@@ -8,8 +8,8 @@ use Rattle.layout.specs.Shape.{Shaped, share_of}
 use Rattle.words.specs.Word.{mem, word_where, any}
 use Rattle.table.specs.Entry.{seen, Step, off, on, step_in}
 use Rattle.table.specs.declared.plan.Plan.{Plan}
-use Rattle.table.specs.declared.plan.Kind.{Kind}
-use Rattle.table.specs.declared.plan.Kind.TheVariants.{Subset, Single, Child1, Child2, Root, Not, Or, And, Exists}
+use Rattle.ops.specs.declared.Op.{Op}
+use Rattle.ops.specs.declared.Op.TheVariants.{Subset, Single, Child1, Child2, Root, Not, Or, And, Exists}
 
 -- a pair of states q and r is q * 64 + r
 abbrev pub first_part : ℕ → ℕ
@@ -92,7 +92,7 @@ abbrev pub rule_at : (ℕ → ℕ → ℕ → ℕ → ℕ) → ℕ → ℕ
 rule_at f k = f (k / 32) (k / 16 % 2) (k / 4 % 4) (k % 4)
 
 -- an atom's successor, from the place in its table; 0 for any other kind
-abbrev pub atom_code : Kind → ℕ → ℕ
+abbrev pub atom_code : Op → ℕ → ℕ
 atom_code Subset k = rule_at subset_rule k
 atom_code Single k = rule_at single_rule k
 atom_code Child1 k = rule_at child1_rule k
@@ -109,7 +109,7 @@ tabled table wx wy l xs = table (atom_index wx wy l (get_or xs 0 0) (get_or xs 1
 
 -- the successor code by the kind of record, from the steps of its parts' machines and the weights of its variables' bits; 0 for "not",
 -- whose machine is not explored
-unfoldable pub kind_code : Kind → Step → Step → ℕ → ℕ → Step
+unfoldable pub kind_code : Op → Step → Step → ℕ → ℕ → Step
 kind_code Subset f g wx wy l xs = tabled (rule_at subset_rule) wx wy l xs
 kind_code Single f g wx wy l xs = tabled (rule_at single_rule) wx wy l xs
 kind_code Child1 f g wx wy l xs = tabled (rule_at child1_rule) wx wy l xs
@@ -121,7 +121,7 @@ kind_code And f g wx wy l xs = pair_code f g l xs
 kind_code Exists f g wx wy l xs = exists_code f wx l xs
 
 -- the bits that a record looks at, where its variables' bits are wx and wy and its parts look at f and g
-abbrev pub looks_of : Kind → ℕ → ℕ → ℕ → ℕ → ℕ
+abbrev pub looks_of : Op → ℕ → ℕ → ℕ → ℕ → ℕ
 looks_of Subset wx wy f g = bit_or wx wy
 looks_of Single wx wy f g = wx
 looks_of Child1 wx wy f g = bit_or wx wy
@@ -147,7 +147,7 @@ abbrev pub succ_in : List ℕ → Plan → Step
 succ_in ws p = successor_of (take p.base ws) p
 
 -- the start code, from the step of the first part with k branches: 0 for all but "exists"
-unfoldable pub start_code : Kind → ℕ → Step → ℕ → ℕ
+unfoldable pub start_code : Op → ℕ → Step → ℕ → ℕ
 start_code Subset k f w = 0
 start_code Single k f w = 0
 start_code Child1 k f w = 0

@@ -1,26 +1,9 @@
 // The entries of tables, and the labels that they stand at.
-ghost use Rattle.std.specs.Prelude.{◌≡◌, ◌≤◌, ◌<◌, [], ◌∷◌, get_or};
+ghost use Rattle.std.specs.Prelude.{◌≡◌, ◌≤◌, ◌<◌, [], ◌∷◌};
 ghost use Rattle.layout.specs.Shape.{Shaped, labels_in};
 ghost use Rattle.table.specs.Entry.{Within, entry, step_in, off};
 
 use layout::Shape;
-
-// The byte at k, and 0 past the end.
-fn read(s: &[u8], k: usize) -> u8
-    ensures { result ≡ get_or s.now k 0 }
-{
-    if k < s.len() {
-        return s[k];
-    }
-    0
-}
-
-// A byte as a word.
-pub fn wide(x: u8) -> u64
-    ensures { (result ≡ x) × (result < 256) }
-{
-    x as u64
-}
 
 // The entry for label l and states i and j of the table that starts at a; 0 past the end.
 pub fn entry_at(low: &[u8], sh: Shape, a: usize, l: usize, i: usize, j: usize) -> u64
@@ -28,7 +11,8 @@ pub fn entry_at(low: &[u8], sh: Shape, a: usize, l: usize, i: usize, j: usize) -
     requires l_bound { (l < 512) × (i < 64) × (j < 64) × (a < 4294967296) }
     ensures { (result ≡ entry sh low.now a l (i ∷ j ∷ [])) × (result < 256) }
 {
-    wide(read(low, a + layout::place(sh, l, i, j)))
+    let k = a + layout::place(sh, l, i, j);
+    u64::from(low.get(k).copied().unwrap_or(0))
 }
 
 // The entry for label l and states i and j of the table that starts at a, which lies within `low`. Its place is that of the label's first
@@ -39,7 +23,7 @@ pub fn entry_within(low: &[u8], sh: Shape, a: usize, l: usize, i: usize, j: usiz
     ensures { result ≡ entry sh low.now a l (i ∷ j ∷ []) }
 {
     let first = a + layout::place(sh, l, 0, 0);
-    wide(low[first + layout::place(sh, 0, i, j)])
+    u64::from(low[first + layout::place(sh, 0, i, j)])
 }
 
 // The step of the machine whose table starts at a, for label l and states i and j: the entry at the label with no bit but those that it

@@ -1,17 +1,36 @@
 // The successors of a new code and each code up to it, on either side. For "exists" they are unions: of the states that follow the new
 // set and a single state.
 ghost use Rattle.std.specs.Prelude.{true, ◌||◌, ◌≡◌, [], ◌∷◌, ℕ, ◌≤◌, ◌<◌, get_or};
-ghost use Rattle.layout.specs.Shape.{Shaped, labels_in};
+ghost use Rattle.layout.specs.Shape.{labels_in};
 ghost use Rattle.words.specs.Word.{Below, mem, any};
-ghost use Rattle.table.specs.Rows.{Inside, FullRows, Readable, RowsReady, hit_column, union_of, Follows, Serves, UnionsUpTo};
-ghost use Rattle.table.specs.Succ.{atom_code, tabled, hit, hit_row, hit_set, pair_code, exists_code, exists_start, first_step, successor_of, Ranged};
-ghost use Rattle.table.specs.Entry.{Within, entry, step_in};
+ghost use Rattle.table.specs.Rows.{Inside, Readable, RowsReady, hit_column, union_of, Follows, Serves, UnionsUpTo};
+ghost use Rattle.table.specs.Succ.{atom_code, tabled, hit, hit_row, hit_set, pair_code, exists_code, exists_start};
+ghost use Rattle.table.specs.Succ.{first_step, second_step, successor_of, Ranged};
 
-use crate::atoms::{child1_at, child2_at, root_at, single_at, subset_at};
+use crate::atoms::rule_at;
 use crate::entries::{cleared, entry_at, entry_within};
-use crate::plan::{Kind, Plan};
+use crate::plan::Plan;
 use layout::Shape;
-use words::{size, smallest, union, with_member, without};
+use ops::Op;
+use words::{each_member, union, with_member};
+
+// What a code, or a state, has with each other one before it and after it: two words for each.
+#[derive(Drop)]
+pub struct Rows {
+    pub left: [u64; 64],
+    pub right: [u64; 64],
+}
+
+// The steps of the part of an "exists" under two labels, with the bound bit cleared and set: its table starts at `table`.
+#[derive(Clone, Copy)]
+struct Steps<'a> {
+    low: &'a [u8],
+    shape: Shape,
+    table: usize,
+    off: usize,
+    on: usize,
+    ghost readable: { Readable shape low.now table off on },
+}
 
 // At a state t, the states that follow a member of a set and t, and those that follow t and a member.
 #[derive(Clone, Copy)]
@@ -20,73 +39,63 @@ struct Both {
     pub right: u64,
 }
 
-// The set s with the states that follow states i and j under the labels l and m.
-fn with_steps(
-    low: &[u8],
-    sh: Shape,
-    a: usize,
-    l: usize,
-    m: usize,
-    i: usize,
-    j: usize,
-    s: u64,
-) -> u64
-    requires within { Within sh low.now a }
-    requires l_bound { (l < labels_in sh) × (m < labels_in sh) × (i < sh.ceiling) × (j < sh.ceiling) }
-    ensures { (q : ℕ) → mem q result ≡ (mem q s || hit (entry sh low.now a) l m q (i ∷ j ∷ [])) }
-{
-    let r = with_member(s, entry_within(low, sh, a, l, i, j));
-    with_member(r, entry_within(low, sh, a, m, i, j))
-}
+impl<'a> Steps<'a> {
+    ghost use Rattle.table.specs.Stepping.{entries};
 
-// The states that follow a member of s and state t, and t and a member, under the labels l and m.
-fn both_ways(low: &[u8], sh: Shape, a: usize, l: usize, m: usize, s: u64, t: usize) -> Both
-    requires readable { Readable sh low.now a l m s }
-    requires t_lt_ceiling { t < sh.ceiling }
-    ensures by_index { (q : ℕ) → mem q result.left ≡ any (hit_column (entry sh low.now a) l m s q t) 64 }
-    ensures by_index_2 { (q : ℕ) → mem q result.right ≡ any (hit_row (entry sh low.now a) l m s q t) 64 }
-{
-    let mut left: u64 = 0;
-    let mut right: u64 = 0;
-    let mut rest = s;
-    let mut n = size(s);
-    while 0 < n {
-        let i = smallest(rest);
-        left = with_steps(low, sh, a, l, m, i, t, left);
-        right = with_steps(low, sh, a, l, m, t, i, right);
-        rest = without(rest, i);
-        n -= 1;
+    // The set s with the states that follow states i and j.
+    fn with_steps(&self, i: usize, j: usize, s: u64) -> u64
+        requires { (i < self.now.shape.ceiling) × (j < self.now.shape.ceiling) }
+        ensures { (q : ℕ) → mem q result
+            ≡ (mem q s || hit (entries self.now) self.now.off self.now.on q (i ∷ j ∷ [])) }
+    {
+        let r = with_member(
+            s,
+            entry_within(self.low, self.shape, self.table, self.off, i, j),
+        );
+        with_member(
+            r,
+            entry_within(self.low, self.shape, self.table, self.on, i, j),
+        )
     }
-    Both { left, right }
-}
 
-// What follows the set s and each member of `seen`, on either side.
-fn fill(
-    low: &[u8],
-    sh: Shape,
-    a: usize,
-    l: usize,
-    m: usize,
-    s: u64,
-    seen: u64,
-    left: &mut [u64; 64],
-    right: &mut [u64; 64],
-)
-    requires readable { Readable sh low.now a l m s }
-    requires below { Below sh.ceiling seen }
-    requires full_rows { FullRows left.old right.old }
-    ensures full_rows_2 { FullRows left.new right.new }
-    ensures by_index { (t : ℕ) → mem t seen ≡ true → Follows (entry sh low.now a) l m s t left.new right.new }
-{
-    let mut rest = seen;
-    let mut n = size(seen);
-    while 0 < n {
-        let t = smallest(rest);
-        let b = both_ways(low, sh, a, l, m, s, t);
-        left[t] = b.left;
-        right[t] = b.right;
-        rest = without(rest, t);
-        n -= 1;
+    // The states that follow a member of s and state t, and t and a member.
+    fn both_ways(&self, s: u64, t: usize) -> Both
+        requires { Below self.now.shape.ceiling s × (t < self.now.shape.ceiling) }
+        ensures left { (q : ℕ) → mem q result.left ≡ any (hit_column (entries self.now) self.now.off self.now.on s q t) 64 }
+        ensures right { (q : ℕ) → mem q result.right ≡ any (hit_row (entries self.now) self.now.off self.now.on s q t) 64 }
+    {
+        let mut left = 0;
+        let mut right = 0;
+        for i in each_member(s) {
+            left = self.with_steps(i, t, left);
+            right = self.with_steps(t, i, right);
+        }
+        Both { left, right }
+    }
+
+    // What follows the set s and each member of `seen`, on either side.
+    fn fill(&self, s: u64, seen: u64, rows: &mut Rows)
+        requires { Below self.now.shape.ceiling s × Below self.now.shape.ceiling seen }
+        ensures { (t : ℕ) → mem t seen ≡ true
+            → Follows (entries self.now) self.now.off self.now.on s t rows.new.left rows.new.right }
+    {
+        for t in each_member(seen) {
+            let b = self.both_ways(s, t);
+            rows.left[t] = b.left;
+            rows.right[t] = b.right;
+        }
+    }
+
+    // The states that follow two members of s.
+    fn followers(&self, s: u64) -> u64
+        requires { Below self.now.shape.ceiling s }
+        ensures { (q : ℕ) → mem q result ≡ any (hit_set (entries self.now) self.now.off self.now.on s s q) 64 }
+    {
+        let mut r = 0;
+        for t in each_member(s) {
+            r = union(r, self.both_ways(s, t).right);
+        }
+        r
     }
 }
 
@@ -95,11 +104,9 @@ fn joined(sets: &[u64; 64], n: usize) -> u64
     requires { n ≤ 64 }
     ensures { (q : ℕ) → mem q result ≡ any (λ (i : ℕ). mem q (get_or sets.now i 0)) n }
 {
-    let mut r: u64 = 0;
-    let mut i = 0;
-    while i < n {
-        r = union(r, sets[i]);
-        i += 1;
+    let mut r = 0;
+    for s in &sets[..n] {
+        r = union(r, *s);
     }
     r
 }
@@ -108,57 +115,23 @@ fn joined(sets: &[u64; 64], n: usize) -> u64
 fn union_of(row: &[u64; 64], s: u64) -> u64
     ensures { result ≡ union_of row.now s }
 {
-    let mut r: u64 = 0;
-    let mut rest = s;
-    let mut left = size(s);
-    while 0 < left {
-        let t = smallest(rest);
+    let mut r = 0;
+    for t in each_member(s) {
         r = union(r, row[t]);
-        rest = without(rest, t);
-        left -= 1;
     }
     r
 }
 
 // The unions for each set up to k.
-fn unions(
-    lefts: &[u64; 64],
-    rights: &[u64; 64],
-    sets: &[u64; 64],
-    k: usize,
-    left: &mut [u64; 64],
-    right: &mut [u64; 64],
-)
+fn unions(single: &Rows, sets: &[u64; 64], k: usize, rows: &mut Rows)
     requires k_bound { k < 64 }
-    requires full_rows { FullRows left.old right.old }
-    ensures full_rows_2 { FullRows left.new right.new }
-    ensures unions_up_to { UnionsUpTo k lefts.now rights.now sets.now left.new right.new }
+    ensures { UnionsUpTo k single.now.left single.now.right sets.now rows.new.left rows.new.right }
 {
-    let mut i = 0;
-    while i <= k {
+    for i in 0..=k {
         let z = sets[i];
-        left[i] = union_of(lefts, z);
-        right[i] = union_of(rights, z);
-        i += 1;
+        rows.left[i] = union_of(&single.left, z);
+        rows.right[i] = union_of(&single.right, z);
     }
-}
-
-// The states that follow two members of s, under the labels l and m.
-fn followers(low: &[u8], sh: Shape, a: usize, l: usize, m: usize, s: u64) -> u64
-    requires { Readable sh low.now a l m s }
-    ensures { (q : ℕ) → mem q result ≡ any (hit_set (entry sh low.now a) l m s s q) 64 }
-{
-    let mut r: u64 = 0;
-    let mut rest = s;
-    let mut n = size(s);
-    while 0 < n {
-        let t = smallest(rest);
-        let b = both_ways(low, sh, a, l, m, s, t);
-        r = union(r, b.right);
-        rest = without(rest, t);
-        n -= 1;
-    }
-    r
 }
 
 // The start for "exists": the smallest set that holds state 0 and is closed under nodes with label 0 and any bound bit. It grows until it
@@ -168,187 +141,118 @@ pub fn exists_start(low: &[u8], p: Plan) -> u64
     requires by_index { (n : ℕ) × Inside low.now p n }
     ensures { result ≡ exists_start p.shape.branches (first_step low.now p) p.wx }
 {
-    let shape = p.shape;
-    let mut s: u64 = 1;
-    let mut d: usize = 0;
-    while d < 64 {
-        let t = union(s, followers(low, shape, p.table1, 0, p.wx & p.look1, s));
+    let steps = Steps {
+        low,
+        shape: p.shape,
+        table: p.table1,
+        off: 0,
+        on: p.wx & p.look1,
+    };
+    let mut s = 1;
+    for _d in 0..64usize {
+        let t = union(s, steps.followers(s));
         if t == s {
             return s;
         }
         s = t;
-        d += 1;
     }
     s
 }
 
-// The successors for "exists", where w is the weight of the bound variable's bit and the part looks at the bits f.
-fn exists_rows(
-    low: &[u8],
-    sh: Shape,
-    a: usize,
-    f: usize,
-    w: usize,
-    l: usize,
-    sets: &[u64; 64],
-    k: usize,
-    left: &mut [u64; 64],
-    right: &mut [u64; 64],
-)
-    requires rows_ready { RowsReady sh low.now a w l sets.now k }
-    requires full_rows { FullRows left.old right.old }
-    ensures full_rows_2 { FullRows left.new right.new }
-    ensures serves { Serves (exists_code (step_in sh low.now a f) w) l sets.now k left.new right.new }
+// The successors for "exists".
+fn exists_rows(low: &[u8], p: &Plan, l: usize, sets: &[u64; 64], k: usize, rows: &mut Rows)
+    requires { RowsReady p.now.shape low.now p.now.table1 p.now.wx l sets.now k }
+    ensures { Serves (exists_code (first_step low.now p.now) p.now.wx) l sets.now k rows.new.left rows.new.right }
 {
-    let off = cleared(w, l);
-    let on = off + w;
-    let seen = joined(sets, k + 1);
-    let mut lefts = [0u64; 64];
-    let mut rights = [0u64; 64];
-    fill(
+    let off = cleared(p.wx, l);
+    let on = off + p.wx;
+    let steps = Steps {
         low,
-        sh,
-        a,
-        off & f,
-        on & f,
-        sets[k],
-        seen,
-        &mut lefts,
-        &mut rights,
-    );
-    unions(&lefts, &rights, sets, k, left, right)
+        shape: p.shape,
+        table: p.table1,
+        off: off & p.look1,
+        on: on & p.look1,
+    };
+    let mut single = Rows {
+        left: [0; 64],
+        right: [0; 64],
+    };
+    steps.fill(sets[k], joined(sets, k + 1), &mut single);
+    unions(&single, sets, k, rows)
 }
 
 // The successor for "and" and "or", of one pair.
-fn pair_code(
-    low: &[u8],
-    sh: Shape,
-    a: usize,
-    b: usize,
-    f: usize,
-    g: usize,
-    l: usize,
-    x: u64,
-    y: u64,
-) -> u64
-    requires shaped { Shaped sh }
-    requires l_bound { (l < 256) × (a < 4294967296) × (b < 4294967296) }
-    ensures { result ≡ pair_code (step_in sh low.now a f) (step_in sh low.now b g) l (x ∷ y ∷ []) }
+fn pair_code(low: &[u8], p: &Plan, l: usize, x: u64, y: u64) -> u64
+    requires { Ranged p.now × (l < 256) }
+    ensures { result ≡ pair_code (first_step low.now p.now) (second_step low.now p.now) l (x ∷ y ∷ []) }
 {
     let first = entry_at(
         low,
-        sh,
-        a,
-        l & f,
+        p.shape,
+        p.table1,
+        l & p.look1,
         (x / 64 % 64) as usize,
         (y / 64 % 64) as usize,
     );
-    let second = entry_at(low, sh, b, l & g, (x % 64) as usize, (y % 64) as usize);
+    let second = entry_at(
+        low,
+        p.shape,
+        p.table2,
+        l & p.look2,
+        (x % 64) as usize,
+        (y % 64) as usize,
+    );
     first * 64 + second
 }
 
-// The successors for "and" and "or".
-fn pair_rows(
-    low: &[u8],
-    sh: Shape,
-    a: usize,
-    b: usize,
-    f: usize,
-    g: usize,
-    l: usize,
-    codes: &[u64; 64],
-    k: usize,
-    left: &mut [u64; 64],
-    right: &mut [u64; 64],
-)
-    requires shaped { Shaped sh }
-    requires l_bound { (l < 256) × (a < 4294967296) × (b < 4294967296) × (k < 64) }
-    requires full_rows { FullRows left.old right.old }
-    ensures full_rows_2 { FullRows left.new right.new }
-    ensures serves { Serves (pair_code (step_in sh low.now a f) (step_in sh low.now b g))
-        l codes.now k left.new right.new }
+// What `next` gives of code k and each code up to it, on either side.
+fn fill_rows<F: Fn(u64, u64) -> u64>(codes: &[u64; 64], k: usize, rows: &mut Rows, next: F)
+    requires k_bound { k < 64 }
+    requires callable { F.IsAlwaysCallable next }
+    ensures { (i : ℕ) → i ≤ k → F.post next (get_or codes.now i 0) (get_or codes.now k 0) (get_or rows.new.right i 0)
+        × F.post next (get_or codes.now k 0) (get_or codes.now i 0) (get_or rows.new.left i 0) }
 {
     let new = codes[k];
-    let mut i = 0;
-    while i <= k {
+    for i in 0..=k {
         let old = codes[i];
-        right[i] = pair_code(low, sh, a, b, f, g, l, old, new);
-        left[i] = pair_code(low, sh, a, b, f, g, l, new, old);
-        i += 1;
+        rows.right[i] = next(old, new);
+        rows.left[i] = next(new, old);
     }
 }
 
-// An atom's successor, from the place in its table; 0 for any other kind.
-fn rule_at(kind: Kind, k: usize) -> u64
-    requires { k < 64 }
-    ensures { result ≡ atom_code kind k }
+// The successors for "and" and "or".
+fn pair_rows(low: &[u8], p: &Plan, l: usize, codes: &[u64; 64], k: usize, rows: &mut Rows)
+    requires { Ranged p.now × (l < 256) × (k < 64) }
+    ensures { Serves (pair_code (first_step low.now p.now) (second_step low.now p.now)) l codes.now k rows.new.left rows.new.right }
 {
-    match kind {
-        Kind::Subset => subset_at(k),
-        Kind::Single => single_at(k),
-        Kind::Child1 => child1_at(k),
-        Kind::Child2 => child2_at(k),
-        Kind::Root => root_at(k),
-        _ => 0,
-    }
+    fill_rows(codes, k, rows, |x, y| pair_code(low, p, l, x, y))
 }
 
-// The successors for an atom, where wx and wy are the weights of its variables' bits.
-fn atom_rows(
-    kind: Kind,
-    wx: usize,
-    wy: usize,
-    l: usize,
-    codes: &[u64; 64],
-    k: usize,
-    left: &mut [u64; 64],
-    right: &mut [u64; 64],
-)
-    requires wx_nonzero { (0 < wx) × (0 < wy) × (k < 64) }
-    requires full_rows { FullRows left.old right.old }
-    ensures full_rows_2 { FullRows left.new right.new }
-    ensures serves { Serves (tabled (atom_code kind) wx wy) l codes.now k left.new right.new }
+// The successors for an atom.
+fn atom_rows(p: &Plan, l: usize, codes: &[u64; 64], k: usize, rows: &mut Rows)
+    requires { Ranged p.now × (k < 64) }
+    ensures { Serves (tabled (atom_code p.now.kind) p.now.wx p.now.wy) l codes.now k rows.new.left rows.new.right }
 {
-    let bits = l / wx % 2 * 32 + l / wy % 2 * 16;
-    let new = (codes[k] % 4) as usize;
-    let mut i = 0;
-    while i <= k {
-        let old = (codes[i] % 4) as usize;
-        right[i] = rule_at(kind, bits + old * 4 + new);
-        left[i] = rule_at(kind, bits + new * 4 + old);
-        i += 1;
-    }
+    let kind = p.kind;
+    let bits = l / p.wx % 2 * 32 + l / p.wy % 2 * 16;
+    fill_rows(
+        codes,
+        k,
+        rows,
+        |x, y| rule_at(kind, bits + (x % 4) as usize * 4 + (y % 4) as usize),
+    )
 }
 
 // The successors of code k and each code up to it, on either side, under label l.
-pub fn rows_of(
-    low: &[u8],
-    p: Plan,
-    l: usize,
-    codes: &[u64; 64],
-    k: usize,
-    left: &mut [u64; 64],
-    right: &mut [u64; 64],
-)
+pub fn rows_of(low: &[u8], p: Plan, l: usize, codes: &[u64; 64], k: usize, rows: &mut Rows)
     requires ranged { Ranged p }
     requires l_bound { (l < labels_in p.shape) × (k < 64) }
-    requires rows_ready { p.kind ≡ Kind.Exists → RowsReady p.shape low.now p.table1 p.wx l codes.now k }
-    requires full_rows { FullRows left.old right.old }
-    ensures full_rows_2 { FullRows left.new right.new }
-    ensures serves { Serves (successor_of low.now p) l codes.now k left.new right.new }
+    requires rows_ready { p.kind ≡ Op.Exists → RowsReady p.shape low.now p.table1 p.wx l codes.now k }
+    ensures serves { Serves (successor_of low.now p) l codes.now k rows.new.left rows.new.right }
 {
-    let kind = p.kind;
-    let sh = p.shape;
-    let a = p.table1;
-    let b = p.table2;
-    let f = p.look1;
-    let g = p.look2;
-    let wx = p.wx;
-    let wy = p.wy;
-    match kind {
-        Kind::Exists => exists_rows(low, sh, a, f, wx, l, codes, k, left, right),
-        Kind::Or => pair_rows(low, sh, a, b, f, g, l, codes, k, left, right),
-        Kind::And => pair_rows(low, sh, a, b, f, g, l, codes, k, left, right),
-        _ => atom_rows(kind, wx, wy, l, codes, k, left, right),
+    match p.kind {
+        Op::Exists => exists_rows(low, &p, l, codes, k, rows),
+        Op::Or | Op::And => pair_rows(low, &p, l, codes, k, rows),
+        _ => atom_rows(&p, l, codes, k, rows),
     }
 }

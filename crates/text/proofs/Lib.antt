@@ -11,3 +11,4 @@ pub mod Steps
 pub mod Faults
 pub mod Named
 pub mod Examples
+pub mod KindNumbers

@@ -1,11 +1,10 @@
 -- The claim of request A2: "The written strip holds exactly for the assignments that satisfy the text, with free first-order variables as
 -- singletons." Assumes nothing.
-use Rattle.std.specs.Prelude.{ℕ, ◌≡◌, ◌↔◌, List, [], ◌∷◌, length}
+use Rattle.std.specs.Prelude.{ℕ, ◌≡◌, ◌↔◌, List, [], ◌∷◌, Ok, length}
 use Rattle.logic.specs.Meaning.{Assignment, IsOnly}
 use Rattle.logic.specs.Rule.{Satisfies}
 use Rattle.rule_strip.specs.RuleStrip.{records_of, rule_bytes}
 use Rattle.rule_strip.specs.RuleAnswers.{checked_rule}
-use Rattle.rule_strip.specs.declared.RuleCheck.TheVariants.{Accepted as accepted}
 use Rattle.text.specs.Token.{Token}
 use Rattle.text.specs.Syntax.{Name, Order, first, second, Scope, Text}
 use Rattle.text.specs.Grammar.{got, text_of}
@@ -32,7 +31,7 @@ pub record Imported (s : List ℕ) (n m : ℕ) (strip : List ℕ) : Type 0 where
   pub variables_are : n ≡ variables_in text
   pub records_are : m ≡ count_in text
   -- the strip passes the strip check, which returns n and m; its length is as document 01 says
-  pub passes : checked_rule strip ≡ accepted n m
+  pub passes : checked_rule strip ≡ Ok (record { variables = n; records = m })
   pub size : length strip ≡ rule_bytes m
   -- an assignment satisfies the written rule exactly if each free first-order variable's set is a singleton and the text holds with these places
   -- and the other sets

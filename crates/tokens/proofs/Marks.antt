@@ -1,32 +1,30 @@
 -- Marks, by their first byte and those that follow. Assumes nothing.
-use Prim.Native.Nat.{ℕ, suc, ◌+◌, ◌<◌, ◌≤◌}
+use Prim.Native.Nat.{ℕ, suc, ◌+◌, ◌-◌, ◌<◌, ◌≤◌}
 use Prim.Native.String.{String}
 use mathlib.Core.Path.{◌≡◌, refl, sym, ◌∙◌, ap}
 use mathlib.Core.Bool.{Bool, true, false, cond, ◌&&◌}
 use mathlib.Core.List.{List, [], ◌∷◌}
 use native.Mathlib.Numerals.{add-one}
 use native.Mathlib.Omega.{arith}
-use borrow.Author.Tests.{eq-eqb, ne_eqb, eqb-true, eqb-false}
+use borrow.Author.Tests.{ne_eqb}
 use lib.Dec.{eqb}
-use lib.ListN.{length, get_or, drop, drop_of_length-le}
-use lib.Seq.{drop-cons, drop-drop}
+use lib.ListN.{length, get_or, take, drop, length-drop}
+use lib.Seq.{drop-cons, take_all}
+use Rattle.std.specs.List.{starts_with}
 use Rattle.text.specs.Token.{Piece, a_stray, spell, text_marks, mark_piece, begins_with}
 use Rattle.tokens.specs.Tokens.{single_kind, mark_size}
 
-pub arrow-kind : (t : List ℕ) (v : Bool) → begins_with (62 ∷ []) t ≡ v → (mark_piece 10 text_marks (61 ∷ t)).kind ≡ cond v 18 20
+arrow-kind : (t : List ℕ) (v : Bool) → begins_with (62 ∷ []) t ≡ v → (mark_piece 10 text_marks (61 ∷ t)).kind ≡ cond v 18 20
 unfolding mark_piece text_marks spell begins_with
 arrow-kind t true e = rw (e, begins_with) refl
 arrow-kind t false e = rw (e, begins_with) refl
 
-pub iff_kind : (t : List ℕ) → begins_with (61 ∷ 62 ∷ []) t ≡ true → (mark_piece 10 text_marks (60 ∷ t)).kind ≡ 19
+iff_kind : (t : List ℕ) (v : Bool) → begins_with (61 ∷ 62 ∷ []) t ≡ v → (mark_piece 10 text_marks (60 ∷ t)).kind ≡ cond v 19 a_stray
 unfolding mark_piece text_marks spell begins_with
-iff_kind t e = rw (e, begins_with) refl
+iff_kind t true e = rw (e, begins_with) refl
+iff_kind t false e = rw (e, begins_with) refl
 
-pub less_stray : (t : List ℕ) → begins_with (61 ∷ 62 ∷ []) t ≡ false → (mark_piece 10 text_marks (60 ∷ t)).kind ≡ a_stray
-unfolding mark_piece text_marks spell begins_with
-less_stray t e = rw (e, begins_with) refl
-
-pub branch-kind : (t : List ℕ) (u v : Bool) → begins_with (48 ∷ []) t ≡ u → begins_with (49 ∷ []) t ≡ v
+branch-kind : (t : List ℕ) (u v : Bool) → begins_with (48 ∷ []) t ≡ u → begins_with (49 ∷ []) t ≡ v
     → (mark_piece 10 text_marks (46 ∷ t)).kind ≡ cond u 21 (cond v 22 a_stray)
 unfolding mark_piece text_marks spell begins_with
 branch-kind t true v e f = rw (e, begins_with) refl
@@ -56,7 +54,7 @@ not_this i m ms c w b t e h =
     (ne_eqb c b (λ q. h (sym q)))
 
 -- a byte that begins no longer mark
-pub single_is : (b : ℕ) (t : List ℕ) → (b ≡ 61 → ⊥) → (b ≡ 60 → ⊥) → (b ≡ 46 → ⊥) → (mark_piece 10 text_marks (b ∷ t)).kind ≡ single_kind b
+single_is : (b : ℕ) (t : List ℕ) → (b ≡ 61 → ⊥) → (b ≡ 60 → ⊥) → (b ≡ 46 → ⊥) → (mark_piece 10 text_marks (b ∷ t)).kind ≡ single_kind b
 unfolding mark_piece text_marks spell begins_with single_kind
 single_is b t h k l =
     one_byte 10 ";" (drop 1 text_marks) 59 b t _ refl
@@ -77,65 +75,39 @@ single_is b t h k l =
         ∙ not_this 21 ".0" (".1" ∷ []) 46 (48 ∷ []) b t refl l
         ∙ not_this 22 ".1" [] 46 (49 ∷ []) b t refl l)
 
-begins-two : (b c : ℕ) (t : List ℕ) → begins_with (b ∷ c ∷ []) t ≡ (begins_with (b ∷ []) t && begins_with (c ∷ []) (drop 1 t))
+begins_is : (w s : List ℕ) → starts_with eqb s w ≡ begins_with w s
 unfolding begins_with
-begins-two b c [] = refl
-begins-two b c (d ∷ t) = go (eqb b d)
-  where
-    go : (v : Bool) → (v && begins_with (c ∷ []) t) ≡ ((v && true) && begins_with (c ∷ []) t)
-    go true = refl
-    go false = refl
+begins_is [] s = refl
+begins_is (b ∷ w) [] = refl
+begins_is (b ∷ w) (c ∷ s) = ap (λ (v : Bool). eqb b c && v) (begins_is w s)
 
 -- ---- the kind of what stands at a place of a text, by the byte there and those behind it
 module _ (s : List ℕ) (at : ℕ) (h : at < length s) where
-  split : drop at s ≡ get_or s at 0 ∷ drop (at + 1) s
-  split = rw (add-one at) (drop-cons s at 0 h)
+  -- as a range of the text has them
+  abbrev behind : List ℕ
+  behind = take (length s - (at + 1)) (drop (at + 1) s)
 
-  pub kind-arrow : (v : Bool) → get_or s at 0 ≡ 61 → begins_with (62 ∷ []) (drop (at + 1) s) ≡ v → cond v 18 20 ≡ (mark_piece 10 text_marks (drop at s)).kind
-  kind-arrow v e f = rw (split, e) (sym (arrow-kind (drop (at + 1) s) v f))
+  begins : (w : List ℕ) {v : Bool} → v ≡ starts_with eqb behind w → begins_with w behind ≡ v
+  begins w f = sym (f ∙ begins_is w behind)
 
-  pub kind_iff : (v : Bool) → get_or s at 0 ≡ 60 → begins_with (61 ∷ []) (drop (at + 1) s) ≡ true → begins_with (62 ∷ []) (drop (at + 2) s) ≡ v
-      → cond v 19 a_stray ≡ (mark_piece 10 text_marks (drop at s)).kind
-  kind_iff v e f g =
-      let two : at + 1 + 1 ≡ at + 2 = omega arith in
-      let n : drop 1 (drop (at + 1) s) ≡ drop (at + 2) s = rw (drop-drop 1 (at + 1) s, two) refl in
-      let q : begins_with (61 ∷ 62 ∷ []) (drop (at + 1) s) ≡ v = begins-two 61 62 (drop (at + 1) s) ∙ rw (f, n) g in
-      rw (split, e) (go v q)
-    where
-      go : (v : Bool) → begins_with (61 ∷ 62 ∷ []) (drop (at + 1) s) ≡ v → cond v 19 a_stray ≡ (mark_piece 10 text_marks (60 ∷ drop (at + 1) s)).kind
-      go true q = sym (iff_kind (drop (at + 1) s) q)
-      go false q = sym (less_stray (drop (at + 1) s) q)
+  split : drop at s ≡ get_or s at 0 ∷ behind
+  split =
+      let q = length-drop (at + 1) s in
+      rw (take_all (length s - (at + 1)) (drop (at + 1) s) (omega arith), add-one at) (drop-cons s at 0 h)
 
-  pub kind-less : get_or s at 0 ≡ 60 → begins_with (61 ∷ []) (drop (at + 1) s) ≡ false → a_stray ≡ (mark_piece 10 text_marks (drop at s)).kind
-  kind-less e f = rw (split, e) (sym (less_stray (drop (at + 1) s) (begins-two 61 62 (drop (at + 1) s) ∙ rw f refl)))
+  pub kind-arrow : (v : Bool) → get_or s at 0 ≡ 61 → v ≡ starts_with eqb behind (62 ∷ []) → cond v 18 20 ≡ (mark_piece 10 text_marks (drop at s)).kind
+  kind-arrow v e f = rw (split, e) (sym (arrow-kind behind v (begins _ f)))
 
-  pub kind-branch : (u v : Bool) → get_or s at 0 ≡ 46 → begins_with (48 ∷ []) (drop (at + 1) s) ≡ u → begins_with (49 ∷ []) (drop (at + 1) s) ≡ v
+  pub kind_iff : (v : Bool) → get_or s at 0 ≡ 60 → v ≡ starts_with eqb behind (61 ∷ 62 ∷ []) → cond v 19 a_stray ≡ (mark_piece 10 text_marks (drop at s)).kind
+  kind_iff v e f = rw (split, e) (sym (iff_kind behind v (begins _ f)))
+
+  pub kind-branch : (u v : Bool) → get_or s at 0 ≡ 46 → u ≡ starts_with eqb behind (48 ∷ []) → v ≡ starts_with eqb behind (49 ∷ [])
       → cond u 21 (cond v 22 a_stray) ≡ (mark_piece 10 text_marks (drop at s)).kind
-  kind-branch u v e f g = rw (split, e) (sym (branch-kind (drop (at + 1) s) u v f g))
+  kind-branch u v e f g = rw (split, e) (sym (branch-kind behind u v (begins _ f) (begins _ g)))
 
   pub kind-single : (get_or s at 0 ≡ 61 → ⊥) → (get_or s at 0 ≡ 60 → ⊥) → (get_or s at 0 ≡ 46 → ⊥)
       → single_kind (get_or s at 0) ≡ (mark_piece 10 text_marks (drop at s)).kind
-  kind-single x y z = rw split (sym (single_is (get_or s at 0) (drop (at + 1) s) x y z))
-
--- whether a byte stands at a place
-pub holds_at : (s : List ℕ) (at b : ℕ) → at < length s → eqb (get_or s at 0) b ≡ begins_with (b ∷ []) (drop at s)
-unfolding begins_with
-holds_at s at b h = rw (drop-cons s at 0 h) (eqb_sym (get_or s at 0) b ∙ and-true (eqb b (get_or s at 0)))
-  where
-    and-true : (v : Bool) → v ≡ (v && true)
-    and-true true = refl
-    and-true false = refl
-
-    eqb_sym : (a b : ℕ) → eqb a b ≡ eqb b a
-    eqb_sym a b = go (eqb a b) refl
-      where
-        go : (v : Bool) → eqb a b ≡ v → v ≡ eqb b a
-        go true e = sym (eq-eqb b a (sym (eqb-true a b e)))
-        go false e = sym (ne_eqb b a (λ q. eqb-false a b e (sym q)))
-
-pub holds_past : (s : List ℕ) (at b : ℕ) → length s ≤ at → false ≡ begins_with (b ∷ []) (drop at s)
-unfolding begins_with
-holds_past s at b h = rw (drop_of_length-le s h) refl
+  kind-single x y z = rw split (sym (single_is (get_or s at 0) behind x y z))
 
 -- ---- sizes
 -- each mark has the size of its number

@@ -5,7 +5,7 @@ use mathlib.Core.List.{List, [], ◌∷◌}
 use native.Mathlib.Omega.{arith}
 use lib.ListN.{length, get_or, take, drop, length-drop}
 use lib.Seq.{drop-cons, length-take-le, get_or-drop}
-use Rattle.tokens.specs.Tokens.{part}
+use Rattle.tokens.specs.Spans.{part}
 
 pub part-cons : (s : List ℕ) (a e : ℕ) → a < e → e ≤ length s → part s a e ≡ get_or s a 0 ∷ part s (suc a) e
 part-cons s a e h k =

@@ -10,8 +10,12 @@ use lib.Seq.{drop-cons, drop-drop, get_or-drop}
 use Rattle.text.specs.Token.{Piece, is_blank, is_letter, is_alnum, alnum_run, words, word_kind, text_marks, mark_piece, piece, tokens, tokens_of}
 use Rattle.text.specs.Grammar.{peek, rest}
 use Rattle.text.proofs.Steps.{token_at, tokens_from, tokens_blank, tokens-token}
+use Rattle.text.specs.Kinds.{kind_number}
+use Rattle.text.specs.declared.kinds.Kind.{Kind}
+use Rattle.text.specs.declared.kinds.Kind.TheVariants.{End}
 use Rattle.tokens.specs.declared.Token.{Token}
-use Rattle.tokens.specs.Tokens.{part, Span, tokens_at, read_from, StandsNext, span, mark_size}
+use Rattle.tokens.specs.Spans.{part, Span}
+use Rattle.tokens.specs.Tokens.{tokens_at, read_from, StandsNext, span, mark_size}
 use Rattle.tokens.proofs.Marks.{mark-sized, mark-within, size-pos}
 
 -- the whole text's tokens are those at its start
@@ -82,7 +86,7 @@ module _ (s : List ℕ) (at start : ℕ) (e : start ≡ at + span is_blank (drop
       let q = length-drop at s in
       rw (e, ← get_or-drop at s (span is_blank (drop at s)) 0) (span_fails is_blank (drop at s) (omega arith))
 
-  pub stands-end : length s ≤ start → StandsNext s at (record { kind = 25; start = start; stop = start })
+  pub stands-end : length s ≤ start → StandsNext s at (record { kind = End; start = start; stop = start })
   unfolding tokens_at tokens
   stands-end h = record {
     stands = ap peek skipped ∙ last;
@@ -94,7 +98,7 @@ module _ (s : List ℕ) (at start : ℕ) (e : start ≡ at + span is_blank (drop
     long = λ z. absurd (z refl);
   }
     where
-      last : peek (tokens_at s start) ≡ read_from s (record { kind = 25; start = start; stop = start })
+      last : peek (tokens_at s start) ≡ read_from s (record { kind = End; start = start; stop = start })
       last = let q : start - start ≡ 0 = omega arith in rw (drop_of_length-le s h, q) refl
 
   -- what a token of size n there says
@@ -112,7 +116,7 @@ module _ (s : List ℕ) (at start : ℕ) (e : start ≡ at + span is_blank (drop
         ∙ ap (λ (l : List ℕ). token_at start b t ∷ tokens_from (start + here.size) l)
         (ap (drop here.size) (sym (drop-cons s start 0 h)) ∙ drop-drop here.size start s)
 
-    pub stands-piece : (k stop : ℕ) → k ≡ here.kind → stop ≡ start + here.size → 0 < here.size → stop ≤ length s
+    pub stands-piece : (k : Kind) (stop : ℕ) → kind_number k ≡ here.kind → stop ≡ start + here.size → 0 < here.size → stop ≤ length s
         → StandsNext s at (record { kind = k; start = start; stop = stop })
     stands-piece k stop ek es pos l =
         let q : stop - start ≡ here.size = omega arith in
@@ -135,8 +139,8 @@ module _ (s : List ℕ) (at start : ℕ) (e : start ≡ at + span is_blank (drop
           let q = length-drop (start + 1) s in
           record { ordered = omega arith; inside = omega arith }
 
-      pub stands_word : (k : ℕ) → is_letter (get_or s start 0) ≡ true
-          → k ≡ word_kind 0 words (part s start stop) → StandsNext s at (record { kind = k; start = start; stop = stop })
+      pub stands_word : (k : Kind) → is_letter (get_or s start 0) ≡ true
+          → kind_number k ≡ word_kind 0 words (part s start stop) → StandsNext s at (record { kind = k; start = start; stop = stop })
       unfolding piece
       stands_word k v ek =
           let b = get_or s start 0 in
@@ -148,22 +152,22 @@ module _ (s : List ℕ) (at start : ℕ) (e : start ≡ at + span is_blank (drop
           stands-piece k stop (ek ∙ rw (w, p) refl) (rw p (omega arith)) (rw p (omega arith)) word-span.inside
 
     -- a mark or a stray byte
-    module _ (k : ℕ) (ek : k ≡ (mark_piece 10 text_marks (drop start s)).kind) where
-      size_is : mark_size k ≡ (mark_piece 10 text_marks (get_or s start 0 ∷ drop (suc start) s)).size
+    module _ (k : Kind) (ek : kind_number k ≡ (mark_piece 10 text_marks (drop start s)).kind) where
+      size_is : mark_size (kind_number k) ≡ (mark_piece 10 text_marks (get_or s start 0 ∷ drop (suc start) s)).size
       size_is = rw (ek, drop-cons s start 0 h) (sym (mark-sized (get_or s start 0 ∷ drop (suc start) s)))
 
-      pub mark-fits : start + mark_size k ≤ length s
+      pub mark-fits : start + mark_size (kind_number k) ≤ length s
       mark-fits =
           let l = mark-within (get_or s start 0) (drop (suc start) s) in
           let q = length-drop (suc start) s in
           let e = size_is in
           omega arith
 
-      pub stands-mark : is_letter (get_or s start 0) ≡ false → StandsNext s at (record { kind = k; start = start; stop = start + mark_size k })
+      pub stands-mark : is_letter (get_or s start 0) ≡ false → StandsNext s at (record { kind = k; start = start; stop = start + mark_size (kind_number k) })
       unfolding piece
       stands-mark v =
           let p : here ≡ mark_piece 10 text_marks (get_or s start 0 ∷ drop (suc start) s) = rw (v, piece) refl in
-          stands-piece k (start + mark_size k) (ek ∙ rw (drop-cons s start 0 h, p) refl) (rw (p, size_is) refl) (rw (p, ← size_is) (size-pos k)) mark-fits
+          stands-piece k (start + mark_size (kind_number k)) (ek ∙ rw (drop-cons s start 0 h, p) refl) (rw (p, size_is) refl) (rw (p, ← size_is) (size-pos (kind_number k))) mark-fits
 
 -- a token stands at its own start
 pub stands_self : {s : List ℕ} {at : ℕ} {t : Token} → StandsNext s at t → StandsNext s t.start t

@@ -10,7 +10,8 @@ use lib.Dec.{T, eqb, ltb, leb}
 use lib.ListN.{length, get_or}
 use Rattle.text.specs.Token.{spell, words, word_kind, same_bytes, a_name}
 use Rattle.text.proofs.Texts.{bytes_eq, bytes_refl}
-use Rattle.tokens.specs.Tokens.{part, packed, packed_kind}
+use Rattle.tokens.specs.Spans.{part}
+use Rattle.tokens.specs.Tokens.{packed, packed_kind}
 use Rattle.tokens.proofs.Parts.{Bytes, part-cons, part-empty, part_length}
 
 packed-pos : (w : List ℕ) → 1 ≤ packed w

@@ -1,2 +1,4 @@
+pub mod Spans
+pub mod Named
 pub mod Tokens
 pub mod InUse

@@ -1,20 +1,16 @@
 -- The tokens that are left at a place of a text, and what the code that reads them answers: document 01, "How trainers type a rule".
 -- Assumes nothing.
-use Rattle.std.specs.Prelude.{ℕ, suc, ◌+◌, ◌-◌, ◌*◌, ◌<◌, ◌≤◌, ◌≡◌, Bool, true, false, cond, List, [], ◌∷◌, eqb, length, take, drop}
+use Rattle.std.specs.Prelude.{ℕ, suc, ◌+◌, ◌*◌, ◌<◌, ◌≤◌, ◌≡◌, Bool, true, false, cond, List, [], ◌∷◌, eqb, length, drop}
 use Prim.Native.String.{String}
 use Rattle.text.specs.Token.{Token as TextToken, semicolon_kind, comma_kind, colon_kind, opening_kind, closing_kind, not_kind, and_kind, or_kind}
-use Rattle.text.specs.Token.{implies_kind, alike_kind, branch1_kind, branch2_kind, the_end, a_name, a_stray, spell, tokens}
+use Rattle.text.specs.Token.{implies_kind, alike_kind, branch1_kind, branch2_kind, a_name, a_stray, spell, tokens}
 use Rattle.text.specs.Grammar.{peek, rest}
+use Rattle.text.specs.Kinds.{kind_number}
+use Rattle.text.specs.declared.kinds.Kind.TheVariants.{End}
+use Rattle.refusals.specs.declared.Reason.{Reason}
 use Rattle.tokens.specs.declared.Token.{Token}
-
--- the bytes of s from place a up to place e
-abbrev pub part : List ℕ → ℕ → ℕ → List ℕ
-part s a e = take (e - a) (drop a s)
-
--- such places
-pub record Span (s : List ℕ) (a e : ℕ) : Type 0 where
-  pub ordered : a ≤ e
-  pub inside : e ≤ length s
+use Rattle.tokens.specs.declared.TokenFault.{TokenFault}
+use Rattle.tokens.specs.Spans.{part}
 
 -- the tokens left at byte place `at` of the text s
 unfoldable pub tokens_at : List ℕ → ℕ → List TextToken
@@ -22,18 +18,22 @@ tokens_at s at = tokens (suc (length (drop at s))) at (drop at s)
 
 -- the token that was read, with its bytes
 abbrev pub read_from : List ℕ → Token → TextToken
-read_from s r = record { kind = r.kind; bytes = part s r.start r.stop; start = r.start; stop = r.stop }
+read_from s r = record { kind = kind_number r.kind; bytes = part s r.start r.stop; start = r.start; stop = r.stop }
 
 -- r is the token that stands next at place `at` of s; the end of the text is never taken
 pub record StandsNext (s : List ℕ) (at : ℕ) (r : Token) : Type 0 where
   pub stands : peek (tokens_at s at) ≡ read_from s r
-  pub goes_on : (r.kind ≡ the_end → ⊥) → rest (tokens_at s at) ≡ tokens_at s r.stop
-  pub onward : (r.kind ≡ the_end → ⊥) → (at < r.stop) × (r.stop ≤ length s)
+  pub goes_on : (r.kind ≡ End → ⊥) → rest (tokens_at s at) ≡ tokens_at s r.stop
+  pub onward : (r.kind ≡ End → ⊥) → (at < r.stop) × (r.stop ≤ length s)
   pub ordered : r.start ≤ r.stop
   -- only blanks stand between the place and the token
   pub forward : at ≤ r.start
   pub skips : tokens_at s at ≡ tokens_at s r.start
-  pub long : (r.kind ≡ the_end → ⊥) → r.start < r.stop
+  pub long : (r.kind ≡ End → ⊥) → r.start < r.stop
+
+-- the refusal of a text at the token t
+abbrev pub refused_at : Token → Reason → TokenFault
+refused_at t k = record { reason = k; start = t.start; stop = t.stop }
 
 -- how many bytes that pass a test s begins with: "Spaces, tabs, CR and LF separate", and "any number of ASCII letters or digits"
 unfoldable pub span : (ℕ → Bool) → List ℕ → ℕ

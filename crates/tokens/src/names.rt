@@ -1,75 +1,87 @@
-// The names in use, as spans of the text: document 01, "How trainers type a rule". They are lent as an array with the number in use beside it,
-// since readers nest deep: name i, the latest last, starts at place names[3 * i] of the text, stops at names[3 * i + 1], and has the order
-// names[3 * i + 2], 1 for first, 2 for second.
+// The names in use, as spans of the text: document 01, "How trainers type a rule".
 ghost use Rattle.std.specs.Prelude.{◌≡◌, ◌<◌};
 ghost use Rattle.text.specs.Token.{same_bytes};
-ghost use Rattle.tokens.specs.Tokens.{part, Span};
-ghost use Rattle.tokens.specs.InUse.{NamesFit, Found, Bound};
+ghost use Rattle.tokens.specs.Spans.{part, Span};
+ghost use Rattle.tokens.specs.Named.{NamesFit};
 
-// Whether two spans of the text have the same bytes. All of them are looked at, so that the loop takes many at a time.
-fn same(text: &[u8], a_start: usize, a_stop: usize, b_start: usize, b_stop: usize) -> bool
-    requires span { Span text.now a_start a_stop }
-    requires span_2 { Span text.now b_start b_stop }
-    ensures { result ≡ same_bytes (part text.now a_start a_stop) (part text.now b_start b_stop) }
+// What a name stands for: a place, or a set.
+#[derive(Clone, Copy, Debug, PartialEq, Eq)]
+pub enum Order {
+    First,
+    Second,
+}
+
+// A name, by the byte places of the text where it starts and ends.
+#[derive(Clone, Copy)]
+pub struct Name {
+    pub start: usize,
+    pub stop: usize,
+    pub order: Order,
+}
+
+// The names in use in a text, the latest last. A name's track is its number.
+#[derive(Clone, Copy)]
+pub struct Names<'t> {
+    pub text: &'t [u8],
+    pub entries: [Name; 8],
+    pub count: usize,
+    pub ghost fit: { NamesFit text.now entries count },
+}
+
+// Have two spans the same bytes?
+#[tactic(auto, using(crate::proofs::Scopes::same_pointwise))]
+fn same(a: &[u8], b: &[u8]) -> bool
+    ensures { result ≡ same_bytes a.now b.now }
 {
-    let size = a_stop - a_start;
-    if size != b_stop - b_start {
-        return false;
-    }
-    let mut differ: u8 = 0;
-    let mut k = 0;
-    while k < size {
-        if text[a_start + k] != text[b_start + k] {
-            differ = 1;
+    a == b
+}
+
+impl<'t> Names<'t> {
+    ghost use Rattle.tokens.specs.InUse.{scope_of, Found, Bound};
+
+    // No names.
+    pub fn new(text: &'t [u8]) -> Names<'t>
+        ensures text_value { result.text.now ≡ text.now }
+        ensures none { result.count ≡ 0 }
+    {
+        let none = Name {
+            start: 0,
+            stop: 0,
+            order: Order::First,
+        };
+        Names {
+            text,
+            entries: [none; 8],
+            count: 0,
         }
-        k += 1;
     }
-    differ == 0
-}
 
-// The latest name with the bytes of a span, or 8 where none has them.
-pub fn find(text: &[u8], names: &[usize; 24], in_use: usize, start: usize, stop: usize) -> usize
-    requires names_fit { NamesFit text.now names.now in_use }
-    requires span { Span text.now start stop }
-    ensures { Found text.now names.now in_use (part text.now start stop) result }
-{
-    let mut i = in_use;
-    while 0 < i {
-        i -= 1;
-        if same(text, start, stop, names[3 * i], names[3 * i + 1]) {
-            return i;
+    // The track of the latest name with the bytes of a span, if there is one.
+    pub fn find(&self, start: usize, stop: usize) -> Option<usize>
+        requires { Span self.now.text.now start stop }
+        ensures { Found self.now (part self.now.text.now start stop) result }
+    {
+        for i in (0..self.count).rev() {
+            let name = self.entries[i];
+            if same(&self.text[start..stop], &self.text[name.start..name.stop]) {
+                return Some(i);
+            }
+        }
+        None
+    }
+
+    // One name more, the latest.
+    pub fn with(&self, name: Name) -> Names<'t>
+        requires few { self.now.count < 8 }
+        requires span { Span self.now.text.now name.start name.stop }
+        ensures { Bound self.now name result }
+    {
+        let mut entries = self.entries;
+        entries[self.count] = name;
+        Names {
+            text: self.text,
+            entries,
+            count: self.count + 1,
         }
     }
-    8
-}
-
-// The array with entry `in_use` set. It is taken by value, since only then is its length known to the proof.
-fn with_name(
-    mut names: [usize; 24],
-    in_use: usize,
-    start: usize,
-    stop: usize,
-    order: usize,
-) -> [usize; 24]
-    requires { in_use < 8 }
-    ensures { Bound names in_use start stop order result }
-{
-    names[3 * in_use] = start;
-    names[3 * in_use + 1] = stop;
-    names[3 * in_use + 2] = order;
-    names
-}
-
-// One name more, the latest.
-pub fn bound(
-    names: &[usize; 24],
-    in_use: usize,
-    start: usize,
-    stop: usize,
-    order: usize,
-) -> [usize; 24]
-    requires { in_use < 8 }
-    ensures { Bound names.now in_use start stop order result }
-{
-    with_name(*names, in_use, start, stop, order)
 }

@@ -9,14 +9,14 @@ use lib.ListN.{length, drop}
 use lib.Seq.{slice, length-take-le}
 use Rattle.logic.specs.Tree.{Tree, positions}
 use Rattle.bits.specs.Bits.{bits, field, any_set, first_set}
-use Rattle.bits.specs.declared.Fault.{Fault}
-use Rattle.bits.specs.declared.Fault.TheVariants.{Sound, At}
+use Rattle.std.specs.Prelude.{Ok, Err}
+use Rattle.refusals.specs.declared.Fault.{Fault}
+use Rattle.refusals.specs.declared.Reason.TheVariants as reason
+use Rattle.refusals.specs.Fault.{sound, fault}
 use Rattle.tree_strip.specs.TreeStrip.{Parsed, parsed, refused, padding, end_fault, unless, ended, tree_bits}
 use Rattle.tree_strip.specs.TreeAnswers.{told, answered}
 use Rattle.tree_strip.specs.TreePlaces.{whole_byte}
 use Rattle.tree_strip.specs.declared.check.TreeRead.{TreeRead}
-use Rattle.tree_strip.specs.declared.check.TreeRead.TheVariants as read
-use Rattle.tree_strip.specs.declared.check.TreeCheck.TheVariants as check
 use Rattle.bits.proofs.Fields.{length-bits}
 use Rattle.bits.proofs.Places.{slice_from, any-first}
 use Rattle.bits.proofs.Packing.{length_from}
@@ -44,59 +44,59 @@ module _ (s : List ℕ) (at : ℕ) (within : at ≤ 8 * length s) where
     first-is : set ≡ at + first_set pad
     first-is = rw padding_slice is_first
 
-    pub bit-set : set < whole_byte at → At 21 set ≡ end_fault at (drop at (bits s))
+    pub bit-set : set < whole_byte at → fault reason.TreeLeftOver set ≡ end_fault at (drop at (bits s))
     unfolding end_fault
     bit-set h =
-        rw (any-first pad, lt-ltb (first_set pad) (length pad) (omega (arith, first-is, padding-length))) (ap (At 21) first-is)
+        rw (any-first pad, lt-ltb (first_set pad) (length pad) (omega (arith, first-is, padding-length))) (ap (fault reason.TreeLeftOver) first-is)
 
     module _ (h : whole_byte at ≤ set) where
       none-set : any_set pad ≡ false
       none-set = any-first pad ∙ le-ltb (first_set pad) (length pad) (omega (arith, first-is, padding-length))
 
-      pub byte_left : whole_byte at / 8 < length s → At 21 (whole_byte at) ≡ end_fault at (drop at (bits s))
+      pub byte_left : whole_byte at / 8 < length s → fault reason.TreeLeftOver (whole_byte at) ≡ end_fault at (drop at (bits s))
       unfolding end_fault
       byte_left k =
           let l = length_from s at in
-          rw (none-set, le-leb 8 (length (drop at (bits s))) (omega arith)) (ap (At 21) (omega (arith, padding-length)))
+          rw (none-set, le-leb 8 (length (drop at (bits s))) (omega arith)) (ap (fault reason.TreeLeftOver) (omega (arith, padding-length)))
 
-      pub none_left : length s ≤ whole_byte at / 8 → Sound ≡ end_fault at (drop at (bits s))
+      pub none_left : length s ≤ whole_byte at / 8 → sound ≡ end_fault at (drop at (bits s))
       unfolding end_fault
       none_left k = let l = length_from s at in rw (none-set, lt-leb 8 (length (drop at (bits s))) (omega arith)) refl
 
 -- ---- the answer after the tree
-module _ (s : List ℕ) (n : ℕ) (r : TreeRead) (is_read : r ≡ told s (tree_at s n 0 8)) where
-  pub end_refused : (k p : ℕ) → r ≡ read.Refused k p → check.Refused k p ≡ answered s (ended s (tree_at s n 0 8))
+module _ (s : List ℕ) (n : ℕ) where
+  pub end_refused : {f : Fault} → Err f ≡ told s (tree_at s n 0 8) → Err f ≡ answered s (ended s (tree_at s n 0 8))
   unfolding ended
-  end_refused k p e = go (tree_at s n 0 8) (sym is_read ∙ e)
+  end_refused {f} = go (tree_at s n 0 8)
     where
-      go : (P : Parsed) → told s P ≡ read.Refused k p → check.Refused k p ≡ answered s (ended s P)
-      go (refused k' p') e = cc
-      go (parsed t m rest) e = absurd (let z : ◌≡◌ {A = ℕ} 0 1 = cc in omega arith)
+      go : (P : Parsed) → Err f ≡ told s P → Err f ≡ answered s (ended s P)
+      go (refused g) e = cc
+      go (parsed t m rest) e = absurd cc
 
-  module _ (met next : ℕ) (is_tree : r ≡ read.Tree met next) (any : 0 < length s) where
-    tree_end : (t : Tree 2) × (tree_at s n 0 8 ≡ parsed t met (drop next (bits s))) × (next ≡ 8 + length (tree_bits n t)) × (next ≤ 8 * length s)
+  module _ {r : TreeRead} (is_tree : Ok r ≡ told s (tree_at s n 0 8)) (any : 0 < length s) where
+    tree_end : (t : Tree 2) × (tree_at s n 0 8 ≡ parsed t r.met (drop r.next (bits s))) × (r.next ≡ 8 + length (tree_bits n t)) × (r.next ≤ 8 * length s)
         × (positions t ≤ 255)
     tree_end =
-        let q = told-tree s n (tree_at s n 0 8) met next (sym is_read ∙ is_tree) in
-        let g = reading_at s n 0 8 met q.0 q.1 (omega arith) q.2 in
-        let f = ending s n 0 8 met next q.0 q.1 (omega arith) g q.3 in
-        (q.0, q.2 ∙ ap (parsed q.0 met) (sym f.0), f.1, f.2, omega arith)
+        let q = told-tree s n (tree_at s n 0 8) r is_tree in
+        let g = reading_at s n 0 8 r.met q.0 q.1 (omega arith) q.2 in
+        let f = ending s n 0 8 r.met r.next q.0 q.1 (omega arith) g q.3 in
+        (q.0, q.2 ∙ ap (parsed q.0 r.met) (sym f.0), f.1, f.2, omega arith)
 
-    pub end-room : n ≤ 8 → (next ≤ 65536) × (next ≤ 8 * length s)
+    pub end-room : n ≤ 8 → (r.next ≤ 65536) × (r.next ≤ 8 * length s)
     end-room h =
         let w = tree_end in
         let b = tree_bits-length n w.0 in
         let c = room s n (positions w.0) h in
         (omega arith, w.3)
 
-    -- v is what the bits after the tree leave to refuse
-    module _ (v : Fault) (is_end : v ≡ end_fault next (drop next (bits s))) where
-      ended_by : ended s (tree_at s n 0 8) ≡ unless v (parsed tree_end.0 met (drop next (bits s)))
-      unfolding ended
-      ended_by = let w = tree_end in rw (w.1, place s n next w.3, ← is_end) refl
+    ended_by : ended s (tree_at s n 0 8) ≡ unless (end_fault r.next (drop r.next (bits s))) (parsed tree_end.0 r.met (drop r.next (bits s)))
+    unfolding ended
+    ended_by = let w = tree_end in rw (w.1, place s n r.next w.3) refl
 
-      pub end-over : (k p : ℕ) → v ≡ At k p → check.Refused k p ≡ answered s (ended s (tree_at s n 0 8))
-      end-over k p e = rw (ended_by, e) refl
+    -- what the bits after the tree leave to refuse
+    pub end-over : {f : Fault} → Err f ≡ end_fault r.next (drop r.next (bits s)) → Err f ≡ answered s (ended s (tree_at s n 0 8))
+    end-over {f} e = rw (ended_by, ← e) refl
 
-      pub end_clean : v ≡ Sound → n ≡ field s 4 4 → check.Accepted n met ≡ answered s (ended s (tree_at s n 0 8))
-      end_clean e q = rw (ended_by, e) (ap (λ (k : ℕ). check.Accepted k met) q)
+    pub end_clean : sound ≡ end_fault r.next (drop r.next (bits s)) → n ≡ field s 4 4
+        → Ok (record { variables = n; positions = r.met }) ≡ answered s (ended s (tree_at s n 0 8))
+    end_clean e q = rw (ended_by, ← e) (ap (λ (k : ℕ). Ok (record { variables = k; positions = r.met })) q)

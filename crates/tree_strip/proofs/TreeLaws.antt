@@ -12,14 +12,16 @@ use lib.ListN.{length, get_or, take, drop, replicate, length-append, length-drop
 use lib.Seq.{drop-drop, take_all, take_at, drop_at}
 use Rattle.logic.specs.Tree.{Tree, positions, Proper}
 use Rattle.logic.specs.Trim.{Trimmed}
-use Rattle.bits.specs.Bits.{digits, bits, number, field, any_set, first_set, bit_length}
+use Rattle.bits.specs.Bits.{digits, bits, number, field, any_set, first_set}
 use Rattle.bits.specs.Bits.{between}
-use Rattle.bits.specs.declared.Fault.{Fault}
-use Rattle.bits.specs.declared.Fault.TheVariants.{Sound, At}
+use Rattle.std.specs.Prelude.{Result, Ok, Err}
+use Rattle.refusals.specs.declared.Fault.{Fault}
+use Rattle.refusals.specs.declared.Reason.TheVariants as reason
+use Rattle.refusals.specs.Fault.{sound, fault}
 use Rattle.tree_strip.specs.TreeStrip.{Parsed, parsed, refused, place_of, parse, padding, end_fault, unless, ended, read_tree, fault_in, tree_fault}
 use Rattle.tree_strip.specs.TreeStrip.{tree_bits, strip_of_tree, tree_bytes}
 use Rattle.tree_strip.specs.TreeAnswers.{answered, checked_tree}
-use Rattle.tree_strip.specs.declared.check.TreeCheck.TheVariants.{Accepted, Refused}
+use Rattle.tree_strip.specs.declared.check.TreeSize.{TreeSize}
 use Rattle.bits.proofs.Fields.{length_digits, length-bits}
 use Rattle.bits.proofs.Packing.{length_from, number_of, bits-append, bits-drop, bits-bits, digits-bits, Padded, pack-bits, strip_of_bits}
 use Rattle.tree_strip.proofs.TreeBits.{tree_bits-length, tree-bits, last-from}
@@ -40,23 +42,23 @@ pub record TreeFacts (s : List ℕ) (n : ℕ) (t : Tree 2) : Type 0 where
 
 -- ---- the strip's own tests
 either : (a b : Bool) → (a || b) ≡ false → (a ≡ false) × (b ≡ false)
-either true b e = absurd (let z : ◌≡◌ {A = ℕ} 0 1 = cc in omega arith)
+either true b e = absurd cc
 either false b e = (refl, e)
 
 both : (a b : Bool) → (a && b) ≡ true → (a ≡ true) × (b ≡ true)
 both true b e = (refl, e)
-both false b e = absurd (let z : ◌≡◌ {A = ℕ} 0 1 = cc in omega arith)
+both false b e = absurd cc
 
 -- a test that refuses did not
-passed : (v : Bool) (k p : ℕ) (P : Parsed) (t : Tree 2) (m : ℕ) (rest : List ℕ) → cond v (refused k p) P ≡ parsed t m rest
+passed : (v : Bool) (f : Fault) (P : Parsed) (t : Tree 2) (m : ℕ) (rest : List ℕ) → cond v (refused f) P ≡ parsed t m rest
     → (v ≡ false) × (P ≡ parsed t m rest)
-passed true k p P t m rest e = absurd (let z : ◌≡◌ {A = ℕ} 0 1 = cc in omega arith)
-passed false k p P t m rest e = (refl, e)
+passed true f P t m rest e = absurd cc
+passed false f P t m rest e = (refl, e)
 
 -- nor did a fault
-free : (F : Fault) (P : Parsed) (t : Tree 2) (m : ℕ) (rest : List ℕ) → unless F P ≡ parsed t m rest → (F ≡ Sound) × (P ≡ parsed t m rest)
-free Sound P t m rest e = (refl, e)
-free (At k p) P t m rest e = absurd (let z : ◌≡◌ {A = ℕ} 0 1 = cc in omega arith)
+free : (F : Result Unit Fault) (P : Parsed) (t : Tree 2) (m : ℕ) (rest : List ℕ) → unless F P ≡ parsed t m rest → (F ≡ sound) × (P ≡ parsed t m rest)
+free (Ok u) P t m rest e = (refl, e)
+free (Err f) P t m rest e = absurd cc
 
 no_bit : (l : List ℕ) → any_set l ≡ false → l ≡ replicate (length l) 0
 unfolding any_set
@@ -74,18 +76,18 @@ no_set (suc z) = no_set z
 short-padding : (l : List ℕ) → length l < 8 → padding l ≡ l
 short-padding l h = take_all (length l % 8) l (omega arith)
 
-clean : (at : ℕ) (l : List ℕ) → end_fault at l ≡ Sound → (length l < 8) × (l ≡ replicate (length l) 0)
+clean : (at : ℕ) (l : List ℕ) → end_fault at l ≡ sound → (length l < 8) × (l ≡ replicate (length l) 0)
 unfolding end_fault
 clean at l e = go (any_set (padding l)) refl (leb 8 (length l)) refl e
   where
     go : (v : Bool) → any_set (padding l) ≡ v → (w : Bool) → leb 8 (length l) ≡ w
-        → cond v (At 21 (at + first_set (padding l))) (cond w (At 21 (at + length (padding l))) Sound) ≡ Sound
+        → cond v (fault reason.TreeLeftOver (at + first_set (padding l))) (cond w (fault reason.TreeLeftOver (at + length (padding l))) sound) ≡ sound
         → (length l < 8) × (l ≡ replicate (length l) 0)
-    go true f w g e = absurd (let z : ◌≡◌ {A = ℕ} 0 1 = cc in omega arith)
-    go false f true g e = absurd (let z : ◌≡◌ {A = ℕ} 0 1 = cc in omega arith)
+    go true f w g e = absurd cc
+    go false f true g e = absurd cc
     go false f false g e = let h = leb-false 8 (length l) g in (h, no_bit l (ap any_set (sym (short-padding l h)) ∙ f))
 
-zeros-clean : (at z : ℕ) → z < 8 → end_fault at (replicate z 0) ≡ Sound
+zeros-clean : (at z : ℕ) → z < 8 → end_fault at (replicate z 0) ≡ sound
 unfolding end_fault
 zeros-clean at z h =
     let l : length (replicate {A = ℕ} z 0) < 8 = omega (arith, length-replicate {A = ℕ} z 0) in
@@ -94,7 +96,7 @@ zeros-clean at z h =
 ended_is : (s : List ℕ) (P : Parsed) (t : Tree 2) (m : ℕ) (rest : List ℕ) → ended s P ≡ parsed t m rest
     → (P ≡ parsed t m rest) × (length rest < 8) × (rest ≡ replicate (length rest) 0)
 unfolding ended
-ended_is s (refused k p) t m rest e = absurd (let z : ◌≡◌ {A = ℕ} 0 1 = cc in omega arith)
+ended_is s (refused f) t m rest e = absurd cc
 ended_is s (parsed u k more) t m rest e =
     let w = free (end_fault (place_of s more) more) (parsed u k more) t m rest e in
     let v = clean (place_of s more) more w.0 in
@@ -119,9 +121,9 @@ pub tree-accepted : (s : List ℕ) (t : Tree 2) (m : ℕ) (rest : List ℕ) → 
 unfolding read_tree
 tree-accepted s t m rest e =
     let n = field s 4 4 in
-    let a = passed (eqb (length s) 0) 15 (bit_length s) _ t m rest e in
-    let b = passed (not (eqb (field s 0 4) 1)) 16 0 _ t m rest a.1 in
-    let c = passed (not (between 1 8 n)) 17 4 _ t m rest b.1 in
+    let a = passed (eqb (length s) 0) _ _ t m rest e in
+    let b = passed (not (eqb (field s 0 4) 1)) _ _ t m rest a.1 in
+    let c = passed (not (between 1 8 n)) _ _ t m rest b.1 in
     let i = both (leb 1 n) (leb n 8) (not-false (between 1 8 n) c.0) in
     let d = ended_is s (parse s (suc (8 * length s)) n 0 (drop 8 (bits s))) t m rest c.1 in
     let g = parse_reading s n (suc (8 * length s)) 0 (drop 8 (bits s)) t m rest (omega (arith, length_from s 8)) (omega arith) (last-from s 8) d.0 in
@@ -235,31 +237,31 @@ pub tree-only : (s : List ℕ) (t : Tree 2) (m : ℕ) (rest : List ℕ) → ((i 
 tree-only s t m rest g e = facts_only s (field s 4 4) t (tree-accepted s t m rest e).1 g
 
 -- ---- the same of the answer of the check
-pub checked-accepted : (s : List ℕ) (n N : ℕ) → checked_tree s ≡ Accepted n N → (t : Tree 2) × (N ≡ positions t) × TreeFacts s n t
-checked-accepted s n N e = go (read_tree s) refl e
+pub checked-accepted : (s : List ℕ) (r : TreeSize) → checked_tree s ≡ Ok r → (t : Tree 2) × (r.positions ≡ positions t) × TreeFacts s r.variables t
+checked-accepted s r e = go (read_tree s) refl e
   where
-    go : (P : Parsed) → read_tree s ≡ P → answered s P ≡ Accepted n N → (t : Tree 2) × (N ≡ positions t) × TreeFacts s n t
-    go (refused k p) f q = absurd (let z : ◌≡◌ {A = ℕ} 0 1 = cc in omega arith)
-    go (parsed t m rest) f q =
-        let w = tree-accepted s t m rest f in
-        let i : field s 4 4 ≡ n = cc in
-        let j : m ≡ N = cc in
+    go : (P : Parsed) → read_tree s ≡ P → answered s P ≡ Ok r → (t : Tree 2) × (r.positions ≡ positions t) × TreeFacts s r.variables t
+    go (refused f) p q = absurd cc
+    go (parsed t m rest) p q =
+        let w = tree-accepted s t m rest p in
+        let i : field s 4 4 ≡ r.variables = cc in
+        let j : m ≡ r.positions = cc in
         (t, sym j ∙ w.0, subst (λ (k : ℕ). TreeFacts s k t) i w.1)
 
 -- the check answers with the strip's fault
-pub checked_refused : (s : List ℕ) (k p : ℕ) → checked_tree s ≡ Refused k p → tree_fault s ≡ At k p
+pub checked_refused : (s : List ℕ) (f : Fault) → checked_tree s ≡ Err f → tree_fault s ≡ Err f
 unfolding tree_fault
-checked_refused s k p e = go (read_tree s) e
+checked_refused s f e = go (read_tree s) e
   where
-    go : (P : Parsed) → answered s P ≡ Refused k p → fault_in P ≡ At k p
-    go (refused k' p') q = cc
-    go (parsed t m rest) q = absurd (let z : ◌≡◌ {A = ℕ} 0 1 = cc in omega arith)
+    go : (P : Parsed) → answered s P ≡ Err f → fault_in P ≡ Err f
+    go (refused g) q = cc
+    go (parsed t m rest) q = absurd cc
 
 -- a strip without a fault holds a tree
-pub sound-read : (s : List ℕ) → tree_fault s ≡ Sound → (t : Tree 2) × (met : ℕ) × (rest : List ℕ) × (read_tree s ≡ parsed t met rest)
+pub sound-read : (s : List ℕ) → tree_fault s ≡ sound → (t : Tree 2) × (met : ℕ) × (rest : List ℕ) × (read_tree s ≡ parsed t met rest)
 unfolding tree_fault
 sound-read s e = go (read_tree s) refl e
   where
-    go : (P : Parsed) → read_tree s ≡ P → fault_in P ≡ Sound → (t : Tree 2) × (met : ℕ) × (rest : List ℕ) × (read_tree s ≡ parsed t met rest)
-    go (refused k p) f q = absurd (let z : ◌≡◌ {A = ℕ} 0 1 = cc in omega arith)
-    go (parsed t m rest) f q = (t, m, rest, f)
+    go : (P : Parsed) → read_tree s ≡ P → fault_in P ≡ sound → (t : Tree 2) × (met : ℕ) × (rest : List ℕ) × (read_tree s ≡ parsed t met rest)
+    go (refused f) p q = absurd cc
+    go (parsed t m rest) p q = (t, m, rest, p)

@@ -16,11 +16,14 @@ use Rattle.logic.specs.Trim.{is_empty, bare, Trimmed}
 use Rattle.logic.specs.Two.{one, two, pair_of}
 use Rattle.logic.proofs.Places.{true→T, not_T}
 use Rattle.bits.specs.Bits.{digits, bits, number, bit_length}
-use Rattle.tree_strip.specs.TreeStrip.{Parsed, parsed, refused, place_of, join, and_then, parse, tree_bits, Stands}
+use Rattle.refusals.specs.declared.Reason.TheVariants as reason
+use Rattle.refusals.specs.Reason.{number_of}
+use Rattle.tree_strip.specs.TreeStrip.{Parsed, parsed, refused, refused_at, place_of, join, and_then, parse, tree_bits, Stands}
 use Rattle.tree_strip.specs.TreePlaces.{ReadingComes, begin, past_empty, past_label, Offends, early-end, bare-node, node-bit}
 use Rattle.bits.proofs.Fields.{length_digits}
 use Rattle.logic.proofs.Two.{two-branches}
-use Rattle.bits.proofs.Packing.{AreBits, bits-take, number_of, number_lt, digits_number, length_from, bit_is}
+use Rattle.bits.proofs.Packing as packing
+use Rattle.bits.proofs.Packing.{AreBits, bits-take, number_lt, digits_number, length_from, bit_is}
 use Rattle.tree_strip.proofs.TreeBits.{positions-pair, positions-node, tree_bits-length}
 use Rattle.tree_strip.proofs.TreeBits.{node-from, after-label, Last, last-few, last-bits, last-second, last-drop}
 
@@ -35,7 +38,7 @@ pub record Reading (s : List ℕ) (n met : ℕ) (bs : List ℕ) (t : Tree 2) (m 
 
 -- of the strip s, whose reading comes to bs: what was read, or why nothing was
 abbrev pub Good : List ℕ → ℕ → ℕ → List ℕ → Parsed → Type 0
-Good s n met bs (refused k p) = (o : ℕ) → ReadingComes s n met (place_of s bs) (suc o) → Offends s n k p
+Good s n met bs (refused f) = (o : ℕ) → ReadingComes s n met (place_of s bs) (suc o) → Offends s n (number_of f.reason) f.place
 Good s n met bs (parsed t m rest) = Reading s n met bs t m rest
 
 -- what holds of both trees holds of each branch
@@ -56,8 +59,8 @@ bare-pair l t u = ap (λ (v : Bool). eqb l 0 && v) (go (is_empty t) (is_empty u)
 
 bare_is : (l : ℕ) (t u : Tree 2) → (eqb l 0 && (is_empty t && is_empty u)) ≡ true → node l (pair_of t u) ≡ node 0 (pair_of empty empty)
 bare_is zero empty empty e = refl
-bare_is zero empty (node m g) e = absurd (let z : ◌≡◌ {A = ℕ} 0 1 = cc in omega arith)
-bare_is zero (node m g) u e = absurd (let z : ◌≡◌ {A = ℕ} 0 1 = cc in omega arith)
+bare_is zero empty (node m g) e = absurd cc
+bare_is zero (node m g) u e = absurd cc
 bare_is (suc l) t u e = absurd (let f = rw (eqb-suc-zero l) at e in let z : ◌≡◌ {A = ℕ} 0 1 = cc in omega arith)
 
 module _ (n : ℕ) where
@@ -137,7 +140,7 @@ module _ (s : List ℕ) (n : ℕ) where
       → Reading s n (suc met) (drop n bs) t m mid → Good s n m mid P
       → Good s n met (1 ∷ bs) (join (place_of s (1 ∷ bs)) (number 0 (take n bs)) t P)
   unfolding join Proper Trimmed
-  join-good met m bs mid t (refused k p) h a r q = λ o w. q o (r.onward (suc o) (past_one met o bs h a w))
+  join-good met m bs mid t (refused f) h a r q = λ o w. q o (r.onward (suc o) (past_one met o bs h a w))
   join-good met m bs mid t (parsed u m' rest) h a r q = go (eqb l 0 && (is_empty t && is_empty u)) refl
     where
       l : ℕ
@@ -150,7 +153,7 @@ module _ (s : List ℕ) (n : ℕ) where
       whole = written-node n l t u bs mid rest (label-digits n bs label h) r.written q.written
 
       go : (v : Bool) → (eqb l 0 && (is_empty t && is_empty u)) ≡ v
-          → Good s n met (1 ∷ bs) (cond v (refused 19 (place_of s (1 ∷ bs))) (parsed (node l (pair_of t u)) m' rest))
+          → Good s n met (1 ∷ bs) (cond v (refused_at reason.TreeBare (place_of s (1 ∷ bs))) (parsed (node l (pair_of t u)) m' rest))
       go true e = λ o w. bare-node (rest, a ∙ whole ∙ ap (λ (v : Tree 2). tree_bits n v ++ rest) (bare_is l t u e))
       go false e = record {
         written = whole;
@@ -165,7 +168,7 @@ module _ (s : List ℕ) (n : ℕ) where
       → Good s n (suc met) (drop n bs) P → ((m : ℕ) (mid : List ℕ) → length mid ≤ length bs → m ≤ 255 → Last s mid → Good s n m mid (go m mid))
       → Good s n met (1 ∷ bs) (and_then (place_of s (1 ∷ bs)) (number 0 (take n bs)) P go)
   unfolding and_then
-  then-good met bs (refused k p) go h a r next = λ o w. r (suc o) (past_one met o bs h a w)
+  then-good met bs (refused f) go h a r next = λ o w. r (suc o) (past_one met o bs h a w)
   then-good met bs (parsed t m mid) go h a r next =
       let z = shorter (suc met) (drop n bs) t m mid r in
       let d = length-drop n bs in
@@ -184,7 +187,7 @@ module _ (s : List ℕ) (n : ℕ) where
     where
       go : (v : Bool) → leb 255 met ≡ v → (w : Bool) → ltb (length bs) n ≡ w
           → ((m : ℕ) (mid : List ℕ) → length mid ≤ length bs → m ≤ 255 → Last s mid → Good s n m mid (parse s d n m mid))
-          → Good s n met (1 ∷ bs) (cond v (refused 20 (place_of s (1 ∷ bs))) (cond w (refused 18 (bit_length s))
+          → Good s n met (1 ∷ bs) (cond v (refused_at reason.TreePositions (place_of s (1 ∷ bs))) (cond w (refused_at reason.TreeCut (bit_length s))
           (and_then (place_of s (1 ∷ bs)) (number 0 (take n bs)) (parse s d n (suc met) (drop n bs)) (parse s d n))))
       go true e w f k =
           let z = bit_is s (place_of s (1 ∷ bs)) 1 bs a in
@@ -204,7 +207,7 @@ module _ (s : List ℕ) (n : ℕ) where
   then_same : (at l : ℕ) (P Q : Parsed) (go go' : ℕ → List ℕ → Parsed) → P ≡ Q
       → ((t : Tree 2) (m : ℕ) (mid : List ℕ) → Q ≡ parsed t m mid → go m mid ≡ go' m mid) → and_then at l P go ≡ and_then at l Q go'
   unfolding and_then
-  then_same at l P (refused k p) go go' e f = rw e refl
+  then_same at l P (refused f) go go' e g = rw e refl
   then_same at l P (parsed t m mid) go go' e f = rw e (ap (join at l t) (f t m mid refl))
 
   pub parse_reading : (d met : ℕ) (bs : List ℕ) (t : Tree 2) (m : ℕ) (rest : List ℕ) → length bs < d → met ≤ 255 → Last s bs
@@ -221,16 +224,16 @@ module _ (s : List ℕ) (n : ℕ) where
     where
       go : (v : Bool) → leb 255 met ≡ v
           → ((m : ℕ) (mid : List ℕ) → length mid ≤ length bs → m ≤ 255 → Last s mid → parse s d n m mid ≡ parse s e n m mid)
-          → cond v (refused 20 (place_of s (suc b ∷ bs))) (cond (ltb (length bs) n) (refused 18 (bit_length s))
+          → cond v (refused_at reason.TreePositions (place_of s (suc b ∷ bs))) (cond (ltb (length bs) n) (refused_at reason.TreeCut (bit_length s))
           (and_then (place_of s (suc b ∷ bs)) (number 0 (take n bs)) (parse s d n (suc met) (drop n bs)) (parse s d n)))
-          ≡ cond v (refused 20 (place_of s (suc b ∷ bs))) (cond (ltb (length bs) n) (refused 18 (bit_length s))
+          ≡ cond v (refused_at reason.TreePositions (place_of s (suc b ∷ bs))) (cond (ltb (length bs) n) (refused_at reason.TreeCut (bit_length s))
           (and_then (place_of s (suc b ∷ bs)) (number 0 (take n bs)) (parse s e n (suc met) (drop n bs)) (parse s e n)))
       go true f k = refl
       go false f k =
           let l = leb-false 255 met f in
           let c : Last s (drop n bs) = last-drop s n bs (last-second s (suc b ∷ []) bs a) in
           let r = length-drop n bs in
-          ap (cond (ltb (length bs) n) (refused 18 (bit_length s)))
+          ap (cond (ltb (length bs) n) (refused_at reason.TreeCut (bit_length s)))
           (then_same (place_of s (suc b ∷ bs)) (number 0 (take n bs)) (parse s d n (suc met) (drop n bs)) (parse s e n (suc met) (drop n bs))
           (parse s d n) (parse s e n)
           (k (suc met) (drop n bs) (omega arith) (omega arith) c)
@@ -245,7 +248,7 @@ module _ (s : List ℕ) (n : ℕ) where
   parse-one d met l bs h k =
       let a = length-append (digits n l) bs in
       let b = length_digits n l in
-      rw (lt-leb 255 met h, le-ltb (length (digits n l ++ bs)) n (omega arith), take_at (digits n l) bs n b, drop_at (digits n l) bs n b, number_of n l k) refl
+      rw (lt-leb 255 met h, le-ltb (length (digits n l ++ bs)) n (omega arith), take_at (digits n l) bs n b, drop_at (digits n l) bs n b, packing.number_of n l k) refl
 
   join-back : (at l m : ℕ) (f : Branch 2 → Tree 2) (rest : List ℕ) → T (not (bare l f))
       → join at l (f one) (parsed (f two) m rest) ≡ parsed (node l f) m rest

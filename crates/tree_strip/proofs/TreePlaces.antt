@@ -10,9 +10,13 @@ use lib.ListN.{length, get_or, drop}
 use lib.Seq.{get_or-drop, get_or-take, length-take-le}
 use Rattle.logic.specs.Tree.{Tree}
 use Rattle.bits.specs.Bits.{bits, field, any_set, first_set, bit_length, between}
-use Rattle.bits.specs.declared.Fault.{Fault}
-use Rattle.bits.specs.declared.Fault.TheVariants.{Sound, At}
-use Rattle.tree_strip.specs.TreeStrip.{Parsed, parsed, refused, place_of, parse, padding, end_fault, unless, ended, read_tree, fault_in, tree_fault, Stands}
+use Rattle.std.specs.Prelude.{Result, Ok, Err}
+use Rattle.refusals.specs.declared.Fault.{Fault}
+use Rattle.refusals.specs.declared.Reason.{Reason}
+use Rattle.refusals.specs.declared.Reason.TheVariants as reason
+use Rattle.refusals.specs.Reason.{number_of}
+use Rattle.refusals.specs.Fault.{sound, fault}
+use Rattle.tree_strip.specs.TreeStrip.{Parsed, parsed, refused, refused_at, place_of, parse, padding, end_fault, unless, ended, read_tree, fault_in, tree_fault, Stands}
 use Rattle.tree_strip.specs.TreePlaces.{tree_end, whole_byte, Unset, ReadingComes, begin, Offends, OffendsAt, no_bytes, version, variables}
 use Rattle.tree_strip.specs.TreePlaces.{padding-bit, byte_left}
 use Rattle.bits.proofs.Places.{any-first, first-set, first-before}
@@ -24,9 +28,9 @@ use Rattle.tree_strip.proofs.TreeEnd.{padding-length}
 use Rattle.tree_strip.proofs.TreeWalk.{stands-within}
 
 -- a fault, where there is one, is an offence of the strip s
-abbrev Told : List ℕ → ℕ → Fault → Type 0
-Told s n Sound = Unit {0}
-Told s n (At k p) = Offends s n k p
+abbrev Told : List ℕ → ℕ → Result Unit Fault → Type 0
+Told s n (Ok u) = Unit {0}
+Told s n (Err f) = Offends s n (number_of f.reason) f.place
 
 -- ---- 21, once the tree t is read
 module _ (s : List ℕ) (n : ℕ) (t : Tree 2) (stands : Stands s n 8 t) where
@@ -65,25 +69,25 @@ module _ (s : List ℕ) (n : ℕ) (t : Tree 2) (stands : Stands s n 8 t) where
   end-told = go (any_set pad) (any-first pad) (leb 8 (length (drop (tree_end n t) (bits s)))) refl
     where
       go : (v : Bool) → v ≡ ltb (first_set pad) (length pad) → (w : Bool) → leb 8 (length (drop (tree_end n t) (bits s))) ≡ w
-          → Told s n (cond v (At 21 (tree_end n t + first_set pad)) (cond w (At 21 (tree_end n t + length pad)) Sound))
+          → Told s n (cond v (fault reason.TreeLeftOver (tree_end n t + first_set pad)) (cond w (fault reason.TreeLeftOver (tree_end n t + length pad)) sound))
       go true e w f = bit-told (ltb-true _ _ (sym e))
       go false e true f = byte-told (ltb-false _ _ (sym e)) (leb-true 8 _ f)
       go false e false f = tt
 
 -- ---- the tests of a strip, in order
 module _ (s : List ℕ) (n : ℕ) where
-  unless-told : (F : Fault) (P : Parsed) → Told s n F → Told s n (fault_in P) → Told s n (fault_in (unless F P))
-  unless-told Sound P f g = g
-  unless-told (At k p) P f g = f
+  unless-told : (F : Result Unit Fault) (P : Parsed) → Told s n F → Told s n (fault_in P) → Told s n (fault_in (unless F P))
+  unless-told (Ok u) P f g = g
+  unless-told (Err h) P f g = f
 
-  test-told : (v : Bool) (k p : ℕ) (P : Parsed) → (v ≡ true → Offends s n k p) → (v ≡ false → Told s n (fault_in P))
-      → Told s n (fault_in (cond v (refused k p) P))
+  test-told : (v : Bool) (k : Reason) (p : ℕ) (P : Parsed) → (v ≡ true → Offends s n (number_of k) p) → (v ≡ false → Told s n (fault_in P))
+      → Told s n (fault_in (cond v (refused_at k p) P))
   test-told true k p P f g = f refl
   test-told false k p P f g = g refl
 
   ended-told : (P : Parsed) → 0 < length s → Good s n 0 (drop 8 (bits s)) P → Told s n (fault_in (ended s P))
   unfolding ended
-  ended-told (refused k p) h g = g 0 (subst (λ (q : ℕ). ReadingComes s n 0 q 1) (sym (place s n 8 (omega arith))) begin)
+  ended-told (refused f) h g = g 0 (subst (λ (q : ℕ). ReadingComes s n 0 q 1) (sym (place s n 8 (omega arith))) begin)
   ended-told (parsed t m rest) h g =
       let f = ending s n 0 8 m (place_of s rest) t rest (omega arith) g refl in
       unless-told (end_fault (place_of s rest) rest) (parsed t m rest)
@@ -93,10 +97,10 @@ fault-told : (s : List ℕ) → Told s (field s 4 4) (tree_fault s)
 unfolding tree_fault read_tree
 fault-told s =
     let n = field s 4 4 in
-    test-told s n (eqb (length s) 0) 15 (bit_length s) _ (λ e. no_bytes (eqb-true (length s) 0 e)) (λ e.
+    test-told s n (eqb (length s) 0) reason.TreeShort (bit_length s) _ (λ e. no_bytes (eqb-true (length s) 0 e)) (λ e.
     let some : 0 < length s = (let z = eqb-false (length s) 0 e in omega arith) in
-    test-told s n (not (eqb (field s 0 4) 1)) 16 0 _ (λ f. version (eqb-false (field s 0 4) 1 (not-true _ f))) (λ f.
-    test-told s n (not (between 1 8 n)) 17 4 _ (λ g. variables (outside g)) (λ g.
+    test-told s n (not (eqb (field s 0 4) 1)) reason.TreeVersion 0 _ (λ f. version (eqb-false (field s 0 4) 1 (not-true _ f))) (λ f.
+    test-told s n (not (between 1 8 n)) reason.TreeVariables 4 _ (λ g. variables (outside g)) (λ g.
     ended-told s n (parse s (suc (8 * length s)) n 0 (drop 8 (bits s))) some
     (parse-good s n (suc (8 * length s)) 0 (drop 8 (bits s)) (omega (arith, length_from s 8)) (omega arith) (last-from s 8)))))
   where
@@ -104,5 +108,5 @@ fault-told s =
     outside e w = let f = rw (le-leb 1 (field s 4 4) w.0, le-leb (field s 4 4) 8 w.1) at e in let z : ◌≡◌ {A = ℕ} 0 1 = cc in omega arith
 
 -- at the place that a refusal tells stands what its number names
-pub place-told : (s : List ℕ) (k p : ℕ) → tree_fault s ≡ At k p → OffendsAt s k p
-place-told s k p e = subst (Told s (field s 4 4)) e (fault-told s)
+pub place-told : (s : List ℕ) (f : Fault) → tree_fault s ≡ Err f → OffendsAt s (number_of f.reason) f.place
+place-told s f e = subst (Told s (field s 4 4)) e (fault-told s)

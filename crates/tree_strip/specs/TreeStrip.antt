@@ -1,11 +1,14 @@
 -- Tree strips: document 01, "Strips" and "Check a tree strip". Assumes nothing.
 use Rattle.std.specs.Prelude.{ℕ, zero, suc, ◌+◌, ◌-◌, ◌*◌, ◌/◌, ◌%◌, ◌≡◌, not, ◌&&◌, cond, List, [], ◌∷◌, ◌++◌, ltb, leb, eqb, length, take, drop}
+use Rattle.std.specs.Prelude.{Result, Ok, Err}
 use Rattle.logic.specs.Tree.{Tree, empty, node}
 use Rattle.logic.specs.Trim.{is_empty}
 use Rattle.logic.specs.Two.{one, two, pair_of}
 use Rattle.bits.specs.Bits.{digits, bits, number, field, any_set, first_set, bit_length, pack, between}
-use Rattle.bits.specs.declared.Fault.{Fault}
-use Rattle.bits.specs.declared.Fault.TheVariants.{Sound, At}
+use Rattle.refusals.specs.declared.Fault.{Fault}
+use Rattle.refusals.specs.declared.Reason.{Reason}
+use Rattle.refusals.specs.declared.Reason.TheVariants as reason
+use Rattle.refusals.specs.Fault.{sound, fault}
 
 -- "bit 0 for empty; for a node bit 1, the label, first branch, second branch"
 unfoldable pub tree_bits : ℕ → Tree 2 → List ℕ
@@ -27,7 +30,11 @@ tree_bytes n N = (8 + N * (n + 1) + N + 1 + 7) / 8
 -- what reading a tree gives: the tree, the positions met so far and the bits left; or a refusal, with the bit place that it names
 pub data Parsed : Type 0 where
   parsed : Tree 2 → (met : ℕ) → (rest : List ℕ) → Parsed
-  refused : (number place : ℕ) → Parsed
+  refused : Fault → Parsed
+
+-- a refusal by its reason and its bit place
+abbrev pub refused_at : Reason → ℕ → Parsed
+refused_at k p = refused (record { reason = k; place = p })
 
 -- the bit place of the strip s at which its last bits, bs, start
 abbrev pub place_of : List ℕ → List ℕ → ℕ
@@ -36,23 +43,23 @@ place_of s bs = 8 * length s - length bs
 -- the label l over the branches t and u, of a node whose bit is at a place; 19, "once both branches are read, a node with label 0 and two
 -- empty branches": "the node bit"
 unfoldable pub join : ℕ → ℕ → Tree 2 → Parsed → Parsed
-join at l t (refused k p) = refused k p
-join at l t (parsed u met rest) = cond (eqb l 0 && (is_empty t && is_empty u)) (refused 19 at) (parsed (node l (pair_of t u)) met rest)
+join at l t (refused f) = refused f
+join at l t (parsed u met rest) = cond (eqb l 0 && (is_empty t && is_empty u)) (refused_at reason.TreeBare at) (parsed (node l (pair_of t u)) met rest)
 
 -- the second branch is read, by go, where the first one ended
 unfoldable pub and_then : ℕ → ℕ → Parsed → (ℕ → List ℕ → Parsed) → Parsed
-and_then at l (refused k p) go = refused k p
+and_then at l (refused f) go = refused f
 and_then at l (parsed t met rest) go = join at l t (go met rest)
 
 -- the tree at the front of the last bits of the strip s, after `met` positions: as the bits are met, "18 the bits end early", at "the bit
 -- length handed in"; "20 a node bit for position 256", at that bit; and 19. d: more than the bits there are
 unfoldable pub parse : List ℕ → ℕ → ℕ → ℕ → List ℕ → Parsed
-parse s zero n met bs = refused 18 (bit_length s)
-parse s (suc d) n met [] = refused 18 (bit_length s)
+parse s zero n met bs = refused_at reason.TreeCut (bit_length s)
+parse s (suc d) n met [] = refused_at reason.TreeCut (bit_length s)
 parse s (suc d) n met (zero ∷ bs) = parsed empty met bs
 parse s (suc d) n met (suc b ∷ bs) =
-    cond (leb 255 met) (refused 20 (place_of s (suc b ∷ bs)))
-    (cond (ltb (length bs) n) (refused 18 (bit_length s))
+    cond (leb 255 met) (refused_at reason.TreePositions (place_of s (suc b ∷ bs)))
+    (cond (ltb (length bs) n) (refused_at reason.TreeCut (bit_length s))
     (and_then (place_of s (suc b ∷ bs)) (number 0 (take n bs)) (parse s d n (suc met) (drop n bs)) (parse s d n)))
 
 -- of the bits that are left after the tree, those that fill up its last byte
@@ -61,35 +68,35 @@ padding rest = take (length rest % 8) rest
 
 -- of the bits that are left after the tree, from bit place at on: "21 a padding bit set or a byte left over", at "the first set padding bit,
 -- or else the first bit of the first byte left over"
-unfoldable pub end_fault : ℕ → List ℕ → Fault
+unfoldable pub end_fault : ℕ → List ℕ → Result Unit Fault
 end_fault at rest =
-    cond (any_set (padding rest)) (At 21 (at + first_set (padding rest)))
-    (cond (leb 8 (length rest)) (At 21 (at + length (padding rest))) Sound)
+    cond (any_set (padding rest)) (fault reason.TreeLeftOver (at + first_set (padding rest)))
+    (cond (leb 8 (length rest)) (fault reason.TreeLeftOver (at + length (padding rest))) sound)
 
 -- a fault, or else what was read
-abbrev pub unless : Fault → Parsed → Parsed
-unless Sound read = read
-unless (At k p) read = refused k p
+abbrev pub unless : Result Unit Fault → Parsed → Parsed
+unless (Ok u) read = read
+unless (Err f) read = refused f
 
 -- "last, 21"
 unfoldable pub ended : List ℕ → Parsed → Parsed
-ended s (refused k p) = refused k p
+ended s (refused f) = refused f
 ended s (parsed t met rest) = unless (end_fault (place_of s rest) rest) (parsed t met rest)
 
 -- "In order: 15 no bytes", at "the bit length handed in"; "16 version not 1; 17 n not 1 to 8", at these fields; "then, as the bits are
 -- met", 18 to 20; "last, 21"
 unfoldable pub read_tree : List ℕ → Parsed
 read_tree s =
-    cond (eqb (length s) 0) (refused 15 (bit_length s))
-    (cond (not (eqb (field s 0 4) 1)) (refused 16 0)
-    (cond (not (between 1 8 (field s 4 4))) (refused 17 4)
+    cond (eqb (length s) 0) (refused_at reason.TreeShort (bit_length s))
+    (cond (not (eqb (field s 0 4) 1)) (refused_at reason.TreeVersion 0)
+    (cond (not (between 1 8 (field s 4 4))) (refused_at reason.TreeVariables 4)
     (ended s (parse s (suc (8 * length s)) (field s 4 4) 0 (drop 8 (bits s))))))
 
 -- what the check finds, by what was read
-abbrev pub fault_in : Parsed → Fault
-fault_in (parsed t met rest) = Sound
-fault_in (refused k p) = At k p
+abbrev pub fault_in : Parsed → Result Unit Fault
+fault_in (parsed t met rest) = sound
+fault_in (refused f) = Err f
 
 -- "Check a tree strip": the earliest fault, its number and its place together
-unfoldable pub tree_fault : List ℕ → Fault
+unfoldable pub tree_fault : List ℕ → Result Unit Fault
 tree_fault s = fault_in (read_tree s)

@@ -2,26 +2,24 @@
 ghost use Rattle.std.specs.Prelude.{◌≡◌};
 ghost use Rattle.tree_strip.specs.Numbers.{tree_numbers};
 
-use crate::check::TreeCheck;
+use crate::check::TreeSize;
+use refusals::Fault;
 
-pub fn tree_numbers(r: TreeCheck) -> TreeNumbers
+pub fn tree_numbers(r: Result<TreeSize, Fault>) -> TreeNumbers
     ensures { result ≡ tree_numbers r }
 {
     match r {
-        TreeCheck::Refused { number, place } => TreeNumbers {
-            refusal: number,
+        Ok(size) => TreeNumbers {
+            refusal: 0,
+            variables: size.variables as u64,
+            positions: size.positions as u64,
+            place: 0,
+        },
+        Err(fault) => TreeNumbers {
+            refusal: fault.reason.number(),
             variables: 0,
             positions: 0,
-            place,
-        },
-        TreeCheck::Accepted {
-            variables,
-            positions,
-        } => TreeNumbers {
-            refusal: 0,
-            variables: variables as u64,
-            positions: positions as u64,
-            place: 0,
+            place: fault.place,
         },
     }
 }

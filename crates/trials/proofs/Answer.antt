@@ -21,7 +21,7 @@ use Rattle.logic.proofs.Joined.{joined-right}
 use Rattle.logic.proofs.Answers.{one-first, first_not_roomy, says_first, says-roomy}
 use Rattle.parts.specs.Parts.{parts_of}
 use Rattle.parts.proofs.Lists.{not-false}
-use Rattle.parts.proofs.Parts.{parts_within}
+use Rattle.parts.proofs.PartLaws.{parts_within}
 use Rattle.trials.specs.Clash.{Clash}
 use Rattle.trials.specs.Joins.{pair_joiner, rule_joiner, accepts, Trialled, over14, kept_list, trials, Stops}
 use Rattle.trials.specs.Answer.{ClashAnswer, refused_for, satisfiable, clashing, trials_answer, after_built, clash_of, ClashAnswers}

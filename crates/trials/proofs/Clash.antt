@@ -17,7 +17,7 @@ use Rattle.parts.specs.Parts.{parts_of}
 use Rattle.trials.specs.Clash.{NoneHold, SomeHold, Tells, tried_with, kept_of, TrialsKeep, all-tried, dropped, stays}
 use Rattle.trials.specs.Clash.{Sublist, no_more, left_out, taken, Clash}
 use Rattle.parts.proofs.Lists.{elem-later}
-use Rattle.parts.proofs.Parts.{and_earlier, parts_all, parts_within, parts-distinct}
+use Rattle.parts.proofs.PartLaws.{and_earlier, parts_all, parts_within, parts-distinct}
 
 -- a sublist's members are the list's
 pub sublist_elem : {K L : List ℕ} → Sublist K L → (x : ℕ) → T (elem x K) → T (elem x L)

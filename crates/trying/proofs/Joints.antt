@@ -15,7 +15,7 @@ use Rattle.logic.proofs.Numbered.{get_or-elem}
 use Rattle.logic.proofs.Rules.{record_valid, reached-within}
 use Rattle.parts.specs.Parts.{parts_of}
 use Rattle.parts.specs.Listed.{Listed}
-use Rattle.parts.proofs.Parts.{part-reached}
+use Rattle.parts.proofs.PartLaws.{part-reached}
 use Rattle.rule_strip.specs.RuleStrip.{variables_of, count_of, records_of}
 use Rattle.rule_strip.proofs.RuleLaws.{rule-accepted}
 use Rattle.records.specs.Rule.{Spared}
@@ -23,10 +23,12 @@ use Rattle.records.specs.declared.Summary.{Summary}
 use Rattle.records.proofs.Shares.{drop-later}
 use Rattle.building.proofs.OneRecord.{stored_same}
 use Rattle.rules.specs.Building.{rule_shape, MachineFor, ReachedBuilt}
-use Rattle.trials.specs.Joins.{Joint as Conjunct, join_one, join_from}
+use Rattle.rules.proofs.Rules.{rule-sizes}
+use Rattle.std.specs.Prelude.{Option, None, Some, Result, Ok, Err}
+use Rattle.refusals.specs.declared.OverCeiling.{OverCeiling}
+use Rattle.trials.specs.Joins.{Joint as Conjunct, joint_over, join_one, join_from}
 use Rattle.trying.specs.Trying.{Triable, SomePair, Conjoins, joiner_of, JointMade, JointOf, SomeJoint, JoinsPart, JoinsRest, Confined}
-use Rattle.trying.specs.declared.joint.Joint.{Joint}
-use Rattle.trying.specs.declared.joint.Joint.TheVariants.{Empty, Made, Over}
+use Rattle.trying.specs.declared.joint.Made.{Made}
 
 -- ---- what stays
 pub share_le : (rule : List ℕ) (c a b : ℕ) → a ≤ b → share_at (rule_shape rule c) a ≤ share_at (rule_shape rule c) b
@@ -86,16 +88,15 @@ module _ {rule : List ℕ} {c r : ℕ} {ws ws' : List ℕ} (same : length ws' �
       machine-stays (λ q l. k.records q (omega (arith, share-next (rule_shape rule c) i (count_of rule) (within i u)))) (b i u)
 
   -- what is joined before it
-  pub joint-stays : (end later : ℕ) → end ≤ r → end ≤ later → (j : Joint) (x : Conjunct 2) → JointOf rule c ws end j x → JointOf rule c ws' later j x
-  joint-stays end later h l Empty x e = e
-  joint-stays end later h l (Over q) x e = e
-  joint-stays end later h l (Made number f) x e = record {
+  pub joint-stays : (end later : ℕ) → end ≤ r → end ≤ later → (j : Option Made) (x : Conjunct 2) → JointOf rule c ws end j x → JointOf rule c ws' later j x
+  joint-stays end later h l None x e = e
+  joint-stays end later h l (Some m) x e = record {
     formula = e.formula;
     valid = e.valid;
     joined = e.joined;
     before = omega (arith, e.before);
     behind = omega (arith, e.behind);
-    machine = earlier-stays number (omega (arith, e.before)) e.machine;
+    machine = earlier-stays m.number (omega (arith, e.before)) e.machine;
   }
 
 -- ---- one part
@@ -114,60 +115,46 @@ module _ {rule : List ℕ} {c room : ℕ} (t : Triable rule c room) where
 
   module _ {ws : List ℕ} {es : ℕ → Summary} (b : ReachedBuilt rule c es ws) {q : ℕ} (u : ReachedRecord (records_of rule) q) (r : ℕ)
       (h : count_of rule ≤ r + 1) where
-    -- two machines to be joined
-    pub joins_pair : {number : ℕ} {f g : Summary} {x : Conjunct 2} → JointMade rule c ws r number f x → g ≡ es q → SomePair rule c ws number f q g
-    joins_pair m e =
-        let G = formula_at (records_of rule) q in
-        (m.formula, G, m.machine, subst (λ (k : Summary). MachineFor rule c ws q k G) (sym e) (b q u))
+    -- the part, with what is kept of its machine
+    abbrev part : Made
+    part = record { number = q; machine = es q }
 
-    first : JoinsPart rule c ws r Empty q ws (Made q (es q))
+    -- two machines to be joined
+    pub joins_pair : {m : Made} {x : Conjunct 2} → JointMade rule c ws r m x → SomePair rule c ws m part
+    joins_pair m = (m.formula, formula_at (records_of rule) q, m.machine, b q u)
+
+    pub joins-first : {j : Option Made} → j ≡ None → JoinsPart rule c ws r j q ws (Ok part)
     unfolding join_one
-    first x e = record {
+    joins-first e x z = record {
       formula = formula_at (records_of rule) q;
       valid = valid_record q u;
-      joined = rw e refl;
+      joined = rw (rw e at z) refl;
       before = omega (arith, reached-below q u);
       behind = omega arith;
       machine = b q u;
     }
 
-    over : (p : ℕ) → JoinsPart rule c ws r (Over p) q ws (Over p)
-    unfolding join_one
-    over p x e = rw e refl
-
-    pub joins-first : {j : Joint} → j ≡ Empty → JoinsPart rule c ws r j q ws (Made q (es q))
-    joins-first e = subst (λ (j : Joint). JoinsPart rule c ws r j q ws (Made q (es q))) (sym e) first
-
-    pub joins-over : {j : Joint} {p : ℕ} → j ≡ Over p → JoinsPart rule c ws r j q ws (Over p)
-    joins-over {p = p} e = subst (λ (j : Joint). JoinsPart rule c ws r j q ws (Over p)) (sym e) (over p)
-
-    module _ {ws' : List ℕ} {number : ℕ} {f k : Summary} (z : Conjoins rule c ws number f q (es q) ws' r k) where
-      many : c < k.count → JoinsPart rule c ws r (Made number f) q ws' (Over q)
-      unfolding join_one joined_table constructed table_by
-      many l x e =
-          let G = formula_at (records_of rule) q in
-          let w = z e.formula G e.valid (valid_record q u) e.machine (b q u) in
-          rw (e.joined, lt-ltb c (constructed (variables_of rule) (conjunction e.formula G)).count (w.many l)) refl
-
-      few : k.count ≤ c → JoinsPart rule c ws r (Made number f) q ws' (Made r k)
-      unfolding join_one joined_table constructed table_by Valid
-      few l x e =
-          let G = formula_at (records_of rule) q in
-          let w = (z e.formula G e.valid (valid_record q u) e.machine (b q u)).few l in
-          record {
-            formula = conjunction e.formula G;
-            valid = (e.valid, valid_record q u);
-            joined = rw (e.joined, le-ltb c (constructed (variables_of rule) (conjunction e.formula G)).count w.0) refl;
-            before = omega arith;
-            behind = omega arith;
-            machine = w.1;
-          }
-
-      pub joins-many : {j : Joint} → j ≡ Made number f → c < k.count → JoinsPart rule c ws r j q ws' (Over q)
-      joins-many e l = subst (λ (j : Joint). JoinsPart rule c ws r j q ws' (Over q)) (sym e) (many l)
-
-      pub joins-few : {j : Joint} → j ≡ Made number f → k.count ≤ c → JoinsPart rule c ws r j q ws' (Made r k)
-      joins-few e l = subst (λ (j : Joint). JoinsPart rule c ws r j q ws' (Made r k)) (sym e) (few l)
+    pub joins-made : (ws' : List ℕ) {m : Made} (k : Result Made OverCeiling) → Conjoins rule c ws m part ws' r k → {j : Option Made} → j ≡ Some m
+        → JoinsPart rule c ws r j q ws' k
+    unfolding join_one joined_table constructed table_by Valid
+    joins-made ws' {m} k z e = subst (λ (j : Option Made). JoinsPart rule c ws r j q ws' k) (sym e) (made k z)
+      where
+        made : (k : Result Made OverCeiling) → Conjoins rule c ws m part ws' r k → JoinsPart rule c ws r (Some m) q ws' k
+        made (Ok k) z x e =
+            let G = formula_at (records_of rule) q in
+            let w = z e.formula G e.valid (valid_record q u) e.machine (b q u) in
+            record {
+              formula = conjunction e.formula G;
+              valid = (e.valid, valid_record q u);
+              joined = rw (e.joined, le-ltb c (constructed (variables_of rule) (conjunction e.formula G)).count w.1) refl;
+              before = omega (arith, w.0);
+              behind = omega arith;
+              machine = w.2;
+            }
+        made (Err o) z x e =
+            let G = formula_at (records_of rule) q in
+            let w = z e.formula G e.valid (valid_record q u) e.machine (b q u) in
+            rw (e.joined, lt-ltb c (constructed (variables_of rule) (conjunction e.formula G)).count w.1, w.0) refl
 
 -- ---- the parts, left to right
 -- the entries of the array are the parts
@@ -187,8 +174,19 @@ module _ {rule : List ℕ} {c room : ℕ} (t : Triable rule c room) {count : ℕ
   pub parts_from : (p : ℕ) → p < count → drop p ps ≡ get_or xs p 0 ∷ drop (p + 1) ps
   parts_from p h = rw (add-one p) (drop-cons ps p 0 (omega (arith, l.counted))) ∙ ap (λ (q : ℕ). q ∷ drop (p + 1) ps) (sym (part_at p h))
 
+-- the numbers of a part's share
+pub numbers : {rule : List ℕ} {c room : ℕ} → Triable rule c room → {m : ℕ} → m ≡ count_of rule → {p count : ℕ} → p < count → count ≤ 16
+    → (p < 16) × (1 ≤ m) × (m ≤ 128) × (count_of rule ≡ m)
+numbers t e h k = let z = rule-sizes t.work in (omega arith, omega (arith, e, z), omega (arith, e, z), sym e)
+
+-- where a join goes over, no part behind it changes that
+pub over-stays : (rule : List ℕ) (c : ℕ) (L : List ℕ) (q : ℕ) → join_from (joiner_of rule) c (joint_over q) L ≡ joint_over q
+unfolding join_from join_one
+over-stays rule c [] q = refl
+over-stays rule c (p ∷ L) q = over-stays rule c L q
+
 -- in the loop that joins the parts from number i on: those up to number p are joined
-pub record Joining (rule : List ℕ) (c : ℕ) (ws₀ : List ℕ) (i : ℕ) (j : Joint) (ws : List ℕ) (p : ℕ) (k : Joint) : Type 0 where
+pub record Joining (rule : List ℕ) (c : ℕ) (ws₀ : List ℕ) (i : ℕ) (j : Option Made) (ws : List ℕ) (p : ℕ) (k : Option Made) : Type 0 where
   pub begun : i ≤ p
   pub long : length ws ≡ length ws₀
   pub confined : Confined rule c (count_of rule + i - 1) ws₀ ws
@@ -196,11 +194,11 @@ pub record Joining (rule : List ℕ) (c : ℕ) (ws₀ : List ℕ) (i : ℕ) (j :
       → (y : Conjunct 2) × JointOf rule c ws (count_of rule + p - 1) k y
       × (join_from (joiner_of rule) c y (drop p (parts_of (records_of rule))) ≡ join_from (joiner_of rule) c x (drop i (parts_of (records_of rule))))
 
-pub joining_first : {rule : List ℕ} {c : ℕ} {ws : List ℕ} {i : ℕ} {j : Joint} → Joining rule c ws i j ws i j
+pub joining_first : {rule : List ℕ} {c : ℕ} {ws : List ℕ} {i : ℕ} {j : Option Made} → Joining rule c ws i j ws i j
 joining_first = record { begun = omega arith; long = refl; confined = confined-none; joined = λ x h. (x, h, refl) }
 
 module _ {rule : List ℕ} {c room : ℕ} (t : Triable rule c room) {count : ℕ} {xs : List ℕ} (l : Listed (parts_of (records_of rule)) count xs)
-    {ws₀ : List ℕ} {i : ℕ} {j : Joint} {ws : List ℕ} {p : ℕ} {k : Joint} (s : Joining rule c ws₀ i j ws p k) where
+    {ws₀ : List ℕ} {i : ℕ} {j : Option Made} {ws : List ℕ} {p : ℕ} {k : Option Made} (s : Joining rule c ws₀ i j ws p k) where
   -- what a turn asks
   pub joining_asks : length ws₀ ≡ room → {es : ℕ → Summary} → ReachedBuilt rule c es ws₀ → SomeJoint rule c ws₀ (count_of rule + i - 1) j
       → Triable rule c (length ws) × (ReachedBuilt rule c es ws × SomeJoint rule c ws (count_of rule + p - 1) k)
@@ -210,24 +208,35 @@ module _ {rule : List ℕ} {c room : ℕ} (t : Triable rule c room) {count : ℕ
         (reached_stay s.long s.confined (λ r u. (reached-below t r u).0) b, (y.0, y.1)),
       )
 
-  module _ (h : p < count) {ws' : List ℕ} {k' : Joint} (same : length ws' ≡ length ws) (f : Confined rule c (count_of rule + p - 1) ws ws')
-      (z : JoinsPart rule c ws (count_of rule + p - 1) k (get_or xs p 0) ws' k') where
-    pub joining_next : Joining rule c ws₀ i j ws' (p + 1) k'
+  module _ (h : p < count) {ws' : List ℕ} (f : Confined rule c (count_of rule + p - 1) ws ws') where
+    pub joining_confined : Confined rule c (count_of rule + i - 1) ws₀ ws'
+    joining_confined = confined-more (omega (arith, s.begun)) s.confined f
+
+    pub joining_next : length ws' ≡ length ws → (k' : Made) → JoinsPart rule c ws (count_of rule + p - 1) k (get_or xs p 0) ws' (Ok k')
+        → Joining rule c ws₀ i j ws' (p + 1) (Some k')
     unfolding join_from
-    joining_next = record {
+    joining_next same k' z = record {
       begun = omega (arith, s.begun);
       long = same ∙ s.long;
-      confined = confined-more (omega (arith, s.begun)) s.confined f;
+      confined = joining_confined;
       joined = λ x u.
           let y = s.joined x u in
           let one : count_of rule + p - 1 + 1 ≡ count_of rule + (p + 1) - 1 = omega (arith, (rule-accepted rule t.work.sound).some_record) in (
             join_one (joiner_of rule) c y.0 (get_or xs p 0),
-            subst (λ (end : ℕ). JointOf rule c ws' end k' (join_one (joiner_of rule) c y.0 (get_or xs p 0))) one (z y.0 y.1),
+            subst (λ (end : ℕ). JointOf rule c ws' end (Some k') (join_one (joiner_of rule) c y.0 (get_or xs p 0))) one (z y.0 y.1),
             (rw (parts_from t l p h) at y.2),
           );
     }
 
-  pub joining_last : count ≤ p → p ≤ count → JoinsRest rule c ws₀ i j ws k
+    pub joining_over : (o : OverCeiling) → JoinsPart rule c ws (count_of rule + p - 1) k (get_or xs p 0) ws' (Err o) → JoinsRest rule c ws₀ i j ws' (Err o)
+    unfolding join_from
+    joining_over o z x u =
+        let y = s.joined x u in
+        sym (rw (parts_from t l p h) at y.2)
+        ∙ ap (λ (v : Conjunct 2). join_from (joiner_of rule) c v (drop (p + 1) (parts_of (records_of rule)))) (z y.0 y.1)
+        ∙ over-stays rule c (drop (p + 1) (parts_of (records_of rule))) o.at
+
+  pub joining_last : count ≤ p → p ≤ count → JoinsRest rule c ws₀ i j ws (Ok k)
   unfolding join_from
   joining_last from to x u =
       let ps = parts_of (records_of rule) in

@@ -4,7 +4,7 @@ use Rattle.layout.specs.Shape.{share_at, share_of}
 use Rattle.layout.proofs.Places.{share-next}
 use Rattle.logic.specs.Meaning.{Formula, conjunction, Valid}
 use Rattle.logic.specs.Joined.{constructed}
-use Rattle.table.specs.declared.plan.Kind.TheVariants.{And}
+use Rattle.ops.specs.declared.Op.TheVariants.{And}
 use Rattle.table.proofs.Labels.{bit_of}
 use Rattle.records.specs.Rule.{Mach, machine_of, Fits, SomeParts}
 use Rattle.records.specs.declared.Decoded.{Decoded}
@@ -16,7 +16,9 @@ use Rattle.rule_strip.specs.RuleStrip.{variables_of, count_of}
 use Rattle.rules.specs.Building.{rule_shape, MachineFor}
 use Rattle.rules.proofs.Rooms.{room_shares}
 use Rattle.rules.proofs.Rules.{rule-sizes, rule-shaped}
+use Rattle.std.specs.Prelude.{Ok, Err}
 use Rattle.trying.specs.Trying.{Triable, SomePair, Conjoins}
+use Rattle.trying.specs.declared.joint.Made.{Made}
 
 -- the "and" of the machines of numbers a and b
 abbrev pub and_of : ℕ → ℕ → Decoded
@@ -48,7 +50,8 @@ module _ {rule : List ℕ} {c room : ℕ} (t : Triable rule c room) where
         share = pair-share r hr;
       }
 
-  pub pair_parts : {ws : List ℕ} {a b : ℕ} {f g : Summary} → SomePair rule c ws a f b g → SomeParts (and_of a b) (rule_shape rule c) f g ws
+  pub pair_parts : {ws : List ℕ} {a b : Made} → SomePair rule c ws a b
+      → SomeParts (and_of a.number b.number) (rule_shape rule c) a.machine b.machine ws
   pair_parts p = let u = p.2.readable in let v = p.3.readable in (u.machine, v.machine, (u.stored, v.stored))
 
   -- a machine that is read is good
@@ -73,27 +76,30 @@ module _ {rule : List ℕ} {c room : ℕ} (t : Triable rule c room) where
     few a b m e = let w = rw e at (makes a b) in (joined n c (rule-shaped t.work) valid w, good-few valid w)
 
   -- what `build_joined` says of it
-  pub conjoined : {ws ws' : List ℕ} {a b r : ℕ} {f g k : Summary} → length ws' ≡ room → r < count_of rule + 15
-      → AddsJoined (and_of a b) (rule_shape rule c) r f g k ws ws' → Conjoins rule c ws a f b g ws' r k
-  conjoined {a = a} {b = b} {r = r} e hr adds F G vf vg u v =
-      let z = rule-sizes t.work in
-      let added = adds u.readable.machine v.readable.machine (u.readable.stored, v.readable.stored) in
-      record {
-        many = λ h. many vf vg (good u) (good v) a b (added.many h);
-        few = λ h.
-            let m = added.few h in
-            let w = few vf vg (good u) (good v) a b m.0 m.1 in (
-              w.1,
-              record {
-                readable = record {
-                  shape = rule-shaped t.work;
-                  number = omega arith;
-                  share = omega (arith, pair-share r hr);
-                  machine = joined_of (rule_shape rule c) m.0;
-                  stored = m.2.stored;
-                };
-                decides = w.0.machine;
-                full = w.0.full;
-              },
-            );
-      }
+  module _ {ws ws' : List ℕ} {a b : Made} {r : ℕ} {k : Summary}
+      (adds : AddsJoined (and_of a.number b.number) (rule_shape rule c) r a.machine b.machine k ws ws') where
+    pub conjoined-over : c < k.count → Conjoins rule c ws a b ws' r (Err (record { at = b.number }))
+    conjoined-over h F G vf vg u v =
+        let added = adds u.readable.machine v.readable.machine (u.readable.stored, v.readable.stored) in
+        (refl, many vf vg (good u) (good v) a.number b.number (added.many h))
+
+    pub conjoined-made : length ws' ≡ room → r < count_of rule + 15 → k.count ≤ c → Conjoins rule c ws a b ws' r (Ok (record { number = r; machine = k }))
+    conjoined-made e hr h F G vf vg u v =
+        let z = rule-sizes t.work in
+        let added = adds u.readable.machine v.readable.machine (u.readable.stored, v.readable.stored) in
+        let m = added.few h in
+        let w = few vf vg (good u) (good v) a.number b.number m.0 m.1 in (
+          refl,
+          w.1,
+          record {
+            readable = record {
+              shape = rule-shaped t.work;
+              number = omega arith;
+              share = omega (arith, pair-share r hr);
+              machine = joined_of (rule_shape rule c) m.0;
+              stored = m.2.stored;
+            };
+            decides = w.0.machine;
+            full = w.0.full;
+          },
+        )

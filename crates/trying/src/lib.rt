@@ -5,53 +5,40 @@ ghost use Rattle.std.specs.Prelude.{◌≡◌, ◌+◌, ◌-◌, ◌≤◌, ◌<
 ghost use Rattle.rule_strip.specs.RuleStrip.{count_of, records_of};
 ghost use Rattle.parts.specs.Parts.{parts_of};
 ghost use Rattle.parts.specs.Listed.{Listed};
-ghost use Rattle.building.specs.OneRecord.{kept_in};
+ghost use Rattle.building.specs.Build.{entry_of};
 ghost use Rattle.rules.specs.Building.{ReachedBuilt};
 ghost use Rattle.trying.specs.Trying.{Triable, SomeJoint, Confined};
-ghost use Rattle.trying.specs.Trials.{TrialTells, JoinsKept, TriedAll};
+ghost use Rattle.trying.specs.Trials.{TrialTells, JoinsKept, TriedAll, listed_too};
 
-use crate::joint::{Joint, join_part, join_rest};
+use crate::joint::{Made, join_part, join_rest};
+use building::Machines;
+use parts::Parts;
+use refusals::OverCeiling;
 
 pub mod joint; // the machine of two machines' conjunction, and those of parts, left to right
 
-// How the trial of a part ends: it is dropped, it stays, or a join has too many states, by the part joined.
-#[derive(Clone, Copy)]
-pub enum Trial {
-    Dropped,
-    Stays,
-    Over(usize),
-}
-
-// The trial of part i: those not yet tried are joined to those kept, which are joined in j, and some assignment must satisfy them all.
+// Is part i dropped? Those not yet tried are joined to those kept, which are joined already, and some assignment must satisfy them all.
 fn try_part(
     rule: &[u8],
     c: usize,
     ws: &mut [u8],
-    counts: &[u8; 128],
-    accepts: &[u64; 128],
-    looks: &[u8; 128],
-    parts: &[u8; 128],
-    count: usize,
+    machines: &Machines,
+    parts: &Parts,
     i: usize,
-    j: Joint,
-) -> Trial
+    joined: Option<Made>,
+) -> Result<bool, OverCeiling>
     requires triable { Triable rule.now c (length ws.old) }
-    requires reached_built { ReachedBuilt rule.now c (kept_in counts.now accepts.now looks.now) ws.old }
-    requires listed { Listed (parts_of (records_of rule.now)) count parts.now × (i < count) × (count ≤ 16) }
-    requires some_joint { SomeJoint rule.now c ws.old (count_of rule.now + i - 1) j }
-    ensures trial_tells { TrialTells rule.now c ws.old i j result }
+    requires reached_built { ReachedBuilt rule.now c (entry_of machines.now) ws.old }
+    requires listed { Listed (parts_of (records_of rule.now)) parts.now.count parts.now.numbers × (i < parts.now.count)
+        × (parts.now.count ≤ 16) }
+    requires some_joint { SomeJoint rule.now c ws.old (count_of rule.now + i - 1) joined }
+    ensures trial_tells { TrialTells rule.now c ws.old i joined result }
     ensures confined { Confined rule.now c (count_of rule.now + i) ws.old ws.new }
 {
-    let rest = join_rest(rule, c, ws, counts, accepts, looks, parts, count, i + 1, j);
+    let rest = join_rest(rule, c, ws, machines, parts, i + 1, joined)?;
     match rest {
-        Joint::Empty => Trial::Stays,
-        Joint::Over(q) => Trial::Over(q),
-        Joint::Made { number: _, machine } => {
-            if reading::satisfiable(machine) {
-                return Trial::Stays;
-            }
-            Trial::Dropped
-        }
+        None => Ok(false),
+        Some(made) => Ok(!reading::satisfiable(made.machine)),
     }
 }
 
@@ -60,73 +47,70 @@ fn join_kept(
     rule: &[u8],
     c: usize,
     ws: &mut [u8],
-    counts: &[u8; 128],
-    accepts: &[u64; 128],
-    looks: &[u8; 128],
-    parts: &[u8; 128],
-    count: usize,
+    machines: &Machines,
+    parts: &Parts,
     i: usize,
-    j: Joint,
-) -> Joint
+    joined: Option<Made>,
+) -> Result<Option<Made>, OverCeiling>
     requires triable { Triable rule.now c (length ws.old) }
-    requires reached_built { ReachedBuilt rule.now c (kept_in counts.now accepts.now looks.now) ws.old }
-    requires listed { Listed (parts_of (records_of rule.now)) count parts.now × (i < count) × (count ≤ 16) }
-    requires some_joint { SomeJoint rule.now c ws.old (count_of rule.now + i - 1) j }
-    ensures joins_kept { JoinsKept rule.now c ws.old i j ws.new result }
+    requires reached_built { ReachedBuilt rule.now c (entry_of machines.now) ws.old }
+    requires listed { Listed (parts_of (records_of rule.now)) parts.now.count parts.now.numbers × (i < parts.now.count)
+        × (parts.now.count ≤ 16) }
+    requires some_joint { SomeJoint rule.now c ws.old (count_of rule.now + i - 1) joined }
+    ensures joins_kept { JoinsKept rule.now c ws.old i joined ws.new result }
     ensures confined { Confined rule.now c (count_of rule.now + i - 1) ws.old ws.new }
 {
-    if count <= i + 1 {
-        return j;
+    if parts.count <= i + 1 {
+        return Ok(joined);
     }
     let m = rule_strip::count_of(rule);
-    let q = parts[i] as usize;
-    join_part(rule, c, ws, counts, accepts, looks, j, q, m + i - 1)
+    let q = usize::from(parts.numbers[i]);
+    Ok(Some(join_part(rule, c, ws, machines, joined, q, m + i - 1)?))
 }
 
-// How the trials end: at a join with too many states, by the part joined, or with so many parts kept.
+// The parts that are kept, by their records' numbers, at the front, and how many they are; zeros behind them.
 #[derive(Clone, Copy)]
-pub enum Tried {
-    Over(usize),
-    Kept(usize),
+pub struct KeptParts {
+    pub count: usize,
+    pub parts: [u64; 16],
 }
 
-// The trials of the parts, in their order; those that are kept stand at the front of the list.
+impl KeptParts {
+    // One part more.
+    fn put(&mut self, part: u64)
+        requires { self.old.count < 16 }
+        ensures { self.new ≡ listed_too self.old part }
+    {
+        self.parts[self.count] = part;
+        self.count += 1;
+    }
+}
+
+// The trials of the parts, in their order.
 pub fn try_parts(
     rule: &[u8],
     c: usize,
     ws: &mut [u8],
-    counts: &[u8; 128],
-    accepts: &[u64; 128],
-    looks: &[u8; 128],
-    parts: &[u8; 128],
-    count: usize,
-    list: &mut [u64; 16],
-) -> Tried
+    machines: &Machines,
+    parts: &Parts,
+) -> Result<KeptParts, OverCeiling>
     requires triable { Triable rule.now c (length ws.old) }
-    requires reached_built { ReachedBuilt rule.now c (kept_in counts.now accepts.now looks.now) ws.old }
-    requires listed { Listed (parts_of (records_of rule.now)) count parts.now × (count ≤ 16) × (length list.old ≡ 16) }
-    ensures tried_all { TriedAll rule.now c list.old result list.new }
+    requires reached_built { ReachedBuilt rule.now c (entry_of machines.now) ws.old }
+    requires listed { Listed (parts_of (records_of rule.now)) parts.now.count parts.now.numbers × (parts.now.count ≤ 16) }
+    ensures tried_all { TriedAll rule.now c result }
     ensures confined { Confined rule.now c 0 ws.old ws.new }
 {
-    let mut joined = Joint::Empty;
-    let mut kept: usize = 0;
-    let mut i: usize = 0;
-    while i < count {
-        let t = try_part(rule, c, ws, counts, accepts, looks, parts, count, i, joined);
-        match t {
-            Trial::Over(q) => {
-                return Tried::Over(q);
-            }
-            Trial::Dropped => {
-                i += 1;
-            }
-            Trial::Stays => {
-                list[kept] = parts[i] as u64;
-                kept += 1;
-                joined = join_kept(rule, c, ws, counts, accepts, looks, parts, count, i, joined);
-                i += 1;
-            }
+    let mut joined = None;
+    let mut kept = KeptParts {
+        count: 0,
+        parts: [0; 16],
+    };
+    for i in 0..parts.count {
+        let dropped = try_part(rule, c, ws, machines, parts, i, joined)?;
+        if !dropped {
+            kept.put(u64::from(parts.numbers[i]));
+            joined = join_kept(rule, c, ws, machines, parts, i, joined)?;
         }
     }
-    Tried::Kept(kept)
+    Ok(kept)
 }

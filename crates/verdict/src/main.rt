@@ -16,7 +16,7 @@ fn main(rt: HostRuntime) {
     let mut input = [0u8; 300];
     let n = read_front(&mut rt.reader(), &mut input);
     let line = program::verdict_line(&input[..n]);
-    if let Err(_) = io::writer(&rt).write_all(&line.bytes[..line.count]) {}
+    let _ = io::writer(&rt).write_all(&line.bytes[..line.count]);
 }
 
 // Fills buf from an input until it is full, the input ends or a read fails: how many bytes came.
@@ -24,6 +24,7 @@ fn read_front<R: Read>(input: &mut R, buf: &mut [u8]) -> usize
     ensures { result ≤ length buf.old }
 {
     let mut n = 0;
+    // A `while`: each read says how far it came.
     while n < buf.len() {
         match input.read(&mut buf[n..]) {
             Ok(0) => return n,

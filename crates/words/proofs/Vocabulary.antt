@@ -12,7 +12,7 @@ pub use denote.Enum.Declared.{tag_of}
 pub use lib.Arith.{digits_lt, mod-mul, digits_div, digits_mod}
 pub use lib.Bits.{bit_or, and_le_l, bit_and, or_lt, and_step, or_step}
 unfoldable pub use lib.Count.{ones, ones_in, count_trailing_zeros}
-pub use lib.Count.{under, ones-le, ones_step, trailing_le}
+pub use lib.Count.{under, ones_step}
 pub use lib.Dec.{eqb, ltb, T, eqb-suc-suc as eqb·suc-suc, eqb-suc-zero as eqb·suc-zero, eqb-zero-suc as eqb·zero-suc, ltb→lt, eqb→eq, leb}
 pub use lib.ListN.{length, get_or, take, set, get_or-append as List·getD-append, length-append, drop, length-set, replicate, length-take, get_or-eq_default as List·getD-eq-default}
 pub use lib.ListN.{length-map, length-drop}

@@ -1,5 +1,4 @@
 -- `bit_at` meets its contract. Assumes nothing.
-use borrow.Author.Rules.{rules}
 use mathlib.Core.Path.{◌≡◌, sym, ap, ◌∙◌}
 use mathlib.Core.List.{List}
 use Prim.Native.Nat.{ℕ, ◌/◌, ◌%◌, ◌*◌, ◌+◌, ◌-◌, ◌<◌}
@@ -15,6 +14,5 @@ read s at h =
     let e : 8 * (at / 8) + at % 8 ≡ at = omega arith in
     sym (ap (λ (k : ℕ). get_or (bits s) k 0) (sym e) ∙ bits_at s (at / 8) (at % 8) (omega arith) (omega arith))
 
-pub returns : goal.returns
-returns c =
-    record { value = read _ _ c.requires; upper_bound = search rules }
+pub returns-clause-value : goal.returns-clause-value
+returns-clause-value c = read _ _ c.requires

@@ -1,37 +1,24 @@
 -- `build_record` meets its contract, by what `build_joined` says of the summary that it returns.
-use Rattle.words.proofs.Vocabulary.{refl}
-use mathlib.Core.Bool.{true≢false, false≢true}
+use Rattle.words.proofs.Vocabulary.{refl, arith}
 use Rattle.joining.specs.Record.{AddsJoined}
-use Rattle.building.specs.OneRecord.{kept_in}
-use Rattle.building.proofs.OneRecord.{builds, kept_here, kept-other, wide-next}
+use Rattle.building.specs.Build.{entry_of}
+use Rattle.building.proofs.OneRecord.{builds, entered_here, entered-other}
 use Rattle.building.proofs.build_record.Goals as goal
+use Rattle.building.proofs.build_record.Goals.{After-build_joined-k}
 
-pub build_joined-k-requires : goal.build_joined-k-requires
-build_joined-k-requires c =
-    record { fits = c.requires.buildable.0.fits; some_parts = rw (c.kept-f.ensures, c.kept-g.ensures) c.requires.some_parts }
+-- the parts are those that are named
+added : (c : After-build_joined-k) → let a = c.args in
+    AddsJoined a.x a.s a.r (entry_of a.machines.now a.x.first) (entry_of a.machines.now a.x.second) c.build_joined-k.result a.ws.now c.build_joined-k.new.ws
+added c = rw (c.kept-f.ensures, c.kept-g.ensures, c.from.ensures, c.from-2.ensures) at c.build_joined-k.ensures.adds_joined
 
-pub returns-then-c-k : goal.returns-then-c-k
-returns-then-c-k c =
-    let a = c.args in
-    let b = c.build_joined-k in
-    let kept = kept_in a.counts.now a.accepts.now a.looks.now in
-    let added : AddsJoined a.x a.s a.r (kept a.x.first) (kept a.x.second) b.result a.ws.now b.new.ws =
-    rw (c.kept-f.ensures, c.kept-g.ensures) at b.ensures.adds_joined in
-    record { wide_2 = c.requires.wide; builds = builds added b.ensures.spared (λ i e. refl) (λ e. c.if-c-k.true) (λ e. absurd (true≢false e)) }
+pub returns-then-s-from : goal.returns-then-s-from
+returns-then-s-from c =
+    builds (added (goal.at.returns-then-s-from c).After-build_joined-k) c.build_joined-k.ensures.spared (λ a e. refl) refl (λ e. omega arith) (λ e. absurd cc)
 
 pub returns : goal.returns
 returns c =
-    let a = c.args in
-    let b = c.build_joined-k in
-    let kept = kept_in a.counts.now a.accepts.now a.looks.now in
-    let added : AddsJoined a.x a.s a.r (kept a.x.first) (kept a.x.second) b.result a.ws.now b.new.ws =
-    rw (c.kept-f.ensures, c.kept-g.ensures) at b.ensures.adds_joined in
-    let w = c.requires.wide in
-    let k = b.result in
-    record {
-      wide_2 = wide-next a.r _ _ _ w;
-      builds = builds added b.ensures.spared
-          (λ i e. kept-other a.counts.now a.accepts.now a.looks.now a.r k i (λ q. false≢true (e q)))
-          (λ e. absurd (false≢true e))
-          (λ e. (c.if-c-k.false, kept_here a.counts.now a.accepts.now a.looks.now a.r k w c.requires.buildable.1));
-    }
+    let k = c.build_joined-k.result in
+    rw c.keep.ensures
+    (builds (added (goal.at.returns c).After-build_joined-k) c.build_joined-k.ensures.spared
+    (λ a e. entered-other _ _ k a (λ q. let z = e q in absurd cc)) tt (λ e. absurd cc)
+    (λ e. (omega arith, entered_here c.args.machines.now c.args.r k (omega arith) (omega arith) (omega arith))))

@@ -1,5 +1,5 @@
 -- `next_marked` meets its contract. The invariant: what is sought from i on is what was sought from r on, and number m has a mark.
-use Rattle.words.proofs.Vocabulary.{◌∙◌, refl, sym, arith}
+use Rattle.words.proofs.Vocabulary.{◌∙◌, sym, arith}
 use Rattle.building.specs.Named.{marked}
 use Rattle.building.proofs.Marks.{next-later, next-found, not_end}
 use Rattle.building.proofs.next_marked.Goals as goal
@@ -16,13 +16,3 @@ returns c =
     let h = c.loop-i in
     let a = c.args in
     sym (next-found a.marks.now h.i a.m h.invariant.0 c.loop-i-test.false) ∙ h.invariant.3
-
-pub loop-i-init : goal.loop-i-init
-loop-i-init c =
-    (c.requires.0, c.requires.1, c.requires.2, refl)
-
-pub loop-i-smaller : goal.loop-i-smaller
-loop-i-smaller c =
-    let h = c.loop-i in
-    let l = not_end c.args.marks.now h.i c.args.m h.invariant.0 h.invariant.2 c.loop-i-test.true in
-    omega arith

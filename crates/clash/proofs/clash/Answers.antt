@@ -1,37 +1,37 @@
 -- `clash::clash` meets its contract.
-use Rattle.words.proofs.Vocabulary.{sym, subst, ◌∙◌, arith}
-use Rattle.rules.proofs.Rules.{work-cleared}
+use Rattle.words.proofs.Vocabulary.{sym, subst, ap, ◌∙◌, arith}
+use Rattle.std.proofs.lemmas.Result.{err_from_is_err_and}
 use Rattle.trying.specs.Trying.{Triable}
-use Rattle.clash.specs.Clashes.{trial_room}
+use Rattle.clash.specs.Clashes.{refusal_in}
 use Rattle.clash.proofs.Clashing.{early-free, ends-refused, ends-told, promised}
 use Rattle.clash.proofs.clash.Goals as goal
 
-pub returns-in_default : goal.returns-in_default
-returns-in_default c =
+pub returns-in_err-parts : goal.returns-in_err-parts
+returns-in_err-parts c =
     let a = c.args in
-    let all = promised a.rule.now a.c a.ws.now
-    (rw c.refused.ensures (ends-refused a.rule.now a.c a.ws.now c.clash_refusal-early.ensures.refusal_value c.in_default.not-Nothing)) in
-    record { value = all.0; ws_after = all.1.0; clash_claim = all.1.1 }
+    let p = err_from_is_err_and c.from_residual.result c.from_residual.ensures.1 in
+    rw (p.1, p.2) (promised a.rule.now a.c a.ws.now
+    (ends-refused a.rule.now a.c a.ws.now (sym c.clash_refusal.ensures.refusal_value ∙ ap refusal_in c.in_err-parts.was)))
 
-pub clash_accepted-a-requires : goal.clash_accepted-a-requires
-clash_accepted-a-requires c =
+pub clash_accepted-kept-requires : goal.clash_accepted-kept-requires
+clash_accepted-kept-requires c =
     let a = c.args in
-    let e = c.clash_refusal-early.ensures in
-    let w = early-free a.rule.now a.c a.ws.now (sym e.refusal_value ∙ c.in-Nothing.is) in
-    let l = e.listed c.in-Nothing.is in
+    let e = c.clash_refusal.ensures in
+    let w = early-free a.rule.now a.c a.ws.now (sym e.refusal_value ∙ ap refusal_in c.in_ok-parts.was) in
+    let l = rw c.in_ok-parts.was at e.listed in
     record { triable = w.0; listed = (l, omega (arith, l.counted, w.1)) }
 
-pub clear_trials-requires : goal.clear_trials-requires
-clear_trials-requires c =
+pub clear_work-requires : goal.clear_work-requires
+clear_work-requires c =
     let a = c.args in
-    subst (Triable a.rule.now a.c) (sym c.clash_accepted-a.auto.ws)
-    (early-free a.rule.now a.c a.ws.now (sym c.clash_refusal-early.ensures.refusal_value ∙ c.in-Nothing.is)).0
+    let w : Triable a.rule.now a.c _ = subst (Triable a.rule.now a.c) (sym c.clash_accepted-kept.auto.ws)
+    (early-free a.rule.now a.c a.ws.now (sym c.clash_refusal.ensures.refusal_value ∙ ap refusal_in c.in_ok-parts.was)).0 in
+    record { workable = w.work; more_bound = (omega arith, w.long) }
 
 pub returns : goal.returns
 returns c =
     let a = c.args in
-    let v = c.clash_accepted-a.ensures in
-    let all = promised a.rule.now a.c a.ws.now
-    (ends-told a.rule.now a.c a.ws.now (sym c.clash_refusal-early.ensures.refusal_value ∙ c.in-Nothing.is) v.value
-    (work-cleared (trial_room a.rule.now a.c) a.ws.now _ v.ws_unchanged c.clear_trials.ensures)) in
-    record { value = all.0; ws_after = all.1.0; clash_claim = all.1.1 }
+    let v = c.clash_accepted-kept.ensures in
+    promised a.rule.now a.c a.ws.now
+    (ends-told a.rule.now a.c a.ws.now (sym c.clash_refusal.ensures.refusal_value ∙ ap refusal_in c.in_ok-parts.was) v.value _ v.ws_unchanged
+    c.clear_work.ensures)

@@ -1,80 +1,89 @@
 -- `clash::clash_accepted` meets its contract.
-use Rattle.words.proofs.Vocabulary.{ℕ, ◌-◌, ◌≤◌, ◌<◌, ◌≡◌, sym, ap, subst, ◌∙◌, List, arith}
+use Rattle.words.proofs.Vocabulary.{ℕ, ◌-◌, ◌≡◌, ◌∙◌, sym, subst, List, arith}
+use Rattle.std.specs.Prelude.{Ok}
+use Rattle.std.proofs.lemmas.Result.{err_from_is_err_and}
 use Rattle.building.specs.Build.{entry_of}
-use Rattle.building.specs.declared.Ending.TheVariants.{Ready}
 use Rattle.building.specs.declared.Machines.{Machines}
 use Rattle.records.specs.declared.Summary.{Summary}
 use Rattle.rule_strip.specs.RuleStrip.{count_of}
 use Rattle.rules.specs.Building.{BuiltRecords, Decider}
 use Rattle.rules.specs.Room.{Workable}
-use Rattle.rules.proofs.Rules.{rule-sizes, rule-machines, rule-decided}
+use Rattle.rules.proofs.Rules.{rule-sizes, rule-decided}
 use Rattle.trying.specs.Trying.{Triable}
-use Rattle.clash.proofs.Clashing.{built-beyond, own-over, own-satisfiable, own-tried}
+use Rattle.clash.proofs.Clashing.{built-beyond, trials-beyond, own-over, own-satisfiable, own-tried, kept-listed, over-listed}
 use Rattle.clash.proofs.clash_accepted.Goals as goal
 
--- there is a last record
-last : {rule : List ℕ} {c room : ℕ} → Workable rule c room → {m : ℕ} → m ≡ count_of rule → (1 ≤ m) × (m - 1 < 128)
-last w e = let z = rule-sizes w in (omega arith, omega arith)
-
--- its machine decides the rule
-decider : {rule : List ℕ} {c room : ℕ} → Workable rule c room → (t : Machines) (ws : List ℕ) → BuiltRecords rule c t ws → t.ending ≡ Ready
+-- the last record's machine decides the rule
+decider : {rule : List ℕ} {c room : ℕ} → Workable rule c room → (t : Machines) (ws : List ℕ) → BuiltRecords rule c (Ok t) ws
     → {m : ℕ} → m ≡ count_of rule → {k : Summary} → k ≡ entry_of t (m - 1) → Decider rule c k ws
-decider {rule} {c} w t ws b e f g =
-    subst (λ (k : Summary). Decider rule c k ws) (sym (g ∙ ap (λ i. entry_of t (i - 1)) f)) (rule-decided w t ws b e)
+decider w t ws b f g = rw (g, f) (rule-decided w t ws b)
+
+pub returns-in_err-machines : goal.returns-in_err-machines
+returns-in_err-machines c =
+    let a = c.args in
+    let v = c.build_records.ensures in
+    let p = err_from_is_err_and c.from_residual.result c.from_residual.ensures.1 in
+    rw (p.1, p.2)
+    (record {
+      value = own-over c.requires.triable _ (rw c.in_err-machines.was at v.built_records);
+      ws_unchanged = built-beyond a.rule.now a.c a.ws.now _ v.ws_unchanged;
+    })
+
+pub overflow_sub-count_of : goal.overflow_sub-count_of
+overflow_sub-count_of c =
+    omega (arith, c.count_of.ensures, rule-sizes c.requires.triable.work)
+
+pub kept-requires : goal.kept-requires
+kept-requires c =
+    omega (arith, c.count_of.ensures, rule-sizes c.requires.triable.work)
 
 pub satisfiable-requires : goal.satisfiable-requires
 satisfiable-requires c =
     let w = c.requires.triable.work in
-    let v = c.build_records-t in
-    let h = (decider w v.result _ v.ensures.built_records c.in-Ready.is c.count_of-last.ensures c.kept.ensures).last.readable.stored in
+    let b = rw c.in_ok-machines.was at c.build_records.ensures.built_records in
+    let h = (decider w c.in_ok-machines.machines _ b c.count_of.ensures c.kept.ensures).last.readable.stored in
     omega (arith, h.count, h.few, w.few-states)
 
 pub returns-then-satisfiable : goal.returns-then-satisfiable
 returns-then-satisfiable c =
     let a = c.args in
     let t = c.requires.triable in
-    let v = c.build_records-t in
-    let d = decider t.work v.result _ v.ensures.built_records c.in-Ready.is c.count_of-last.ensures c.kept.ensures in record {
-      value = c.refused-then-satisfiable.ensures ∙ own-satisfiable t d c.satisfiable.ensures c.if-satisfiable.true;
-      ws_unchanged = built-beyond a.rule.now a.c a.ws.now _ v.ensures.ws_unchanged;
-    }
-
-pub list_kept-requires : goal.list_kept-requires
-list_kept-requires c =
-    let p = c.requires in
-    let v = c.build_records-t in record {
-      triable = subst (Triable c.args.rule.now c.args.c) (sym v.auto.ws) p.triable;
-      reached_built = (rule-machines p.triable.work v.result _ v.ensures.built_records c.in-Ready.is).1;
-      listed = p.listed;
-    }
-
-pub returns-in-Over : goal.returns-in-Over
-returns-in-Over c =
-    let a = c.args in
-    let v = c.build_records-t.ensures in record {
-      value = c.refused.ensures ∙ own-over c.requires.triable _ (rw c.in-Over.is at v.built_records);
+    let v = c.build_records.ensures in
+    let d = decider t.work c.in_ok-machines.machines _ (rw c.in_ok-machines.was at v.built_records) c.count_of.ensures c.kept.ensures in record {
+      value = own-satisfiable t d c.satisfiable.ensures c.if-satisfiable.true;
       ws_unchanged = built-beyond a.rule.now a.c a.ws.now _ v.ws_unchanged;
     }
 
-pub returns-else-satisfiable : goal.returns-else-satisfiable
-returns-else-satisfiable c =
-    let a = c.args in
-    let t = c.requires.triable in
-    let v = c.build_records-t in
-    let d = decider t.work v.result _ v.ensures.built_records c.in-Ready.is c.count_of-last.ensures c.kept.ensures in
-    let l = c.list_kept.ensures in record {
-      value = l.value ∙ own-tried t d c.satisfiable.ensures c.if-satisfiable.false;
-      ws_unchanged = l.ws_unchanged ∙ built-beyond a.rule.now a.c a.ws.now _ v.ensures.ws_unchanged;
+pub try_parts-requires : goal.try_parts-requires
+try_parts-requires c =
+    let p = c.requires in
+    let v = c.build_records in record {
+      triable = subst (Triable c.args.rule.now c.args.c) (sym v.auto.ws) p.triable;
+      reached_built = (rw c.in_ok-machines.was at v.ensures.built_records).1;
+      listed = p.listed;
     }
 
-pub count_of-last-requires : goal.count_of-last-requires
-count_of-last-requires c =
-    (rule-sizes c.requires.triable.work).0
+pub returns-in_err-kept : goal.returns-in_err-kept
+returns-in_err-kept c =
+    let a = c.args in
+    let t = c.requires.triable in
+    let v = c.build_records.ensures in
+    let l = c.try_parts.ensures in
+    let d = decider t.work c.in_ok-machines.machines _ (rw c.in_ok-machines.was at v.built_records) c.count_of.ensures c.kept.ensures in
+    let p = err_from_is_err_and c.from_residual-in_err-kept.result c.from_residual-in_err-kept.ensures.1 in
+    rw (p.1, p.2)
+    (record {
+      value = over-listed a.rule.now a.c _ (rw c.in_err-kept.was at l.tried_all) ∙ own-tried t d c.satisfiable.ensures c.if-satisfiable.false;
+      ws_unchanged = trials-beyond t l.confined ∙ built-beyond a.rule.now a.c a.ws.now _ v.ws_unchanged;
+    })
 
-pub overflow_sub-last : goal.overflow_sub-last
-overflow_sub-last c =
-    (last c.requires.triable.work c.count_of-last.ensures).0
-
-pub kept-requires : goal.kept-requires
-kept-requires c =
-    (last c.requires.triable.work c.count_of-last.ensures).1
+pub returns : goal.returns
+returns c =
+    let a = c.args in
+    let t = c.requires.triable in
+    let v = c.build_records.ensures in
+    let l = c.try_parts.ensures in
+    let d = decider t.work c.in_ok-machines.machines _ (rw c.in_ok-machines.was at v.built_records) c.count_of.ensures c.kept.ensures in record {
+      value = kept-listed a.rule.now a.c _ (rw c.in_ok-kept.was at l.tried_all) ∙ own-tried t d c.satisfiable.ensures c.if-satisfiable.false;
+      ws_unchanged = trials-beyond t l.confined ∙ built-beyond a.rule.now a.c a.ws.now _ v.ws_unchanged;
+    }

@@ -16,17 +16,15 @@ loop-k-init c =
       within = omega arith;
       long = refl;
       room = c.requires.plan_room;
-      rows = record { left-long = refl; right-long = refl };
       full = refl;
       found = omega arith;
       guided = λ few. rw (le-leb 1 c.args.p.shape.ceiling shape.some-state) c.requires.guided;
       visited = visited-idle [] (omega (arith, shape.some-state)) nil;
     }
 
-pub visit_ring-b-requires : goal.visit_ring-b-requires
-visit_ring-b-requires c =
-    let i = c.loop-k.invariant in
-    let few = c.if-c-b.false in record { plan_room = i.room; k_lt_count = (c.loop-k-test.true, few); guided = rw i.visited.kept.low (i.guided few); full_rows = i.rows }
+pub visit_ring-b-requires-clause-guided : goal.visit_ring-b-requires-clause-guided
+visit_ring-b-requires-clause-guided c =
+    let i = c.loop-k.invariant in rw i.visited.kept.low (i.guided c.if-p-b.false)
 
 pub loop-k-preserved : goal.loop-k-preserved
 loop-k-preserved c =
@@ -37,13 +35,12 @@ loop-k-preserved c =
     let few : h.b.count ≤ p.shape.ceiling = omega arith in
     let v = c.visit_ring-b in
     let shape = i.room.ranged.shape in
-    let full : length v.result.codes ≡ 64 = v.type_inv.1.1.0.1.0.1 in
-    let turn = rw i.visited.kept.low at v.ensures.visited in
+    let full : length v.result.codes ≡ 64 = omega arith in
+    let turn = rw i.visited.kept.low at v.ensures in
     record {
       within = omega arith;
       long = v.auto.ws ∙ i.long;
       room = subst (PlanRoom p) (sym v.auto.ws) i.room;
-      rows = v.ensures.full_rows_2;
       full = full;
       found = omega (arith, turn.more);
       guided = λ few₁.
@@ -52,17 +49,9 @@ loop-k-preserved c =
       visited = rings-next _ h.k i.visited turn;
     }
 
-pub shape_of-ws-then-c-b : goal.shape_of-ws-then-c-b
-shape_of-ws-then-c-b c =
-    c.loop-k.invariant.long
-
-pub returns-then-c-b : goal.returns-then-c-b
-returns-then-c-b c =
-    let i = c.loop-k.invariant in explored _ i.room.ranged.shape i.within (inr c.if-c-b.true) i.visited
-
-pub shape_of-ws : goal.shape_of-ws
-shape_of-ws c =
-    c.loop-k.invariant.long
+pub returns-then-p-b : goal.returns-then-p-b
+returns-then-p-b c =
+    let i = c.loop-k.invariant in explored _ i.room.ranged.shape i.within (inr c.if-p-b.true) i.visited
 
 pub returns : goal.returns
 returns c =

@@ -1,22 +1,15 @@
--- `find` meets its contract. The invariant: the place of x is not before i.
-use Rattle.words.proofs.Vocabulary.{◌≡◌, take, arith}
-use Rattle.exploring.proofs.Place.{first_le, first-place, first-at}
-use Rattle.logic.specs.Reach.{position}
+-- `find` meets its contract.
+use Rattle.words.proofs.Vocabulary.{◌∙◌, take, rules, eqb}
+use borrow.Author.Tests.{tests}
+use Rattle.std.proofs.lemmas.Iterator.{YieldsList-from_slice}
+use Rattle.std.proofs.lemmas.Iterator.Search.{position_from_yields_List}
+use Rattle.exploring.proofs.Place.{first-place}
 use Rattle.exploring.proofs.find.Goals as goal
-
-pub returns-then-codes-i : goal.returns-then-codes-i
-returns-then-codes-i c =
-    let a = c.args in
-    let p = first-place a.x a.count a.codes.now (omega arith) c.loop-i.i c.loop-i-test.true c.if-codes-i.true in
-    omega arith
-
-pub loop-i-preserved : goal.loop-i-preserved
-loop-i-preserved c =
-    let a = c.args in
-    let no : position a.x (take a.count a.codes.now) ≡ c.loop-i.i → ⊥ = λ e.
-    c.if-codes-i.false (rw e at (first-at a.x a.count a.codes.now (omega arith) (omega arith))) in
-    (omega arith, omega arith)
 
 pub returns : goal.returns
 returns c =
-    let a = c.args in omega (arith, first_le a.x a.count a.codes.now)
+    let b = c.args.b.now in
+    let x = c.args.x in
+    let codes = take b.count b.codes in
+    position_from_yields_List (λ y. eqb y x) _ _ c.position.result c.position.ensures.ran (YieldsList-from_slice codes (cc)) (λ y b q k. search (rules, tests))
+    ∙ first-place x codes

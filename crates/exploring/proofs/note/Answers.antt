@@ -1,21 +1,20 @@
 -- `note` meets its contract.
-use Rattle.words.proofs.Vocabulary.{refl, arith}
-use Rattle.exploring.proofs.Place.{first_le}
+use Rattle.words.proofs.Vocabulary.{ℕ, ◌+◌, ◌≡◌, ◌∙◌, ap, [], ◌∷◌, set, take, arith}
+use Rattle.layout.specs.Shape.{place_in}
+use Rattle.std.specs.Option.{unwrap_or}
+use Rattle.exploring.specs.Explore.{place_of}
+use Rattle.exploring.proofs.Place.{place-or, place-new}
 use Rattle.exploring.proofs.note.Goals as goal
-
-pub returns-then-c-count : goal.returns-then-c-count
-returns-then-c-count c =
-    record { found = λ h. absurd (omega arith); written = λ h. absurd (omega arith); passed = λ h. (omega arith, refl) }
-
-pub locate-at-requires : goal.locate-at-requires
-locate-at-requires c =
-    (omega (arith, c.requires.plan_room.ranged.shape.ceiling), c.requires.l_bound.3, c.requires.distinct_codes (omega arith))
-
-pub enter-requires : goal.enter-requires
-enter-requires c =
-    let a = c.args in
-    let top = c.requires.plan_room.ranged.shape.ceiling in record { plan_room = c.requires.plan_room; l_bound = (c.requires.l_bound.0, omega arith, omega arith, omega (arith, first_le a.x a.count a.codes.now)) }
 
 pub returns : goal.returns
 returns c =
-    record { found = λ h. c.locate-at.ensures; written = λ h. c.enter.ensures; passed = λ h. absurd (omega arith) }
+    let a = c.args in
+    let b = a.b.now in
+    let at = place-or a.x b.count b.codes (omega arith) in
+    let found = c.locate-at.ensures in
+    let is : c.unwrap_or.result ≡ unwrap_or (place_of a.x (take b.count b.codes)) b.count = cc in
+    record {
+      found = λ h. place-new a.x b.count b.codes (omega arith) _ (rw found at c.is_none.ensures);
+      written = λ h. c.enter.ensures ∙ ap (λ (n : ℕ). set a.ws.now (a.p.base + place_in a.p.shape a.l (a.i ∷ a.j ∷ [])) n) (is ∙ at.0);
+      passed = λ h. absurd (omega arith);
+    }

@@ -1,14 +1,14 @@
 -- `start_code` meets its contract. Only "exists" has a start code other than 0.
 use Rattle.std.proofs.Common.{◌≢◌}
 use Rattle.words.proofs.Vocabulary.{ℕ, ◌≡◌, refl}
-use Rattle.table.specs.declared.plan.Kind.{Kind}
-use Rattle.table.specs.declared.plan.Kind.TheVariants.{Subset, Single, Child1, Child2, Root, Not, Or, And, Exists}
+use Rattle.ops.specs.declared.Op.{Op}
+use Rattle.ops.specs.declared.Op.TheVariants.{Subset, Single, Child1, Child2, Root, Not, Or, And, Exists}
 use Rattle.table.specs.Entry.{Step}
 use Rattle.table.specs.Succ.{start_code}
 use Rattle.exploring.proofs.start_code.Goals as goal
 
 -- any other kind starts at 0
-other : (k : Kind) (b : ℕ) (f : Step) (w : ℕ) → k ≢ Exists → 0 ≡ start_code k b f w
+other : (k : Op) (b : ℕ) (f : Step) (w : ℕ) → k ≢ Exists → 0 ≡ start_code k b f w
 unfolding start_code
 other Subset b f w h = refl
 other Single b f w h = refl

@@ -1,29 +1,26 @@
--- `import::read_body` meets its contract. Assumes nothing.
-use native.Mathlib.Omega.{arith}
-use Rattle.import.proofs.Whole.{body_undeclared, body_refused, body-read, ends-size}
-use Rattle.formulas.proofs.Levels.{looks-ready, tracked, counted, got-zero, refused-some}
+-- `import::read_body` meets its contract.
+use Rattle.std.proofs.Common.{refl}
+use Rattle.formulas.proofs.Levels.{passed}
+use Rattle.import.proofs.Whole.{body_undeclared, begun, formula-refused, end-refused, body-read}
 use Rattle.import.proofs.read_body.Goals as goal
 
-pub returns-then-declared-ne0 : goal.returns-then-declared-ne0
-returns-then-declared-ne0 c =
-    body_undeclared _ _ c.args.here.now c.requires.size c.if-declared-ne0.true (c.read_declarations-declared.ensures.refuses c.if-declared-ne0.true)
+pub returns-in_err-declared : goal.returns-in_err-declared
+returns-in_err-declared c = rw (passed c.from_residual.ensures.1) (body_undeclared _ _ c.in_err-declared.ensures)
 
-pub formula-sentence-requires : goal.formula-sentence-requires
-formula-sentence-requires c =
-    record { names_fit = (c.read_declarations-declared.ensures.declares c.if-declared-ne0.false).fit; at_token = looks-ready c.look.ensures; strength_bound = omega arith }
+pub returns-in_err-formula : goal.returns-in_err-formula
+returns-in_err-formula c =
+    let N = c.in_ok-declared.ensures in
+    rw (passed c.from_residual-in_err-formula.ensures.1)
+    (formula-refused c.args.reader.now c.requires N (begun N.text_is refl refl refl c.look.ensures) c.in_err-formula.ensures)
 
-pub returns-then-whole-ne0 : goal.returns-then-whole-ne0
-returns-then-whole-ne0 c =
-    body_refused _ _ (c.read_declarations-declared.ensures.declares c.if-declared-ne0.false) c.requires (tracked c.requires.size) c.look.ensures
-    c.formula-sentence.ensures c.end-whole.ensures (refused-some _ _ c.if-whole-ne0.true)
-
-pub put_free-requires : goal.put_free-requires
-put_free-requires c =
-    (c.read_declarations-declared.ensures.declares c.if-declared-ne0.false).fit.few
+pub returns-in_err-end : goal.returns-in_err-end
+returns-in_err-end c =
+    let N = c.in_ok-declared.ensures in
+    rw (passed c.from_residual-in_err-end.ensures.1)
+    (end-refused c.args.reader.now c.requires N (begun N.text_is refl refl refl c.look.ensures) c.in_ok-formula.ensures c.in_err-end.ensures)
 
 pub returns : goal.returns
 returns c =
-    let n = c.read_declarations-declared.ensures.declares c.if-declared-ne0.false in
-    let g = got-zero _ c.if-whole-ne0.false in
-    body-read _ _ n c.requires (tracked c.requires.size) c.look.ensures c.formula-sentence.ensures c.end-whole.ensures g c.put_free.ensures
-    (counted (ends-size _ _ n c.requires (tracked c.requires.size) c.look.ensures c.formula-sentence.ensures c.end-whole.ensures g))
+    let N = c.in_ok-declared.ensures in
+    body-read c.args.reader.now c.requires N (begun N.text_is refl refl refl c.look.ensures) c.in_ok-formula.ensures c.in_ok-end.ensures
+    c.put_free.ensures refl

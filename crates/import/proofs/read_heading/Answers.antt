@@ -1,11 +1,11 @@
--- `import::read_heading` meets its contract. Assumes nothing.
-use Rattle.import.proofs.Whole.{mark-there, mark-lacks, heading_told, heading_lacks}
+-- `import::read_heading` meets its contract.
+use Rattle.std.proofs.lemmas.Result.{err_from_is_err_and}
+use Rattle.import.proofs.Whole.{heading_told, heading_lacks}
 use Rattle.import.proofs.read_heading.Goals as goal
 
-pub returns-in-Stands : goal.returns-in-Stands
-returns-in-Stands c =
-    heading_told (mark-there c.read_mark.ensures c.in-Stands.is) c.read_mark-in-Stands.ensures
+pub returns-in_err-next : goal.returns-in_err-next
+returns-in_err-next c =
+    let p = err_from_is_err_and c.from_residual.result c.from_residual.ensures.1 in rw (p.1, p.2) (heading_lacks c.in_err-next.ensures)
 
-pub returns-in-Refused : goal.returns-in-Refused
-returns-in-Refused c =
-    heading_lacks (mark-lacks c.read_mark.ensures c.in-Refused.is)
+pub returns : goal.returns
+returns c = heading_told _ c.in_ok-next.ensures c.read_mark-2.ensures

@@ -1,16 +1,15 @@
--- `import::text_fault` meets its contract. Assumes nothing.
+-- `import::text_fault` meets its contract.
+use Rattle.std.proofs.lemmas.Result.{err_from_is_err_and}
 use Rattle.import.proofs.Outcomes.{fault-many, fault-none, fault-token}
-use Rattle.formulas.proofs.Levels.{got-zero, refused-some}
 use Rattle.import.proofs.text_fault.Goals as goal
 
-pub returns-then-refusal-ne0 : goal.returns-then-refusal-ne0
-returns-then-refusal-ne0 c =
-    fault-token _ c.read_text-refusal.ensures (refused-some _ _ c.if-refusal-ne0.true) c.size.ensures
+pub returns-in_err-read_text : goal.returns-in_err-read_text
+returns-in_err-read_text c =
+    let p = err_from_is_err_and c.from_residual.result c.from_residual.ensures.1 in
+    rw (p.1, p.2, ← c.new-reader.ensures.text_value) (fault-token _ c.in_err-read_text.ensures)
 
-pub returns-then-here-gt128 : goal.returns-then-here-gt128
-returns-then-here-gt128 c =
-    fault-many _ c.read_text-refusal.ensures (got-zero _ c.if-refusal-ne0.false) c.if-here-gt128.true
+pub returns-then-reader-gt128 : goal.returns-then-reader-gt128
+returns-then-reader-gt128 c = rw (← c.new-reader.ensures.text_value) (fault-many _ c.in_ok-read_text.ensures c.if-reader-gt128.true)
 
 pub returns : goal.returns
-returns c =
-    fault-none _ c.read_text-refusal.ensures (got-zero _ c.if-refusal-ne0.false) c.if-here-gt128.false
+returns c = rw (← c.new-reader.ensures.text_value) (fault-none _ c.in_ok-read_text.ensures c.if-reader-gt128.false)

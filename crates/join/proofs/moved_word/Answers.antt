@@ -27,14 +27,6 @@ returns c =
     ∙ word_moved _ _ _ _ _ _ _ c.fields_at-f.ensures c.first_use.ensures c.second_use.ensures c.moved_field-first.ensures
     c.moved_field-second.ensures
 
-pub overflow_mul-i : goal.overflow_mul-i
-overflow_mul-i c =
-    let f = rule-accepted _ c.requires.s_value in omega arith
-
-pub overflow_add-i : goal.overflow_add-i
-overflow_add-i c =
-    let f = rule-accepted _ c.requires.s_value in omega arith
-
 pub first_use-requires : goal.first_use-requires
 first_use-requires c =
     (movable _ _ _ _ c.requires.s_value c.requires.i_bound c.requires.s_bound c.fields_at-f.ensures).known

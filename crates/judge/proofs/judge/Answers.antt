@@ -1,34 +1,34 @@
 -- `judge::judge` meets its contract.
-use Rattle.words.proofs.Vocabulary.{sym, subst, ◌∙◌}
-use Rattle.rules.specs.Room.{room_of, Workable}
-use Rattle.rules.proofs.Rules.{work-cleared}
+use Rattle.words.proofs.Vocabulary.{sym, subst, ◌∙◌, add-zero, arith}
+use Rattle.std.proofs.lemmas.Result.{err_from_is_err_and}
+use Rattle.rules.specs.Room.{Workable}
 use Rattle.judge.proofs.Judging.{early-free, ends-refused, ends-told, promised}
 use Rattle.judge.proofs.judge.Goals as goal
 
-pub returns-in_default : goal.returns-in_default
-returns-in_default c =
+pub returns-in_err-judge_refusal : goal.returns-in_err-judge_refusal
+returns-in_err-judge_refusal c =
     let a = c.args in
-    let all = promised a.rule.now a.c a.ws.now a.tree.now
-    (ends-refused a.rule.now a.c a.ws.now a.tree.now c.judge_refusal-refusal.ensures c.in_default.not-Nothing) in
-    record { value = all.0; ws_after = all.1.0; judge_claim = all.1.1 }
+    let p = err_from_is_err_and c.from_residual.result c.from_residual.ensures.1 in
+    rw (p.1, p.2) (promised a.rule.now a.c a.ws.now a.tree.now
+    (ends-refused a.rule.now a.c a.ws.now a.tree.now (sym c.judge_refusal.ensures ∙ c.in_err-judge_refusal.was)))
 
-pub judge_accepted-v-requires : goal.judge_accepted-v-requires
-judge_accepted-v-requires c =
+pub judge_accepted-answer-requires : goal.judge_accepted-answer-requires
+judge_accepted-answer-requires c =
     let a = c.args in
-    let free = early-free a.rule.now a.c a.ws.now a.tree.now (sym c.judge_refusal-refusal.ensures ∙ c.in-Nothing.is) in
+    let free = early-free a.rule.now a.c a.ws.now a.tree.now (sym c.judge_refusal.ensures ∙ c.in_ok-judge_refusal.was) in
     record { workable = free.0; accepted_tree = free.1 }
 
 pub clear_work-requires : goal.clear_work-requires
 clear_work-requires c =
     let a = c.args in
-    subst (Workable a.rule.now a.c) (sym c.judge_accepted-v.auto.ws)
-    (early-free a.rule.now a.c a.ws.now a.tree.now (sym c.judge_refusal-refusal.ensures ∙ c.in-Nothing.is)).0
+    let w : Workable a.rule.now a.c _ = subst (Workable a.rule.now a.c) (sym c.judge_accepted-answer.auto.ws)
+    (early-free a.rule.now a.c a.ws.now a.tree.now (sym c.judge_refusal.ensures ∙ c.in_ok-judge_refusal.was)).0 in
+    record { workable = w; more_bound = (omega arith, rw add-zero w.long) }
 
 pub returns : goal.returns
 returns c =
     let a = c.args in
-    let v = c.judge_accepted-v.ensures in
-    let all = promised a.rule.now a.c a.ws.now a.tree.now
-    (ends-told a.rule.now a.c a.ws.now a.tree.now (sym c.judge_refusal-refusal.ensures ∙ c.in-Nothing.is) v.value
-    (work-cleared (room_of a.rule.now a.c) a.ws.now _ v.ws_unchanged c.clear_work.ensures)) in
-    record { value = all.0; ws_after = all.1.0; judge_claim = all.1.1 }
+    let v = c.judge_accepted-answer.ensures in
+    promised a.rule.now a.c a.ws.now a.tree.now
+    (ends-told a.rule.now a.c a.ws.now a.tree.now (sym c.judge_refusal.ensures ∙ c.in_ok-judge_refusal.was) v.value _ v.ws_unchanged
+    (rw add-zero at c.clear_work.ensures))

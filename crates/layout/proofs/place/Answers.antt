@@ -8,19 +8,3 @@ returns c =
     let a = c.args in
     let h = place-small a.s c.requires.shaped a.l a.i (omega arith) (omega arith) in
     (sym (place-two a.s a.l a.i a.j), omega arith)
-
-pub overflow_mul-result : goal.overflow_mul-result
-overflow_mul-result c =
-    let a = c.args in omega (arith, place-small a.s c.requires.shaped a.l a.i (omega arith) (omega arith))
-
-pub overflow_add-result : goal.overflow_add-result
-overflow_add-result c =
-    let a = c.args in omega (arith, place-small a.s c.requires.shaped a.l a.i (omega arith) (omega arith))
-
-pub overflow_mul-result-2 : goal.overflow_mul-result-2
-overflow_mul-result-2 c =
-    let a = c.args in omega (arith, place-small a.s c.requires.shaped a.l a.i (omega arith) (omega arith))
-
-pub overflow_add-result-2 : goal.overflow_add-result-2
-overflow_add-result-2 c =
-    let a = c.args in omega (arith, place-small a.s c.requires.shaped a.l a.i (omega arith) (omega arith))

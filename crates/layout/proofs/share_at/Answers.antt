@@ -4,11 +4,6 @@ use Rattle.layout.specs.Shape.{share_at}
 use Rattle.layout.proofs.Places.{shares_small}
 use Rattle.layout.proofs.share_at.Goals as goal
 
-pub overflow_mul-result : goal.overflow_mul-result
-unfolding share_at
-overflow_mul-result c =
-    rw c.share.ensures.0 (omega (arith, shares_small c.args.s c.requires.shaped c.args.r c.requires.r_bound))
-
 pub returns : goal.returns
 unfolding share_at
 returns c =

@@ -4,23 +4,18 @@ use Rattle.layout.specs.Slots.{slot_place}
 use Rattle.layout.proofs.Slots.{SmallParts, slots_small}
 use Rattle.layout.proofs.slot_place.Goals as goal
 
-small : (c : goal.After-range-2) → let a = c.args in
-    SmallParts c.range.result c.range-2.result a.s.ceiling a.l a.a a.b a.d
+small : (c : goal.After-range-second) → let a = c.args in
+    SmallParts c.range-first.result c.range-second.result a.s.ceiling a.l a.a a.b a.d
 small c =
-    slots_small c.args.s c.requires.shaped _ _ c.args.l _ _ _ c.range.ensures c.range-2.ensures c.requires.l_bound.0 c.requires.l_bound.1
+    slots_small c.args.s c.requires.shaped _ _ c.args.l _ _ _ c.range-first.ensures c.range-second.ensures c.requires.l_bound.0 c.requires.l_bound.1
 
 pub overflow_mul-result : goal.overflow_mul-result
 overflow_mul-result c =
-    omega (arith, slots_small c.args.s c.requires.shaped _ _ c.args.l _ _ _ c.range.ensures refl c.requires.l_bound.0 c.requires.l_bound.1)
+    omega (arith, small c)
 
 pub overflow_add-result : goal.overflow_add-result
 overflow_add-result c =
-    omega (arith, slots_small c.args.s c.requires.shaped _ _ c.args.l _ _ _ c.range.ensures refl c.requires.l_bound.0 c.requires.l_bound.1)
-
-pub returns : goal.returns
-unfolding slot_place
-returns c =
-    (rw (c.range.ensures, c.range-2.ensures) refl, (small c).three_sum)
+    omega (arith, small c)
 
 pub overflow_mul-result-2 : goal.overflow_mul-result-2
 overflow_mul-result-2 c =
@@ -37,3 +32,8 @@ overflow_mul-result-3 c =
 pub overflow_add-result-3 : goal.overflow_add-result-3
 overflow_add-result-3 c =
     omega (arith, small c)
+
+pub returns : goal.returns
+unfolding slot_place
+returns c =
+    (rw (c.range-first.ensures, c.range-second.ensures) refl, (small c).three_sum)

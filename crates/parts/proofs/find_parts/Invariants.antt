@@ -2,8 +2,8 @@
 use Rattle.parts.proofs.Walking.{Walking, still_left}
 use Rattle.parts.proofs.find_parts.Given as goal
 
-abbrev pub invariant-loop-depth : goal.invariant-loop-depth
-invariant-loop-depth l = Walking l.rule l.parts l.marks l.stack l.depth l.count
+abbrev pub invariant-loop-i : goal.invariant-loop-i
+invariant-loop-i l = Walking l.rule l.parts.numbers l.marks l.stack l.parts.count
 
-abbrev pub decreases-loop-depth : goal.decreases-loop-depth
-decreases-loop-depth l = still_left l.rule l.marks l.depth
+abbrev pub decreases-loop-i : goal.decreases-loop-i
+decreases-loop-i l = still_left l.rule l.marks l.stack

@@ -1,36 +1,21 @@
--- `phrases::read_declarations` meets its contract. The loop's invariant is `Reached`; the measure is what is left of the text. Assumes nothing.
-use native.Mathlib.Omega.{arith}
-use Rattle.phrases.proofs.Declaring.{told-declared, reached-none, reached-last, reached-refused, reached-more, reached-onward}
+-- `read_declarations` meets its contract, from those of `token_at`, `declared_order` and `read_names`. Assumes nothing.
+use Rattle.std.proofs.lemmas.Result.{err_from_is_err_and}
+use Rattle.phrases.proofs.Declaring.{reached-none, reached-last, reached-refused, reached-more}
 use Rattle.phrases.proofs.read_declarations.Goals as goal
 
-pub returns-then-order-lt-VAR1 : goal.returns-then-order-lt-VAR1
-returns-then-order-lt-VAR1 c =
-    let k = c.if-order-lt-VAR1.true in
-    told-declared (reached-last c.loop-word.invariant c.token_at-word.ensures (λ z. omega arith) (λ z. omega arith)) c.declared.ensures
+pub loop-order-init : goal.loop-order-init
+loop-order-init c =
+    reached-none _ _ c.new.result c.new.ensures.text_value c.new.ensures.none
 
-pub returns-then-order-gt-VAR2 : goal.returns-then-order-gt-VAR2
-returns-then-order-gt-VAR2 c =
-    let k = c.if-order-gt-VAR2.true in
-    told-declared (reached-last c.loop-word.invariant c.token_at-word.ensures (λ z. omega arith) (λ z. omega arith)) c.declared-then-order-gt-VAR2.ensures
+pub returns-in_default : goal.returns-in_default
+returns-in_default c =
+    reached-last c.loop-order.invariant c.token_at-word.ensures c.in_default.ensures.0 c.in_default.ensures.1
 
-pub returns-then-read-ne0 : goal.returns-then-read-ne0
-returns-then-read-ne0 c =
-    reached-refused c.loop-word.invariant c.token_at-word.ensures c.if-order-lt-VAR1.false c.if-order-gt-VAR2.false c.read_names-read.ensures c.if-read-ne0.true
+pub returns-in_err-all : goal.returns-in_err-all
+returns-in_err-all c =
+    let p = err_from_is_err_and c.from_residual.result c.from_residual.ensures.1 in
+    rw (p.1, p.2) (reached-refused c.loop-order.invariant c.token_at-word.ensures c.in-Some.order c.in-Some.ensures c.in_err-all.ensures)
 
-pub loop-word-smaller : goal.loop-word-smaller
-loop-word-smaller c =
-    reached-onward c.loop-word.invariant c.token_at-word.ensures c.if-order-lt-VAR1.false c.if-order-gt-VAR2.false c.read_names-read.ensures
-    c.if-read-ne0.false
-
-pub loop-word-preserved : goal.loop-word-preserved
-loop-word-preserved c =
-    reached-more c.loop-word.invariant c.token_at-word.ensures c.if-order-lt-VAR1.false c.if-order-gt-VAR2.false c.read_names-read.ensures
-    c.if-read-ne0.false
-
-pub loop-word-init : goal.loop-word-init
-loop-word-init c =
-    reached-none _ _ _
-
-pub read_names-read-requires : goal.read_names-read-requires
-read_names-read-requires c =
-    c.loop-word.invariant.fit
+pub loop-order-preserved : goal.loop-order-preserved
+loop-order-preserved c =
+    reached-more c.loop-order.invariant c.token_at-word.ensures c.in-Some.order c.in-Some.ensures c.in_ok-all.ensures

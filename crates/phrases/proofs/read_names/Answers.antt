@@ -1,54 +1,25 @@
--- `phrases::read_names` meets its contract. The loop's invariant is `Listed`; the measure is what is left of the text. Assumes nothing.
-use native.Mathlib.Omega.{arith}
-use Rattle.phrases.proofs.Taking.{not_end, name-span}
-use Rattle.phrases.proofs.Declaring.{told-refused, told-declared, listed-none, listed-turned, listed-name, listed-room}
-use Rattle.phrases.proofs.Declaring.{listed_more, listed_lack, listed-done}
+-- `read_names` meets its contract, from those of `token_at`, `new_refusal` and `with`. Assumes nothing.
+use Rattle.std.proofs.lemmas.Result.{err_from_is_err_and}
+use Rattle.phrases.proofs.Declaring.{listed-turned, listed-room, listed_more, listed_lack, listed-done}
 use Rattle.phrases.proofs.read_names.Goals as goal
 
-pub returns-then-refusal-ne0 : goal.returns-then-refusal-ne0
-returns-then-refusal-ne0 c =
-    told-refused (listed-turned c.loop-all.invariant c.token_at-name.ensures c.new_refusal-refusal.ensures c.if-refusal-ne0.true)
-    c.if-refusal-ne0.true c.refused.ensures
+pub returns-in_err-new_refusal : goal.returns-in_err-new_refusal
+returns-in_err-new_refusal c =
+    let p = err_from_is_err_and c.from_residual.result c.from_residual.ensures.1 in
+    rw (p.1, p.2) (listed-turned c.loop-names.invariant c.token_at-name.ensures c.in_err-new_refusal.ensures.value c.in_err-new_refusal.ensures.at_token)
 
-pub bound-all-requires : goal.bound-all-requires
-bound-all-requires c =
-    listed-room c.loop-all.invariant c.token_at-name.ensures c.new_refusal-refusal.ensures c.if-refusal-ne0.false
+pub with-names-requires-clause-few : goal.with-names-requires-clause-few
+with-names-requires-clause-few c =
+    listed-room c.loop-names.names c.token_at-name.result c.in_ok-new_refusal.ensures.value
 
-pub overflow_add-count : goal.overflow_add-count
-overflow_add-count c =
-    let h = c.loop-all.invariant.fit.few in omega arith
+pub loop-names-preserved : goal.loop-names-preserved
+loop-names-preserved c =
+    listed_more c.loop-names.invariant c.token_at-name.ensures c.in_ok-new_refusal.ensures.value c.with-names.ensures c.token_at-mark.ensures c.in-Comma.is
 
-pub returns-then-mark-ne-SEMICOLON : goal.returns-then-mark-ne-SEMICOLON
-returns-then-mark-ne-SEMICOLON c =
-    told-refused
-    (listed_lack c.loop-all.invariant c.token_at-name.ensures c.new_refusal-refusal.ensures c.if-refusal-ne0.false
-    c.bound-all.ensures c.token_at-mark.ensures
-    c.if-mark-ne-COMMA.true c.if-mark-ne-SEMICOLON.true)
-    (λ z. omega arith) c.refused-then-mark-ne-SEMICOLON.ensures
+pub returns-in-Semicolon : goal.returns-in-Semicolon
+returns-in-Semicolon c =
+    listed-done c.loop-names.invariant c.token_at-name.ensures c.in_ok-new_refusal.ensures.value c.with-names.ensures c.token_at-mark.ensures c.in-Semicolon.is
 
-pub returns-then-mark-ne-COMMA : goal.returns-then-mark-ne-COMMA
-returns-then-mark-ne-COMMA c =
-    told-declared
-    (listed-done c.loop-all.invariant c.token_at-name.ensures c.new_refusal-refusal.ensures c.if-refusal-ne0.false
-    c.bound-all.ensures c.token_at-mark.ensures
-    c.if-mark-ne-COMMA.true c.if-mark-ne-SEMICOLON.false)
-    c.declared.ensures
-
-pub loop-all-smaller : goal.loop-all-smaller
-loop-all-smaller c =
-    let k = listed-name c.loop-all.invariant c.token_at-name.ensures c.new_refusal-refusal.ensures c.if-refusal-ne0.false in
-    omega (arith, c.token_at-name.ensures.onward (not_end k (omega arith)), c.token_at-mark.ensures.onward (not_end c.if-mark-ne-COMMA.false (omega arith)))
-
-pub loop-all-preserved : goal.loop-all-preserved
-loop-all-preserved c =
-    listed_more c.loop-all.invariant c.token_at-name.ensures c.new_refusal-refusal.ensures c.if-refusal-ne0.false
-    c.bound-all.ensures c.token_at-mark.ensures
-    c.if-mark-ne-COMMA.false
-
-pub loop-all-init : goal.loop-all-init
-loop-all-init c =
-    listed-none _ _ _ _ _ c.requires
-
-pub new_refusal-refusal-requires : goal.new_refusal-refusal-requires
-new_refusal-refusal-requires c =
-    record { names_fit = c.loop-all.invariant.fit; span = name-span c.token_at-name.ensures }
+pub returns-in_default : goal.returns-in_default
+returns-in_default c =
+    rw c.refused.ensures (listed_lack c.loop-names.invariant c.token_at-name.ensures c.in_ok-new_refusal.ensures.value c.with-names.ensures c.token_at-mark.ensures c.in_default.not-Comma c.in_default.not-Semicolon)

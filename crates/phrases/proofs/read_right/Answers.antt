@@ -1,21 +1,19 @@
--- `phrases::read_right` meets its contract, from those of `token_at` and `use_name`. Assumes nothing.
-use native.Mathlib.Omega.{arith}
-use Rattle.phrases.proofs.Taking.{name-span}
+-- `read_right` meets its contract, from those of `token_at` and `use_name`. Assumes nothing.
+use Rattle.std.proofs.lemmas.Result.{err_from_is_err_and}
+use Rattle.text.specs.declared.kinds.Kind.TheVariants as kind
+use Rattle.text.proofs.KindNumbers.{eq_true, eq_false}
 use Rattle.phrases.proofs.Atoms.{right-turned, right-sub, right-member}
 use Rattle.phrases.proofs.read_right.Goals as goal
 
-pub use_name-used-requires : goal.use_name-used-requires
-use_name-used-requires c =
-    record { names_fit = c.requires.names_fit; span = name-span c.token_at-t.ensures; le_order = (omega arith, omega arith) }
+pub returns-in_err-right : goal.returns-in_err-right
+returns-in_err-right c =
+    let p = err_from_is_err_and c.from_residual.result c.from_residual.ensures.1 in
+    rw (p.1, p.2) (right-turned _ _ _ _ c.token_at-t.ensures _ c.in_err-right.ensures)
 
-pub returns-then-used-ne0 : goal.returns-then-used-ne0
-returns-then-used-ne0 c =
-    right-turned c.token_at-t.ensures c.use_name-used.ensures c.args.kind c.if-used-ne0.true
+pub returns-then-eq : goal.returns-then-eq
+returns-then-eq c =
+    rw (eq_true c.args.kind kind.Sub c.if-eq.ensures) (right-sub _ _ _ _ c.token_at-t.ensures c.requires c.in_ok-right.ensures)
 
-pub returns-then-kind-eq-SUB : goal.returns-then-kind-eq-SUB
-returns-then-kind-eq-SUB c =
-    right-sub c.token_at-t.ensures c.use_name-used.ensures _ c.requires.left_bound c.if-used-ne0.false c.if-kind-eq-SUB.true
-
-pub returns : goal.returns
-returns c =
-    right-member c.token_at-t.ensures c.use_name-used.ensures _ c.requires.left_bound c.if-used-ne0.false c.if-kind-eq-SUB.false
+pub returns-else-eq : goal.returns-else-eq
+returns-else-eq c =
+    right-member _ _ _ _ c.token_at-t.ensures c.requires c.in_ok-right.ensures _ (eq_false _ _ c.if-eq.ensures)

@@ -6,4 +6,4 @@ use Rattle.reading.proofs.satisfiable.Goals as goal
 
 pub returns : goal.returns
 returns c =
-    λ s base m ws st. c.satisfiable.ensures ∙ ap₂ (λ (w n : ℕ). any_below (λ (q : ℕ). mem q w) n) st.accept st.count
+    λ s base m ws st. c.satisfiable.ensures ∙ ap₂ (λ (w n : ℕ). any_below (λ (q : ℕ). mem q w) n) st.accept (c.from.ensures ∙ st.count)

@@ -6,5 +6,4 @@ use Rattle.rule_strip.proofs.first_use.Goals as goal
 
 pub returns : goal.returns
 unfolding first_use
-returns c =
-    entry-there first_uses c.args.op Variable Unused c.requires
+returns c = entry-there first_uses c.args.op Variable Unused c.requires

@@ -1,10 +1,7 @@
--- `read_records` meets its contract. The loop's invariant is `Reached`; the measure is the number of records left. Assumes nothing.
+-- `read_records` meets its contract: record number i - 1 is read, and none before it has a fault. Assumes nothing.
 use Prim.Native.Nat.{◌-◌}
 use Rattle.rule_strip.proofs.RuleChecks.{Reached}
 use Rattle.rule_strip.proofs.read_records.Given as goal
 
 abbrev pub invariant-loop-i : goal.invariant-loop-i
-invariant-loop-i l = Reached l.s l.n l.m l.at l.i
-
-abbrev pub decreases-loop-i : goal.decreases-loop-i
-decreases-loop-i l = l.m - l.i
+invariant-loop-i l = Reached l.s l.n l.m (l.i - 1) l.last

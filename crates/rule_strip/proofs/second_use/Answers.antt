@@ -6,5 +6,4 @@ use Rattle.rule_strip.proofs.second_use.Goals as goal
 
 pub returns : goal.returns
 unfolding second_use
-returns c =
-    entry-there second_uses c.args.op Variable Unused c.requires
+returns c = entry-there second_uses c.args.op Variable Unused c.requires

@@ -1,41 +1,38 @@
 -- `mark_kind` meets its contract, by the byte at the place and those that follow. Assumes nothing.
-use mathlib.Core.Path.{refl, sym, ◌∙◌}
+use mathlib.Core.Path.{refl, ◌∙◌}
 use mathlib.Core.Bool.{true, false}
-use Rattle.tokens.proofs.Marks.{kind-arrow, kind_iff, kind-less, kind-branch, kind-single}
+use native.Mathlib.Omega.{arith}
+use Rattle.tokens.proofs.Marks.{kind-arrow, kind_iff, kind-branch, kind-single}
 use Rattle.tokens.proofs.mark_kind.Goals as goal
 
-pub returns-then-holds : goal.returns-then-holds
-returns-then-holds c =
-    kind-arrow _ _ c.requires true c.if-b-eq61.true (sym c.holds.ensures ∙ c.if-holds.true)
+pub returns-in-61 : goal.returns-in-61
+returns-in-61 c =
+    kind-arrow _ _ c.requires true c.in-61.is c.if-starts_with.ensures.value
 
-pub returns-then-b-eq61 : goal.returns-then-b-eq61
-returns-then-b-eq61 c =
-    kind-arrow _ _ c.requires false c.if-b-eq61.true (sym c.holds.ensures ∙ c.if-holds.false)
+pub returns-in-61-2 : goal.returns-in-61-2
+returns-in-61-2 c =
+    kind-arrow _ _ c.requires false c.in-61.is c.if-starts_with.ensures.value
 
-pub returns-then-holds-3 : goal.returns-then-holds-3
-returns-then-holds-3 c =
-    kind_iff _ _ c.requires true c.if-b-eq60.true (sym c.holds-then-b-eq60.ensures ∙ c.if-holds-2.true) (sym c.holds-then-holds-2.ensures ∙ c.if-holds-3.true)
+pub returns-in-60 : goal.returns-in-60
+returns-in-60 c =
+    kind_iff _ _ c.requires true c.in-60.is c.if-starts_with-2.ensures.value
 
-pub returns-else-holds-3 : goal.returns-else-holds-3
-returns-else-holds-3 c =
-    kind_iff _ _ c.requires false c.if-b-eq60.true (sym c.holds-then-b-eq60.ensures ∙ c.if-holds-2.true) (sym c.holds-then-holds-2.ensures ∙ c.if-holds-3.false)
+pub returns-in-60-2 : goal.returns-in-60-2
+returns-in-60-2 c =
+    kind_iff _ _ c.requires false c.in-60.is c.if-starts_with-2.ensures.value
 
-pub returns-else-holds-2 : goal.returns-else-holds-2
-returns-else-holds-2 c =
-    kind-less _ _ c.requires c.if-b-eq60.true (sym c.holds-then-b-eq60.ensures ∙ c.if-holds-2.false)
+pub returns-in-46 : goal.returns-in-46
+returns-in-46 c =
+    kind-branch _ _ c.requires true _ c.in-46.is c.if-starts_with-3.ensures.value refl
 
-pub returns-then-holds-4 : goal.returns-then-holds-4
-returns-then-holds-4 c =
-    kind-branch _ _ c.requires true _ c.if-b-eq46.true (sym c.holds-then-b-eq46.ensures ∙ c.if-holds-4.true) refl
+pub returns-in-46-2 : goal.returns-in-46-2
+returns-in-46-2 c =
+    kind-branch _ _ c.requires false true c.in-46.is c.if-starts_with-3.ensures.value c.if-starts_with-4.ensures.value
 
-pub returns-then-holds-5 : goal.returns-then-holds-5
-returns-then-holds-5 c =
-    kind-branch _ _ c.requires false true c.if-b-eq46.true (sym c.holds-then-b-eq46.ensures ∙ c.if-holds-4.false) (sym c.holds-then-b-eq46-2.ensures ∙ c.if-holds-5.true)
+pub returns-in-46-3 : goal.returns-in-46-3
+returns-in-46-3 c =
+    kind-branch _ _ c.requires false false c.in-46.is c.if-starts_with-3.ensures.value c.if-starts_with-4.ensures.value
 
-pub returns-then-b-eq46 : goal.returns-then-b-eq46
-returns-then-b-eq46 c =
-    kind-branch _ _ c.requires false false c.if-b-eq46.true (sym c.holds-then-b-eq46.ensures ∙ c.if-holds-4.false) (sym c.holds-then-b-eq46-2.ensures ∙ c.if-holds-5.false)
-
-pub returns : goal.returns
-returns c =
-    c.single_kind.ensures ∙ kind-single _ _ c.requires c.if-b-eq61.false c.if-b-eq60.false c.if-b-eq46.false
+pub returns-in_default : goal.returns-in_default
+returns-in_default c =
+    c.single_kind.ensures ∙ kind-single _ _ c.requires (λ e. omega arith) (λ e. omega arith) (λ e. omega arith)

@@ -2,7 +2,8 @@
 use mathlib.Core.Path.{sym, ◌∙◌, ap}
 use native.Mathlib.Omega.{arith}
 use Rattle.text.specs.Token.{words}
-use Rattle.tokens.specs.Tokens.{part, packed_kind}
+use Rattle.tokens.specs.Spans.{part}
+use Rattle.tokens.specs.Tokens.{packed_kind}
 use Rattle.tokens.proofs.Parts.{bytes-part}
 use Rattle.tokens.proofs.Spelled.{word-packed, word-long}
 use Rattle.tokens.proofs.word_kind.Goals as goal

@@ -1,10 +1,11 @@
 -- `part_label` meets its contract. The invariant: the classes part those at the start.
 use Rattle.words.proofs.Vocabulary.{◌-◌}
-use Rattle.joining.specs.Parting.{state_in, Respected, Refines, total}
+use Rattle.joining.specs.Parting.{total}
+use Rattle.joining.specs.Machines.{PartsAt}
 use Rattle.joining.proofs.parting.part_label.Given as goal
 
-abbrev pub invariant-loop-s : goal.invariant-loop-s
-invariant-loop-s l = Refines (Respected (state_in l.s l.table) l.s.branches l.n l.l) l.n l.initial.classes l.classes
+abbrev pub invariant-loop-l : goal.invariant-loop-l
+invariant-loop-l l = PartsAt l.machine l.l l.initial.classes.of l.classes.of
 
-abbrev pub decreases-loop-s : goal.decreases-loop-s
-decreases-loop-s l = 4096 - total l.classes 64
+abbrev pub decreases-loop-l : goal.decreases-loop-l
+decreases-loop-l l = 4096 - total l.classes.of 64

@@ -1,7 +1,7 @@
 -- `rules::build::build_records` meets its contract. Assumes nothing.
 use Rattle.rule_strip.specs.RuleStrip.{variables_of, count_of}
 use Rattle.rules.proofs.Rooms.{room_shares}
-use Rattle.rules.proofs.Rules.{rule-sizes, rule-shaped, rule_buildable, rule-built}
+use Rattle.rules.proofs.Rules.{rule-shaped, rule_buildable, rule-built}
 use Rattle.rules.proofs.build.build_records.Goals as goal
 
 pub build_all-requires : goal.build_all-requires
@@ -19,11 +19,3 @@ returns c =
       built_records = rule-built c.requires _ (rw e at c.decode-records.ensures) _ _ r.made_by c.build_all.auto.ws;
       ws_unchanged = rw (room_shares (variables_of c.args.rule.now) (count_of c.args.rule.now) c.args.c (rule-shaped c.requires)) at r.ws_unchanged;
     }
-
-pub variables_of-n-requires : goal.variables_of-n-requires
-variables_of-n-requires c =
-    (rule-sizes c.requires).0
-
-pub count_of-m-requires : goal.count_of-m-requires
-count_of-m-requires c =
-    (rule-sizes c.requires).0

@@ -13,14 +13,6 @@ returns c =
     rule_found c.requires.workable c.requires.decider c.variables_of.ensures c.shape_for-s.ensures c.count_of-last.ensures
     c.earliest.ensures
 
-pub variables_of-requires : goal.variables_of-requires
-variables_of-requires c =
-    (rule-sizes c.requires.workable).0
-
-pub count_of-last-requires : goal.count_of-last-requires
-count_of-last-requires c =
-    (rule-sizes c.requires.workable).0
-
 pub overflow_sub-last : goal.overflow_sub-last
 overflow_sub-last c =
     let z = rule-sizes c.requires.workable in omega (arith, c.count_of-last.ensures)

@@ -30,8 +30,7 @@ pub returns : goal.returns
 unfolding entry
 returns c =
     let a = c.args in
-    c.wide.ensures.0
-    ∙ ap (λ (n : ℕ). get_or a.low.now n 0)
+    c.from.ensures ∙ ap (λ (n : ℕ). get_or a.low.now n 0)
     (omega (arith, c.place.ensures.0, c.place-2.ensures.0, split a.sh a.l a.i a.j))
 
 pub place-requires : goal.place-requires

@@ -4,8 +4,5 @@ use Rattle.words.specs.Word.{mem}
 use Rattle.words.proofs.Members.{Walk}
 use Rattle.table.proofs.rows.union_of.Given as goal
 
-abbrev pub invariant-loop-left : goal.invariant-loop-left
-invariant-loop-left l = (l.r < 2 ^ 64) × Walk l.s l.rest l.left l.r (λ q t. mem q (get_or l.row t 0))
-
-abbrev pub decreases-loop-left : goal.decreases-loop-left
-decreases-loop-left l = l.left
+abbrev pub invariant-loop-t : goal.invariant-loop-t
+invariant-loop-t l = (l.r < 2 ^ 64) × Walk l.s l.t-iterator.rest l.r (λ q t. mem q (get_or l.row t 0))

@@ -1,4 +1,4 @@
--- `tree::read_end` meets its contract. Assumes nothing.
+-- `check::read_end` meets its contract. Assumes nothing.
 use native.Mathlib.Omega.{arith}
 use Rattle.tree_strip.proofs.TreeEnd.{bit-set, byte_left, none_left}
 use Rattle.tree_strip.proofs.check.read_end.Goals as goal

@@ -1,7 +1,0 @@
--- `report::line::put_count` meets its contract. Assumes nothing.
-use Rattle.report.proofs.Writing.{then}
-use Rattle.report.proofs.line.put_count.Goals as goal
-
-pub returns : goal.returns
-returns c =
-    then c.put_counted-next.ensures.put c.put_bytes.ensures
