@@ -119,7 +119,7 @@ says target/staticlib/libws2s.a ''
 cmp -s target/staticlib/libws2s.a "$copy/target/staticlib/libws2s.a" || stop 'the archive is not made as it was'
 
 # a proof in a folder, by a term that does not prove what is asked
-deep=$(first "$(grep -l '^returns c =$' crates/report/proofs/*/*/Answers.antt | head -n 1)") || exit
+deep=$(first "$(grep -l '^returns c =$' crates/report/proofs/*/*/*/Answers.antt | head -n 1)") || exit
 alter "$deep" '/^returns c =$/{s/$/ c/;q}'
 refused run "$deep broken" "$deep:"
 cp "$deep" "$copy/$deep"
