@@ -48,16 +48,17 @@ use Rattle.drafting.proofs.Sentences.{write-longer}
 use Rattle.formulas.specs.declared.Opener.{Opener}
 use Rattle.formulas.specs.declared.Opener.TheVariants.{Bracket, Denial, Quantified}
 use Rattle.formulas.specs.declared.Reader.{Reader as Held}
+use Rattle.formulas.specs.declared.Refused.{Refused}
 use Rattle.formulas.specs.Words.{opener_of, order_by, quantifier_by, mark_of}
-use Rattle.formulas.specs.Reading.{level_at, strength_of, bracket_at, quantified_at, Joining, left_at, Looks, refused_here}
+use Rattle.formulas.specs.Reading.{level_at, strength_of, bracket_at, quantified_at, Joining, left_at, Looks, Refuses}
 use Rattle.formulas.specs.Reading.{Told, told-got, told-refused, Reads, Leads, Closes, closes, lacks-closing}
 use Rattle.formulas.proofs.Strengths.{operator_of, join_of, mark-no_end, tighter_within, ahead, level-starts, spells-operator, write-join, tracks-join}
 use Rattle.formulas.proofs.Strengths.{then-then, implied, level-one, implied-none, implied-deep, implied_is, atom_is, operand-deep, negation_is, bracket_is}
 use Rattle.formulas.proofs.Strengths.{quantifier_is, closing, closing-there, closing-lacks, bracket-starts, write_quantified, tracks_quantified}
 
 -- what the exit of a `?` returns: the refusal that it met
-pub passed : {x : TokenFault} {r : Result Unit TokenFault} → IsErrAnd r (λ y. y ≡ x) → r ≡ Err x
-passed {x} {r} e = let p = err_from_is_err_and r e in p.1 ∙ ap Err p.2
+pub passed : {E : Type 0} {x : E} {r : Result Unit E} → IsErrAnd r (λ y. y ≡ x) → r ≡ Err x
+passed {x = x} {r} e = let p = err_from_is_err_and r e in p.1 ∙ ap Err p.2
 
 -- a refusal is one of whatever is read on
 pub refused-then : {A B : Type 0} {R : Read A} {x : TokenFault} (go : A → List Token → Read B) → RefusedAt R x → RefusedAt (read_then R go) x
@@ -67,6 +68,10 @@ refused-then {A} go w = record {
   start_is = w.start_is;
   stop_is = w.stop_is;
 }
+
+-- the fault that is kept is one of what is read
+fault-told : {A : Type 0} {R : Read A} {x : TokenFault} {h h' : Held} → Refuses x h h' → RefusedAt R x → RefusedAt R h'.fault
+fault-told {R = R} F w = subst (λ (y : TokenFault). RefusedAt R y) (sym F.fault_is) w
 
 -- the tokens of one text
 pub same-text : {ns ms : Names} → ms ≡ ns → (i : ℕ) → tokens_at ms.text.now i ≡ tokens_at ns.text.now i
@@ -101,9 +106,9 @@ module _ (h : Held) where
     stop_is = ap (λ (u : Token). u.stop) h.stands.stands;
   }
 
-  refused-there : {sc : Scope} {rs : List Record} {i h' : Held} {R : Read Sentence} → R ≡ leaves 23 (peek (left_at h))
-      → Told sc rs i h' R (refused_here h)
-  refused-there e = told-refused _ (refused_next e) refl
+  refused-there : {sc : Scope} {rs : List Record} {i h' : Held} {R : Read Sentence} {x : Refused} → Refuses (refused_at h.next reason.TextGrammar) h h'
+      → R ≡ leaves 23 (peek (left_at h)) → Told sc rs i h' R (Err x)
+  refused-there F e = told-refused _ (fault-told F (refused_next e)) refl
 
   -- unless it is the end, it is taken: what is looked at behind it is what is left
   module _ (z : h.next.kind ≡ kind.End → ⊥) {h' : Held} (L : Looks h.next.stop h h') where
@@ -128,10 +133,10 @@ module _ {sc : Scope} {rs : List Record} {h h' : Held} {R : Read Sentence} where
   told_is (told-refused x w q) = absurd cc
 
   -- a refusal is passed up by whatever comes after
-  pub told_up : {x : TokenFault} {sd : Scope} {ss : List Record} {i i' : Held} (go : Sentence → List Token → Read Sentence) → Told sc rs h h' R (Err x)
-      → Told sd ss i i' (read_then R go) (Err x)
-  told_up go (told-got f e q d m) = absurd cc
-  told_up go (told-refused x w q) = told-refused x (refused-then go w) q
+  pub told_up : {x : Refused} {sd : Scope} {ss : List Record} {i i' : Held} (go : Sentence → List Token → Read Sentence) → i'.fault ≡ h'.fault
+      → Told sc rs h h' R (Err x) → Told sd ss i i' (read_then R go) (Err x)
+  told_up go e (told-got f g q d m) = absurd cc
+  told_up go e (told-refused x w q) = told-refused x (subst (λ (y : TokenFault). RefusedAt (read_then R go) y) (sym e) (refused-then go w)) q
 
 -- a part was read, and records of the construct's own were put behind its records
 pub told_made : {sc sd : Scope} {rs ss : List Record} {h m h₂ h₃ : Held} {X : Read Sentence} (make : Sentence → Sentence) → left_at h₃ ≡ left_at h₂
@@ -148,16 +153,16 @@ left-same : {h h' : Held} → Same h h' → left_at h' ≡ left_at h
 left-same {h} {h'} S = rw (S.names_are, S.next_is) refl
 
 -- a strength by another number
-pub level_as : (d : ℕ) {a b : ℕ} {h h' : Held} {r : Result Unit TokenFault} → a ≡ b → Reads (level_at d a) h h' r → Reads (level_at d b) h h' r
+pub level_as : (d : ℕ) {a b : ℕ} {h h' : Held} {r : Result Unit Refused} → a ≡ b → Reads (level_at d a) h h' r → Reads (level_at d b) h h' r
 level_as d {h = h} {h'} {r} e X = subst (λ (k : ℕ). Reads (level_at d k) h h' r) e X
 
 -- ---- a refusal of a part is one of the whole formula
 
-refused-up : {part whole : Reader} {h h' : Held} {x : TokenFault} (go : Scope → Sentence → List Token → Read Sentence)
+refused-up : {part whole : Reader} {h h' : Held} {x : Refused} (go : Scope → Sentence → List Token → Read Sentence)
     → ((sc : Scope) (ts : List Token) → whole sc ts ≡ read_then (part sc ts) (go sc)) → Reads part h h' (Err x) → Reads whole h h' (Err x)
-refused-up go e X = record { tells = λ rs D l. rw (e _ _) (told_up _ (X.tells rs D l)); names_are = X.names_are; onward = λ q. absurd cc }
+refused-up go e X = record { tells = λ rs D l. rw (e _ _) (told_up _ refl (X.tells rs D l)); names_are = X.names_are; onward = λ q. absurd cc }
 
-module _ (d : ℕ) {h h' : Held} {x : TokenFault} where
+module _ (d : ℕ) {h h' : Held} {x : Refused} where
   weaker : (k : ℕ) → Reads (level_at d (suc k)) h h' (Err x) → Reads (level_at d k) h h' (Err x)
   unfolding level_at joined consequent_at
   weaker zero X = refused-up _ (λ sc ts. refl) X
@@ -203,7 +208,7 @@ module _ (d : ℕ) {o : Operator} (j : Joining o) {sc : Scope} {rs : List Record
         ∙ ap (λ (us : List Token). read_then (level_at d (suc (strength_of o)) sc us) (after (told_is w).sentence))
         (taken h' (λ z. mark-no_end j (sym e ∙ z)) L)
 
-    inside : {h₂ : Held} {r : Result Unit TokenFault} → length sc ≤ h.tracks → Reads (level_at d (suc (strength_of o))) m h₂ r
+    inside : {h₂ : Held} {r : Result Unit Refused} → length sc ≤ h.tracks → Reads (level_at d (suc (strength_of o))) m h₂ r
         → Told sc (write sc (told_is w).sentence rs) m h₂ (level_at d (suc (strength_of o)) sc (left_at m)) r
     inside {h₂} {r} l X =
         let i = told_is w in
@@ -213,9 +218,9 @@ module _ (d : ℕ) {o : Operator} (j : Joining o) {sc : Scope} {rs : List Record
         subst (λ (sd : Scope). Told sd (write sc i.sentence rs) m h₂ (level_at d (suc (strength_of o)) sd (left_at m)) r) s
         (X.tells _ (rw L.draft_is i.drafts) (rw s (omega arith)))
 
-    pub ahead-refused : {h₂ : Held} {x : TokenFault} → length sc ≤ h.tracks → Reads (level_at d (suc (strength_of o))) m h₂ (Err x)
+    pub ahead-refused : {h₂ : Held} {x : Refused} → length sc ≤ h.tracks → Reads (level_at d (suc (strength_of o))) m h₂ (Err x)
         → Told sc rs h h₂ (ahead d j sc R) (Err x)
-    ahead-refused l X = rw on (told_up _ (inside l X))
+    ahead-refused l X = rw on (told_up _ refl (inside l X))
 
     pub ahead_on : {h₂ h₃ : Held} → length sc ≤ h.tracks → Reads (level_at d (suc (strength_of o))) m h₂ (Ok tt) → Same h₂ h₃
         → Joins h₂.draft h'.draft.count h₃.draft (put_joined o)
@@ -250,7 +255,7 @@ joined-first j = record { operator = j; tells = λ rs i R w x. (R, refl, w); nam
 
 module _ {d : ℕ} {o : Operator} {h₀ h : Held} (J : Joined d o h₀ h) where
   -- what comes of what was read so far comes of the first operand, which any reader left
-  lifted : {h' : Held} {r : Result Unit TokenFault}
+  lifted : {h' : Held} {r : Result Unit Refused}
       → ((rs : List Record) (i : Held) (R : Read Sentence) → Told (scope_of h₀.names) rs i h R (Ok tt) → length (scope_of h₀.names) ≤ i.tracks
       → Told (scope_of h₀.names) rs i h' (ahead d J.operator (scope_of h₀.names) R) r)
       → h'.names ≡ h₀.names → (r ≡ Ok tt → h₀.next.start ≤ h'.next.start)
@@ -288,7 +293,7 @@ module _ {d : ℕ} {o : Operator} {h₀ h : Held} (J : Joined d o h₀ h) where
         → length h₂.names.text.now - h₂.next.start < length h.names.text.now - h.next.start
     joined-less X = let b = beyond h no_end L in let c = X.onward refl in rw (X.names_are ∙ L.names_are) (omega arith)
 
-    pub joined-refused : {h₂ : Held} {x : TokenFault} → Reads (level_at d (suc (strength_of o))) m h₂ (Err x)
+    pub joined-refused : {h₂ : Held} {x : Refused} → Reads (level_at d (suc (strength_of o))) m h₂ (Err x)
         → Leads (level_at d (suc (strength_of o))) (level_at d (strength_of o)) h₀ h₂ (Err x)
     joined-refused X =
         lifted (λ rs i R w l. ahead-refused d J.operator w e L (ap scope_of J.names_are) l X) (X.names_are ∙ L.names_are ∙ J.names_are) (λ q. absurd cc)
@@ -315,10 +320,11 @@ module _ {h : Held} where
   }
 
   module _ (e : h.next.kind ≡ kind.Implies) where
-    pub arrow-deep : (d : ℕ) → d ≡ 0 → Leads (level_at d 2) (level_at d 1) h h (refused_here h)
-    arrow-deep d z = rw z (λ i X. record {
-      tells = λ rs D l. let w = X.tells rs D l in refused-there h (whole_is 0 w ∙ implied-deep _ (told_is w).sentence (left_at h) (kind-same h e));
-      names_are = X.names_are;
+    pub arrow-deep : (d : ℕ) → d ≡ 0 → {h' : Held} {x : Refused} → Refuses (refused_at h.next reason.TextGrammar) h h'
+        → Leads (level_at d 2) (level_at d 1) h h' (Err x)
+    arrow-deep d z F = rw z (λ i X. record {
+      tells = λ rs D l. let w = X.tells rs D l in refused-there h F (whole_is 0 w ∙ implied-deep _ (told_is w).sentence (left_at h) (kind-same h e));
+      names_are = F.names_are ∙ X.names_are;
       onward = λ q. absurd cc;
     })
 
@@ -333,7 +339,7 @@ module _ {h : Held} where
             ∙ ap (λ (us : List Token). read_then (level_at d 1 sc us) (λ g us. got (implies (told_is w).sentence g) us))
             (ap rest (sym (left-same S)) ∙ taken m no-end L)
 
-        right-side : {h₂ : Held} {r : Result Unit TokenFault} → scope_of h.names ≡ sc → length sc ≤ i.tracks → Reads (level_at d 1) n h₂ r
+        right-side : {h₂ : Held} {r : Result Unit Refused} → scope_of h.names ≡ sc → length sc ≤ i.tracks → Reads (level_at d 1) n h₂ r
             → Told sc (put_not (write sc (told_is w).sentence rs)) n h₂ (level_at d 1 sc (left_at n)) r
         right-side {h₂} {r} x l Y =
             let s : scope_of n.names ≡ sc = ap scope_of (L.names_are ∙ S.names_are) ∙ x in
@@ -343,10 +349,10 @@ module _ {h : Held} where
             subst (λ (sd : Scope). Told sd fs n h₂ (level_at d 1 sd (left_at n)) r) s
             (Y.tells fs (subst (λ (e : Draft). Drafted e fs) (sym L.draft_is) (N _ (told_is w).drafts)) (rw s (omega arith)))
 
-      pub arrow-refused : {d k : ℕ} {h₂ : Held} {x : TokenFault} → d ≡ suc k → Reads (level_at k 1) n h₂ (Err x)
+      pub arrow-refused : {d k : ℕ} {h₂ : Held} {x : Refused} → d ≡ suc k → Reads (level_at k 1) n h₂ (Err x)
           → Leads (level_at d 2) (level_at d 1) h h₂ (Err x)
       arrow-refused {k = k} q Y = rw q (λ i X. record {
-        tells = λ rs D l. let w = X.tells rs D l in rw (arrow-starts k w) (told_up _ (right-side k w (ap scope_of X.names_are) l Y));
+        tells = λ rs D l. let w = X.tells rs D l in rw (arrow-starts k w) (told_up _ refl (right-side k w (ap scope_of X.names_are) l Y));
         names_are = Y.names_are ∙ L.names_are ∙ S.names_are ∙ X.names_are;
         onward = λ q. absurd cc;
       })
@@ -377,7 +383,7 @@ module _ {h : Held} where
 -- ---- operands
 
 -- by another reader of the same tokens
-by : {read whole : Reader} {h h' : Held} {r : Result Unit TokenFault} → ((sc : Scope) → whole sc (left_at h) ≡ read sc (left_at h)) → Reads read h h' r
+by : {read whole : Reader} {h h' : Held} {r : Result Unit Refused} → ((sc : Scope) → whole sc (left_at h) ≡ read sc (left_at h)) → Reads read h h' r
     → Reads whole h h' r
 by e X = record { tells = λ rs D l. rw (e _) (X.tells rs D l); names_are = X.names_are; onward = X.onward }
 
@@ -390,7 +396,7 @@ module _ {h m : Held} {p : Opener} (e : opener_of h.next.kind ≡ Some p) (L : L
   inner-left = taken h (opens-no_end e) L
 
   -- what is read from there on
-  inner-told : {part : Reader} {h₂ : Held} {r : Result Unit TokenFault} → Reads part m h₂ r → (rs : List Record) → Drafted h.draft rs
+  inner-told : {part : Reader} {h₂ : Held} {r : Result Unit Refused} → Reads part m h₂ r → (rs : List Record) → Drafted h.draft rs
       → length (scope_of h.names) ≤ h.tracks → Told (scope_of h.names) rs m h₂ (part (scope_of h.names) (left_at m)) r
   inner-told {part} {h₂} {r} X rs D l =
       let s : scope_of m.names ≡ scope_of h.names = ap scope_of L.names_are in
@@ -401,18 +407,18 @@ module _ {h m : Held} {p : Opener} (e : opener_of h.next.kind ≡ Some p) (L : L
   inner-onward = let b = (beyond h (opens-no_end e) L).0 in omega arith
 
 module _ {h : Held} where
-  pub operand-atom : (d : ℕ) {h' : Held} {r : Result Unit TokenFault} → opener_of h.next.kind ≡ None → Reads atom_of h h' r → Reads (level_at d 4) h h' r
+  pub operand-atom : (d : ℕ) {h' : Held} {r : Result Unit Refused} → opener_of h.next.kind ≡ None → Reads atom_of h h' r → Reads (level_at d 4) h h' r
   operand-atom d e X = by {read = atom_of} (λ sc. atom_is sc (left_at h) h.next.kind (kind_is h) e d refl) X
 
   module _ {p : Opener} (e : opener_of h.next.kind ≡ Some p) where
-    pub operand_deep : (d : ℕ) → d ≡ 0 → Reads (level_at d 4) h h (refused_here h)
-    operand_deep d z = rw z (record {
-      tells = λ rs D l. refused-there h (operand-deep _ (left_at h) h.next.kind (kind_is h) e p refl);
-      names_are = refl;
+    pub operand_deep : (d : ℕ) → d ≡ 0 → {h' : Held} {x : Refused} → Refuses (refused_at h.next reason.TextGrammar) h h' → Reads (level_at d 4) h h' (Err x)
+    operand_deep d z F = rw z (record {
+      tells = λ rs D l. refused-there h F (operand-deep _ (left_at h) h.next.kind (kind_is h) e p refl);
+      names_are = F.names_are;
       onward = λ q. absurd cc;
     })
 
-  module _ {d k : ℕ} (q : d ≡ suc k) {h' : Held} {r : Result Unit TokenFault} where
+  module _ {d k : ℕ} (q : d ≡ suc k) {h' : Held} {r : Result Unit Refused} where
     pub operand-bracket : opener_of h.next.kind ≡ Some Bracket → Reads (bracket_at k) h h' r → Reads (level_at d 4) h h' r
     operand-bracket e X = rw q (by {read = bracket_at k} (λ sc. bracket_is sc (left_at h) h.next.kind (kind_is h) e k refl) X)
 
@@ -425,9 +431,9 @@ module _ {h : Held} where
         negation_is sc (left_at h) h.next.kind (kind_is h) e k refl
         ∙ ap (λ (us : List Token). read_then (level_at k 4 sc us) (λ f us. got (denied f) us)) (inner-left e L)
 
-    pub operand_not-refused : {h₂ : Held} {x : TokenFault} → Reads (level_at k 4) m h₂ (Err x) → Reads (level_at d 4) h h₂ (Err x)
+    pub operand_not-refused : {h₂ : Held} {x : Refused} → Reads (level_at k 4) m h₂ (Err x) → Reads (level_at d 4) h h₂ (Err x)
     operand_not-refused X = rw q (record {
-      tells = λ rs D l. rw denial-starts (told_up _ (inner-told e L X rs D l));
+      tells = λ rs D l. rw denial-starts (told_up _ refl (inner-told e L X rs D l));
       names_are = X.names_are ∙ L.names_are;
       onward = λ q. absurd cc;
     })
@@ -448,14 +454,14 @@ module _ (d : ℕ) {h m : Held} (e : opener_of h.next.kind ≡ Some Bracket) (L 
   starts : (sc : Scope) → bracket_at d sc (left_at h) ≡ read_then (level_at d 0 sc (left_at m)) (λ f us. closing f us)
   starts sc = bracket-starts d sc (left_at h) ∙ ap (λ (us : List Token). read_then (level_at d 0 sc us) closing) (inner-left e L)
 
-  pub bracket-refused : {h₂ : Held} {x : TokenFault} → Reads (level_at d 0) m h₂ (Err x) → Reads (bracket_at d) h h₂ (Err x)
+  pub bracket-refused : {h₂ : Held} {x : Refused} → Reads (level_at d 0) m h₂ (Err x) → Reads (bracket_at d) h h₂ (Err x)
   bracket-refused X = record {
-    tells = λ rs D l. rw starts (told_up _ (inner-told e L X rs D l));
+    tells = λ rs D l. rw starts (told_up _ refl (inner-told e L X rs D l));
     names_are = X.names_are ∙ L.names_are;
     onward = λ q. absurd cc;
   }
 
-  pub bracket-reads : {h₂ h₃ : Held} {r : Result Unit TokenFault} → Reads (level_at d 0) m h₂ (Ok tt) → Closes h₂ h₃ r → Reads (bracket_at d) h h₃ r
+  pub bracket-reads : {h₂ h₃ : Held} {r : Result Unit Refused} → Reads (level_at d 0) m h₂ (Ok tt) → Closes h₂ h₃ r → Reads (bracket_at d) h h₃ r
   bracket-reads {h₂} X (closes q k M) = record {
     tells = λ rs D l.
         let i = told_is (inner-told e L X rs D l) in
@@ -469,19 +475,20 @@ module _ (d : ℕ) {h m : Held} (e : opener_of h.next.kind ≡ Some Bracket) (L 
     names_are = M.names_are ∙ X.names_are ∙ L.names_are;
     onward = λ q. let a = X.onward refl in let b = inner-onward e L in let c = (beyond h₂ (λ z. absurd cc) M).0 in omega arith;
   }
-  bracket-reads {h₂} X (lacks-closing q z s) = rw (q, s) (record {
+  bracket-reads {h₂} X (lacks-closing y q z F) = rw q (record {
     tells = λ rs D l.
         let i = told_is (inner-told e L X rs D l) in
-        refused-there h₂ (starts _ ∙ ap (λ (S : Read Sentence). read_then S (λ f us. closing f us)) i.reads
+        refused-there h₂ F (starts _ ∙ ap (λ (S : Read Sentence). read_then S (λ f us. closing f us)) i.reads
         ∙ closing-lacks i.sentence (left_at h₂) (kind-other h₂ z));
-    names_are = X.names_are ∙ L.names_are;
+    names_are = F.names_are ∙ X.names_are ∙ L.names_are;
     onward = λ q. absurd cc;
   })
 
 -- ---- atoms
 
-pub atom-refused : {h h' : Held} {x : TokenFault} → Same h h' → RefusedAt (atom_of (scope_of h.names) (left_at h)) x → Reads atom_of h h' (Err x)
-atom-refused S w = record { tells = λ rs D l. told-refused _ w refl; names_are = S.names_are; onward = λ q. absurd cc }
+pub atom-refused : {h m h' : Held} {x : TokenFault} {y : Refused} → Same h m → Refuses x m h' → RefusedAt (atom_of (scope_of h.names) (left_at h)) x
+    → Reads atom_of h h' (Err y)
+atom-refused S F w = record { tells = λ rs D l. told-refused _ (fault-told F w) refl; names_are = F.names_are ∙ S.names_are; onward = λ q. absurd cc }
 
 -- its record is put, and the token behind it looked at
 pub atom-reads : {h m h' : Held} {a : AtomRead} → AtomIs h.names.text.now (scope_of h.names) h.next.start (atom_of (scope_of h.names) (left_at h)) a
@@ -530,13 +537,13 @@ module _ (d : ℕ) {q : Quantifier} (h : Held) (e : opener_of h.next.kind ≡ So
   unfolding quantified_at
   quantified_starts sc = rw (h.stands.goes_on (opens-no_end e)) refl
 
-  pub quantified_unbound : {h' : Held} {x : TokenFault} → Same h h'
+  pub quantified_unbound : {m h' : Held} {x : TokenFault} {y : Refused} → Same h m → Refuses x m h'
       → ((sc : Scope) → length sc ≡ h.names.count → (go : Name → List Token → Read Sentence)
       → RefusedAt (binder_of sc (tokens_at h.names.text.now h.next.stop) go) x)
-      → Reads (quantified_at d q) h h' (Err x)
-  quantified_unbound S w = record {
-    tells = λ rs D l. rw (quantified_starts (scope_of h.names)) (told-refused _ (w (scope_of h.names) (scope-length h.names) _) refl);
-    names_are = S.names_are;
+      → Reads (quantified_at d q) h h' (Err y)
+  quantified_unbound S F w = record {
+    tells = λ rs D l. rw (quantified_starts (scope_of h.names)) (told-refused _ (fault-told F (w (scope_of h.names) (scope-length h.names) _)) refl);
+    names_are = F.names_are ∙ S.names_are;
     onward = λ q. absurd cc;
   }
 
@@ -548,7 +555,7 @@ module _ (d : ℕ) {q : Quantifier} (h : Held) (e : opener_of h.next.kind ≡ So
         ∙ ap (λ (us : List Token). read_then (level_at d 0 (bound_scope q b h) us) (λ f us. got (bound-sentence q b h f) us))
         (ap (λ (s : List ℕ). tokens_at s b.next) (sym I.text_is) ∙ L.stands.skips ∙ same-text (sym L.names_are) n.next.start)
 
-    body-told : {h₂ : Held} {r : Result Unit TokenFault} → Reads (level_at d 0) n h₂ r → (rs : List Record) → Drafted h.draft rs
+    body-told : {h₂ : Held} {r : Result Unit Refused} → Reads (level_at d 0) n h₂ r → (rs : List Record) → Drafted h.draft rs
         → length (scope_of h.names) ≤ h.tracks → Told (bound_scope q b h) rs n h₂ (level_at d 0 (bound_scope q b h) (left_at n)) r
     body-told {h₂} {r} X rs D l =
         let s : scope_of n.names ≡ (bound_scope q b h) = ap scope_of L.names_are ∙ I.scope_is in
@@ -557,9 +564,10 @@ module _ (d : ℕ) {q : Quantifier} (h : Held) (e : opener_of h.next.kind ≡ So
         subst (λ (sx : Scope). Told sx rs n h₂ (level_at d 0 sx (left_at n)) r) s
         (X.tells rs (rw (L.draft_is ∙ I.draft_is) D) (rw s (omega arith)))
 
-    pub quantified-refused : {h₂ h₃ : Held} {x : TokenFault} → Reads (level_at d 0) n h₂ (Err x) → h₃.names ≡ h.names → Reads (quantified_at d q) h h₃ (Err x)
-    quantified-refused X back = record {
-      tells = λ rs D l. rw body-starts (told_up _ (body-told X rs D l));
+    pub quantified-refused : {h₂ h₃ : Held} {x : Refused} → Reads (level_at d 0) n h₂ (Err x) → h₃.names ≡ h.names → h₃.fault ≡ h₂.fault
+        → Reads (quantified_at d q) h h₃ (Err x)
+    quantified-refused X back f = record {
+      tells = λ rs D l. rw body-starts (told_up _ f (body-told X rs D l));
       names_are = back;
       onward = λ q. absurd cc;
     }

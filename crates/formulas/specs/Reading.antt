@@ -19,6 +19,7 @@ use Rattle.drafting.specs.declared.Operator.TheVariants.{And, Or, Implies, Alike
 use Rattle.drafting.specs.declared.Quantifier.{Quantifier}
 use Rattle.formulas.specs.Words.{order_by, quantifier_by}
 use Rattle.formulas.specs.declared.Reader.{Reader as Held}
+use Rattle.formulas.specs.declared.Refused.{Refused}
 
 -- the readers one level deeper, where d levels may still open
 unfoldable pub deeper_at : ℕ → Part → Reader
@@ -70,25 +71,30 @@ pub record Looks (at : ℕ) (h h' : Held) : Type 0 where
 abbrev pub refused_here : Held → Result Unit TokenFault
 refused_here h = Err (refused_at h.next reason.TextGrammar)
 
+-- reading is refused with x, which is kept; the names in use stay
+pub record Refuses (x : TokenFault) (h h' : Held) : Type 0 where
+  pub fault_is : h'.fault ≡ x
+  pub names_are : h'.names ≡ h.names
+
 -- what reading a formula answers: it leaves the tokens from a place on, having put the formula's records behind rs and counted its tracks; or a
--- refusal at a token. h and h': where reading had come to before and after
-pub data Told (sc : Scope) (rs : List Record) (h h' : Held) (R : Read Sentence) (r : Result Unit TokenFault) : Type 0 where
+-- refusal at a token, which is kept. h and h': where reading had come to before and after
+pub data Told (sc : Scope) (rs : List Record) (h h' : Held) (R : Read Sentence) (r : Result Unit Refused) : Type 0 where
   told-got : (f : Sentence) → R ≡ got f (left_at h') → r ≡ Ok tt → Drafted h'.draft (write sc f rs) → h'.tracks ≡ max h.tracks (tracks (length sc) f)
       → Told sc rs h h' R r
-  told-refused : (x : TokenFault) → RefusedAt R x → r ≡ Err x → Told sc rs h h' R r
+  told-refused : (x : Refused) → RefusedAt R h'.fault → r ≡ Err x → Told sc rs h h' R r
 
 -- the answer is what the reader reads; the names in use are as before
-pub record Reads (read : Reader) (h h' : Held) (r : Result Unit TokenFault) : Type 0 where
+pub record Reads (read : Reader) (h h' : Held) (r : Result Unit Refused) : Type 0 where
   pub tells : (rs : List Record) → Drafted h.draft rs → length (scope_of h.names) ≤ h.tracks
       → Told (scope_of h.names) rs h h' (read (scope_of h.names) (left_at h)) r
   pub names_are : h'.names ≡ h.names
   pub onward : r ≡ Ok tt → h.next.start ≤ h'.next.start
 
 -- whatever the reader of a first part left, the reader of the whole answers so
-abbrev pub Leads : Reader → Reader → Held → Held → Result Unit TokenFault → Type 0
+abbrev pub Leads : Reader → Reader → Held → Held → Result Unit Refused → Type 0
 Leads part whole h h' r = (i : Held) → Reads part i h (Ok tt) → Reads whole i h' r
 
 -- the bracket that closes a formula stands next, and is taken, or not
-pub data Closes (h h' : Held) (r : Result Unit TokenFault) : Type 0 where
+pub data Closes (h h' : Held) (r : Result Unit Refused) : Type 0 where
   closes : r ≡ Ok tt → h.next.kind ≡ Closing → Looks h.next.stop h h' → Closes h h' r
-  lacks-closing : r ≡ refused_here h → (h.next.kind ≡ Closing → ⊥) → h' ≡ h → Closes h h' r
+  lacks-closing : (x : Refused) → r ≡ Err x → (h.next.kind ≡ Closing → ⊥) → Refuses (refused_at h.next reason.TextGrammar) h h' → Closes h h' r

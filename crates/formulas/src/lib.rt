@@ -2,7 +2,7 @@
 // call what is left of the text, the levels that may still open, or the operators that may still join fall.
 #![tactic(auto)]
 
-ghost use Rattle.std.specs.Prelude.{◌≡◌, suc, [], MatchResult};
+ghost use Rattle.std.specs.Prelude.{◌≡◌, suc, []};
 ghost use Rattle.refusals.specs.declared.Reason.TheVariants as reason;
 ghost use Rattle.text.specs.Grammar.{atom_of};
 ghost use Rattle.tokens.specs.Named.{order_of};
@@ -17,15 +17,21 @@ use text::kinds::Kind;
 use tokens::names::{Name, Names, Order};
 use tokens::{Token, TokenFault};
 
-// Where reading has come to in a text: the names in use, the token that stands next, the records so far, and how many tracks were taken.
+// Where reading has come to in a text: the names in use, the token that stands next, the records so far, and how many tracks were taken; and,
+// once it was refused, why and at which token.
 #[derive(Drop)]
 pub struct Reader<'t> {
     pub names: Names<'t>,
     pub next: Token,
     pub draft: Draft,
     pub tracks: usize,
+    pub fault: TokenFault,
     pub ghost stands: { StandsNext names.text.now next.start next },
 }
+
+// Reading was refused: the reader has the fault. With it an answer would go through memory at each level on the way up.
+#[derive(Clone, Copy, Debug, PartialEq, Eq)]
+pub struct Refused;
 
 // What opens a level before an operand: a bracket, `~`, or a quantifier word.
 #[derive(Clone, Copy)]
@@ -74,53 +80,71 @@ fn mark(operator: Operator) -> Kind
 
 impl<'t> Reader<'t> {
     ghost use Rattle.formulas.specs.Reading.{level_at, strength_of, bracket_at, quantified_at, Joining};
-    ghost use Rattle.formulas.specs.Reading.{Looks, refused_here, Reads, Leads, Closes};
+    ghost use Rattle.formulas.specs.Reading.{Looks, Refuses, Reads, Leads, Closes};
 
     // At a text's first token, with nothing read.
     pub fn new(text: &'t [u8]) -> Reader<'t>
         ensures text_value { result.names.text.now ≡ text.now }
         ensures none { Drafted result.draft [] }
+        ensures first { StandsNext text.now 0 result.next }
     {
+        let next = tokens::token_at(text, 0);
         Reader {
             names: Names::new(text),
-            next: tokens::token_at(text, 0),
+            next,
             draft: Draft::new(),
             tracks: 0,
+            fault: next.refused(Reason::TextGrammar),
         }
     }
 
-    // The token that stands next from a place on.
+    // The token that stands next from a place on. Part by part: as a whole it would be moved in pieces that straddle the parts just written, for
+    // which a processor waits.
     pub fn look(&mut self, at: usize)
         ensures { Looks at self.old self.new }
     {
-        self.next = tokens::token_at(self.names.text, at);
+        let token = tokens::token_at(self.names.text, at);
+        self.next = Token {
+            start: token.start,
+            kind: token.kind,
+            stop: token.stop,
+        };
     }
 
-    // The levels that may open inside one more, which opens at the token that stands next.
-    fn deeper(&self, depth: usize) -> Result<usize, TokenFault>
-        ensures { MatchResult result (λ d. depth ≡ suc d) (λ x. (depth ≡ 0) × (x ≡ refused_at self.now.next reason.TextGrammar)) }
+    // Reading is refused.
+    fn refuse(&mut self, fault: TokenFault) -> Refused
+        ensures { Refuses fault self.old self.new }
     {
-        depth
-            .checked_sub(1)
-            .ok_or(self.next.refused(Reason::TextGrammar))
+        self.fault = fault;
+        Refused
+    }
+
+    // Reading is refused at the token that stands next, which leaves the grammar or depth.
+    fn refuse_next(&mut self) -> Refused
+        ensures { Refuses (refused_at self.old.next reason.TextGrammar) self.old self.new }
+    {
+        self.refuse(self.next.refused(Reason::TextGrammar))
     }
 
     // The bracket that closes a formula.
-    fn close(&mut self) -> Result<(), TokenFault>
+    fn close(&mut self) -> Result<(), Refused>
         ensures { Closes self.old self.new result }
     {
         if self.next.kind != Kind::Closing {
-            return Err(self.next.refused(Reason::TextGrammar));
+            return Err(self.refuse_next());
         }
         self.look(self.next.stop);
         Ok(())
     }
 
     // An atom, with its record.
-    fn atom(&mut self) -> Result<(), TokenFault>
+    fn atom(&mut self) -> Result<(), Refused>
         ensures { Reads atom_of self.old self.new result }
     {
-        let read = phrases::read_atom(&self.names, self.next)?;
+        let read = match phrases::read_atom(&self.names, self.next) {
+            Ok(read) => read,
+            Err(fault) => return Err(self.refuse(fault)),
+        };
         self.draft.put_atom(read.atom);
         self.look(read.next);
         Ok(())
@@ -129,7 +153,7 @@ impl<'t> Reader<'t> {
     // A formula in which no operator weaker than this one joins. Its first operand is read once, and then each operator may go on from there, the
     // strongest first. Its helpers are inlined, so that a level takes two frames, this one and an operand's.
     #[cycle(formula)]
-    pub fn formula(&mut self, depth: usize, weakest: Operator) -> Result<(), TokenFault>
+    pub fn formula(&mut self, depth: usize, weakest: Operator) -> Result<(), Refused>
         ensures { Reads (level_at depth (strength_of weakest)) self.old self.new result }
     {
         self.operand(depth)?;
@@ -151,7 +175,7 @@ impl<'t> Reader<'t> {
     // The operands that the operator, `<=>`, `|` or `&`, joins to the first: "`=>` groups to the right, the others to the left".
     #[cycle(formula)]
     #[inline(always)]
-    fn more(&mut self, depth: usize, operator: Operator) -> Result<(), TokenFault>
+    fn more(&mut self, depth: usize, operator: Operator) -> Result<(), Refused>
         requires { Joining operator }
         ensures { Leads (level_at depth (suc (strength_of operator))) (level_at depth (strength_of operator)) self.old self.new result }
     {
@@ -168,7 +192,7 @@ impl<'t> Reader<'t> {
     // An operand of the operator.
     #[cycle(formula)]
     #[inline(always)]
-    fn tighter(&mut self, depth: usize, operator: Operator) -> Result<(), TokenFault>
+    fn tighter(&mut self, depth: usize, operator: Operator) -> Result<(), Refused>
         ensures { Reads (level_at depth (suc (strength_of operator))) self.old self.new result }
     {
         match operator {
@@ -182,13 +206,15 @@ impl<'t> Reader<'t> {
     // "`=>` groups to the right", and its right side is a level of its own.
     #[cycle(formula)]
     #[inline(always)]
-    fn arrow(&mut self, depth: usize) -> Result<(), TokenFault>
+    fn arrow(&mut self, depth: usize) -> Result<(), Refused>
         ensures { Leads (level_at depth 2) (level_at depth 1) self.old self.new result }
     {
         if self.next.kind != Kind::Implies {
             return Ok(());
         }
-        let deeper = self.deeper(depth)?;
+        let Some(deeper) = depth.checked_sub(1) else {
+            return Err(self.refuse_next());
+        };
         self.draft.put_not();
         let denied = self.draft.count;
         self.look(self.next.stop);
@@ -199,13 +225,15 @@ impl<'t> Reader<'t> {
 
     // What `~` denies: an atom, or what stands behind a token that opens a level.
     #[cycle(formula)]
-    fn operand(&mut self, depth: usize) -> Result<(), TokenFault>
+    fn operand(&mut self, depth: usize) -> Result<(), Refused>
         ensures { Reads (level_at depth 4) self.old self.new result }
     {
         let Some(opener) = opens(self.next.kind) else {
             return self.atom();
         };
-        let deeper = self.deeper(depth)?;
+        let Some(deeper) = depth.checked_sub(1) else {
+            return Err(self.refuse_next());
+        };
         match opener {
             Opener::Bracket => self.bracket(deeper),
             Opener::Quantified(quantifier) => self.quantified(deeper, quantifier),
@@ -220,7 +248,7 @@ impl<'t> Reader<'t> {
 
     // An opening bracket, a formula and its closing bracket.
     #[cycle(formula)]
-    fn bracket(&mut self, depth: usize) -> Result<(), TokenFault>
+    fn bracket(&mut self, depth: usize) -> Result<(), Refused>
         requires { opener_of self.old.next.kind ≡ Some Bracket }
         ensures { Reads (bracket_at depth) self.old self.new result }
     {
@@ -233,11 +261,14 @@ impl<'t> Reader<'t> {
     // times on the way down: inlined, the copies would lie in every level's frame.
     #[cycle(formula)]
     #[inline(never)]
-    fn quantified(&mut self, depth: usize, quantifier: Quantifier) -> Result<(), TokenFault>
+    fn quantified(&mut self, depth: usize, quantifier: Quantifier) -> Result<(), Refused>
         requires { opener_of self.old.next.kind ≡ Some (Quantified quantifier) }
         ensures { Reads (quantified_at depth quantifier) self.old self.new result }
     {
-        let binder = phrases::read_binder(&self.names, self.next.stop)?;
+        let binder = match phrases::read_binder(&self.names, self.next.stop) {
+            Ok(binder) => binder,
+            Err(fault) => return Err(self.refuse(fault)),
+        };
         let name = Name {
             start: binder.start,
             stop: binder.stop,
@@ -245,7 +276,7 @@ impl<'t> Reader<'t> {
         };
         let outer = self.names;
         let track = outer.count;
-        self.names = outer.with(name);
+        self.names.push(name);
         self.tracks = self.tracks.max(track + 1);
         self.look(binder.next);
         let body = self.formula(depth, Operator::Alike);

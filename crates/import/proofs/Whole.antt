@@ -33,6 +33,7 @@ use Rattle.phrases.specs.declared.Declared.{Declared}
 use Rattle.phrases.proofs.Taking.{mark-taken, mark-turned, is_semicolon}
 use Rattle.formulas.specs.Reading.{level_at, left_at, Looks, Reads, Told, told-got, told-refused}
 use Rattle.formulas.specs.declared.Reader.{Reader as Held}
+use Rattle.formulas.specs.declared.Refused.{Refused}
 use Rattle.formulas.proofs.Strengths.{reader-formula}
 use Rattle.formulas.proofs.Levels.{refused-then, same-text, kind-same, kind-other, refused_next, taken, told_is}
 use Rattle.import.specs.Answers.{headed, ended_text, body_of, HeadingTold, Ends, ends, no_semicolon, no_end, FreePut, TextTold, text-got, text-refused}
@@ -160,7 +161,7 @@ module _ (h₀ : Held) (none : Drafted h₀.draft []) {at : ℕ} {d : Declared}
       (reader-formula 32 (scope_of d.names) (tokens_at h₀.names.text.now d.next))
       ∙ ap (λ (us : List Token). read_then (level_at 32 0 (scope_of d.names) us) (behind_names d)) B.skips
 
-  told : {h₂ : Held} {r : Result Unit TokenFault} → Reads (level_at 32 0) h h₂ r
+  told : {h₂ : Held} {r : Result Unit Refused} → Reads (level_at 32 0) h h₂ r
       → Told (scope_of d.names) [] h h₂ (level_at 32 0 (scope_of d.names) (left_at h)) r
   told {h₂} {r} X =
       let s = ap scope_of B.names_are in
@@ -169,13 +170,14 @@ module _ (h₀ : Held) (none : Drafted h₀.draft []) {at : ℕ} {d : Declared}
       let t = B.tracks_is in
       subst (λ (sd : Scope). Told sd [] h h₂ (level_at 32 0 sd (left_at h)) r) s (X.tells [] (rw B.draft_is none) (omega arith))
 
-  pub formula-refused : {h₂ : Held} {x : TokenFault} → Reads (level_at 32 0) h h₂ (Err x) → TextTold h₂ (body_of (tokens_at h₀.names.text.now at)) (Err x)
+  pub formula-refused : {h₂ : Held} {x : Refused} → Reads (level_at 32 0) h h₂ (Err x)
+      → TextTold h₂ (body_of (tokens_at h₀.names.text.now at)) (Err h₂.fault)
   formula-refused X = go (told X)
     where
-      go : {h₂ : Held} {x : TokenFault} → Told (scope_of d.names) [] h h₂ (level_at 32 0 (scope_of d.names) (left_at h)) (Err x)
-          → TextTold h₂ (body_of (tokens_at h₀.names.text.now at)) (Err x)
+      go : {h₂ : Held} {x : Refused} → Told (scope_of d.names) [] h h₂ (level_at 32 0 (scope_of d.names) (left_at h)) (Err x)
+          → TextTold h₂ (body_of (tokens_at h₀.names.text.now at)) (Err h₂.fault)
       go (told-got f e q m t) = absurd cc
-      go (told-refused x w q) = text-refused x (refused_as body_is (refused-then _ w)) q
+      go {h₂} (told-refused x w q) = text-refused h₂.fault (refused_as body_is (refused-then _ w)) refl
 
   module _ {h₂ : Held} (X : Reads (level_at 32 0) h h₂ (Ok tt)) where
     abbrev text : Text

@@ -4,7 +4,7 @@
 ghost use Rattle.std.specs.Prelude.{◌≡◌, [], length};
 ghost use Rattle.text.specs.Grammar.{text_of};
 ghost use Rattle.text.specs.Import.{import, out_after_import};
-ghost use Rattle.tokens.specs.Tokens.{tokens_at};
+ghost use Rattle.tokens.specs.Tokens.{tokens_at, StandsNext};
 ghost use Rattle.drafting.specs.Draft.{Drafted};
 ghost use Rattle.import.specs.Answers.{HeadingTold, Ends, FreePut, body_of, TextTold, imported_of, fault_at, fault_of, Claimed};
 
@@ -41,12 +41,15 @@ impl From<TokenFault> for TextFault {
 // "nest at most 32 deep"
 const DEPTH: usize = 32;
 
-// "the heading `ws2s;`": the place behind it.
-fn read_heading(text: &[u8]) -> Result<usize, TokenFault>
-    ensures { HeadingTold text.now result }
+// "the heading `ws2s;`", whose word stands next: the place behind it.
+fn read_heading(reader: &Reader) -> Result<usize, TokenFault>
+    requires { StandsNext reader.now.names.text.now 0 reader.now.next }
+    ensures { HeadingTold reader.now.names.text.now result }
 {
-    let next = phrases::read_mark(text, Kind::Ws2s, 0)?;
-    phrases::read_mark(text, Kind::Semicolon, next)
+    if reader.next.kind != Kind::Ws2s {
+        return Err(reader.next.refused(Reason::TextGrammar));
+    }
+    phrases::read_mark(reader.names.text, Kind::Semicolon, reader.next.stop)
 }
 
 // "ended by a semicolon", and nothing behind it.
@@ -84,18 +87,21 @@ fn read_body(reader: &mut Reader, at: usize) -> Result<(), TokenFault>
     reader.names = declared.names;
     reader.tracks = declared.names.count;
     reader.look(declared.next);
-    reader.formula(DEPTH, Operator::Alike)?;
-    end(reader)?;
+    match reader.formula(DEPTH, Operator::Alike) {
+        Ok(()) => end(reader)?,
+        Err(_) => return Err(reader.fault),
+    }
     put_free(&mut reader.draft, &reader.names);
     Ok(())
 }
 
-// A whole text.
+// A whole text, from its first token on.
 fn read_text(reader: &mut Reader) -> Result<(), TokenFault>
-    requires { Drafted reader.old.draft [] }
+    requires first { StandsNext reader.old.names.text.now 0 reader.old.next }
+    requires none { Drafted reader.old.draft [] }
     ensures { TextTold reader.new (text_of reader.old.names.text.now) result }
 {
-    let next = read_heading(reader.names.text)?;
+    let next = read_heading(reader)?;
     read_body(reader, next)
 }
 

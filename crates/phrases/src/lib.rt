@@ -267,7 +267,7 @@ fn read_names(mut names: Names, order: Order, at: usize) -> Result<Declared, Tok
     loop {
         let name = tokens::token_at(names.text, place);
         new_refusal(&names, name)?;
-        names = names.with(Name {
+        names.push(Name {
             start: name.start,
             stop: name.stop,
             order,

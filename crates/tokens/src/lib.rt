@@ -15,8 +15,8 @@ pub mod names;
 // A token: its kind, and the byte places where it starts and ends.
 #[derive(Clone, Copy)]
 pub struct Token {
-    pub kind: Kind,
     pub start: usize,
+    pub kind: Kind,
     pub stop: usize,
 }
 

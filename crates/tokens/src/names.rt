@@ -71,17 +71,12 @@ impl<'t> Names<'t> {
     }
 
     // One name more, the latest.
-    pub fn with(&self, name: Name) -> Names<'t>
-        requires few { self.now.count < 8 }
-        requires span { Span self.now.text.now name.start name.stop }
-        ensures { Bound self.now name result }
+    pub fn push(&mut self, name: Name)
+        requires few { self.old.count < 8 }
+        requires span { Span self.old.text.now name.start name.stop }
+        ensures { Bound self.old name self.new }
     {
-        let mut entries = self.entries;
-        entries[self.count] = name;
-        Names {
-            text: self.text,
-            entries,
-            count: self.count + 1,
-        }
+        self.entries[self.count] = name;
+        self.count += 1;
     }
 }

@@ -1,5 +1,7 @@
 -- `formulas::Reader::formula` and the six methods that it calls in a circle meet their contracts.
-use Rattle.std.proofs.Common.{arith, true, false, refl, sym, ◌∙◌, ap, ◌≡◌, Option, Some, None, not}
+use Rattle.std.proofs.Common.{arith, true, false, refl, sym, ◌∙◌, ap, ◌≡◌, ℕ, suc, ◌-◌, ◌≤◌, Option, Some, None, not}
+use mathlib.Core.Path.{subst}
+use Rattle.std.specs.Option.{SomeIff}
 use denote.Enum.Bare.{sameb, same_true, same_false, differs_true, differs_false}
 use Rattle.text.specs.declared.kinds.Kind.{Kind}
 use Rattle.text.specs.contracts.kinds.Kind as kind
@@ -37,23 +39,30 @@ no_opener : (o : Option Opener) → ((p : Opener) → o ≡ Some p → ⊥) → 
 no_opener None z = refl
 no_opener (Some p) z = absurd (z p refl)
 
+-- the levels that may open inside one more, where one may
+deeper_is : {d k : ℕ} {o : Option ℕ} → SomeIff o (1 ≤ d) (d - 1) → o ≡ Some k → d ≡ suc k
+deeper_is {d} s e = let p = subst (λ (o : Option ℕ). SomeIff o (1 ≤ d) (d - 1)) e s in omega arith
+
+no_deeper : {d : ℕ} (o : Option ℕ) → SomeIff o (1 ≤ d) (d - 1) → ((k : ℕ) → o ≡ Some k → ⊥) → d ≡ 0
+no_deeper None s z = omega arith
+no_deeper (Some k) s z = absurd (z k refl)
+
 pub arrow-returns-then-ne : goal.arrow-returns-then-ne
 arrow-returns-then-ne t c = arrow-none _ (differs_true kind.the_type _ _ (sym c.if-ne.ensures))
 
-pub arrow-returns-in_err-deeper : goal.arrow-returns-in_err-deeper
-arrow-returns-in_err-deeper t c =
-    rw (passed c.from_residual.ensures.1, c.in_err-deeper.ensures.1)
-    (arrow-deep (is_implies c.if-ne.ensures) _ c.in_err-deeper.ensures.0)
+pub arrow-returns-in_default : goal.arrow-returns-in_default
+arrow-returns-in_default t c =
+    arrow-deep (is_implies c.if-ne.ensures) _ (no_deeper _ c.checked_sub.ensures c.in_default.not-Some) c.refuse_next.ensures
 
 pub arrow-returns-in_err-formula : goal.arrow-returns-in_err-formula
 arrow-returns-in_err-formula t c =
-    rw (passed c.from_residual-in_err-formula.ensures.1) (arrow-refused (is_implies c.if-ne.ensures)
-    (same refl refl refl) c.put_not.ensures c.look.ensures c.in_ok-deeper.ensures c.in_err-formula.ensures)
+    rw (passed c.from_residual.ensures.1) (arrow-refused (is_implies c.if-ne.ensures)
+    (same refl refl refl) c.put_not.ensures c.look.ensures (deeper_is c.checked_sub.ensures c.in-Some.is) c.in_err-formula.ensures)
 
 pub arrow-returns : goal.arrow-returns
 arrow-returns t c =
     arrow_on (is_implies c.if-ne.ensures) (same refl refl refl) c.put_not.ensures c.look.ensures
-    c.in_ok-deeper.ensures c.in_ok-formula.ensures (same refl refl refl) c.put_joined.ensures
+    (deeper_is c.checked_sub.ensures c.in-Some.is) c.in_ok-formula.ensures (same refl refl refl) c.put_joined.ensures
 
 pub bracket-returns-in_err-formula : goal.bracket-returns-in_err-formula
 bracket-returns-in_err-formula t c =
@@ -136,41 +145,39 @@ more-returns t c =
 pub operand-returns-in_default : goal.operand-returns-in_default
 operand-returns-in_default t c = operand-atom _ (sym c.opens.ensures ∙ no_opener _ (λ p. c.in_default.not-Some p)) c.atom.ensures
 
-pub operand-returns-in_err-deeper : goal.operand-returns-in_err-deeper
-operand-returns-in_err-deeper t c =
-    rw (passed c.from_residual.ensures.1, c.in_err-deeper.ensures.1)
-    (operand_deep (sym c.opens.ensures ∙ c.in-Some.is) _ c.in_err-deeper.ensures.0)
+pub operand-returns-in_default-checked_sub : goal.operand-returns-in_default-checked_sub
+operand-returns-in_default-checked_sub t c =
+    operand_deep (sym c.opens.ensures ∙ c.in-Some.is) _ (no_deeper _ c.checked_sub.ensures c.in_default-checked_sub.not-Some) c.refuse_next.ensures
 
 pub operand-returns-in-Bracket : goal.operand-returns-in-Bracket
 operand-returns-in-Bracket t c =
-    operand-bracket c.in_ok-deeper.ensures (opens-it _ c.opens.ensures c.in-Some.is c.in-Bracket.is) c.bracket.ensures
+    operand-bracket (deeper_is c.checked_sub.ensures c.in-Some-checked_sub.is) (opens-it _ c.opens.ensures c.in-Some.is c.in-Bracket.is) c.bracket.ensures
 
 pub operand-returns-in-Quantified : goal.operand-returns-in-Quantified
 operand-returns-in-Quantified t c =
-    operand-quantifier c.in_ok-deeper.ensures (opens-it _ c.opens.ensures c.in-Some.is c.in-Quantified.is) c.quantified.ensures
+    operand-quantifier (deeper_is c.checked_sub.ensures c.in-Some-checked_sub.is) (opens-it _ c.opens.ensures c.in-Some.is c.in-Quantified.is) c.quantified.ensures
 
 pub operand-returns-in_err-operand-in-Denial : goal.operand-returns-in_err-operand-in-Denial
 operand-returns-in_err-operand-in-Denial t c =
-    rw (passed c.from_residual-in_err-operand-in-Denial.ensures.1) (operand_not-refused c.in_ok-deeper.ensures
+    rw (passed c.from_residual.ensures.1) (operand_not-refused (deeper_is c.checked_sub.ensures c.in-Some-checked_sub.is)
     (opens-it _ c.opens.ensures c.in-Some.is c.in-Denial.is) c.look.ensures c.in_err-operand-in-Denial.ensures)
 
 pub operand-returns-in_ok-operand-in-Denial : goal.operand-returns-in_ok-operand-in-Denial
 operand-returns-in_ok-operand-in-Denial t c =
-    operand_not c.in_ok-deeper.ensures (opens-it _ c.opens.ensures c.in-Some.is c.in-Denial.is) c.look.ensures
+    operand_not (deeper_is c.checked_sub.ensures c.in-Some-checked_sub.is) (opens-it _ c.opens.ensures c.in-Some.is c.in-Denial.is) c.look.ensures
     c.in_ok-operand-in-Denial.ensures (same refl refl refl) c.put_not.ensures
 
-pub quantified-returns-in_err-binder : goal.quantified-returns-in_err-binder
-quantified-returns-in_err-binder t c =
-    rw (passed c.from_residual.ensures.1) (quantified_unbound _ _ c.requires (same refl refl refl) c.in_err-binder.ensures)
+pub quantified-returns-in-Err : goal.quantified-returns-in-Err
+quantified-returns-in-Err t c = quantified_unbound _ _ c.requires (same refl refl refl) c.refuse.ensures (rw c.in-Err.is at c.read_binder.ensures)
 
 pub quantified-returns-in_err-body : goal.quantified-returns-in_err-body
 quantified-returns-in_err-body t c =
-    rw (passed c.from_residual-in_err-body.ensures.1) (quantified-refused _ _ c.requires c.in_ok-binder.ensures
-    (inner_is c.with-self.ensures c.order.ensures refl c.max-self.ensures) c.look.ensures c.in_err-body.ensures refl)
+    rw (passed c.from_residual.ensures.1) (quantified-refused _ _ c.requires (rw c.in-Ok.is at c.read_binder.ensures)
+    (inner_is c.push.ensures c.order.ensures refl c.max-self.ensures) c.look.ensures c.in_err-body.ensures refl refl)
 
 pub quantified-returns : goal.quantified-returns
 quantified-returns t c =
-    quantified_reads _ _ c.requires c.in_ok-binder.ensures (inner_is c.with-self.ensures c.order.ensures refl c.max-self.ensures)
+    quantified_reads _ _ c.requires (rw c.in-Ok.is at c.read_binder.ensures) (inner_is c.push.ensures c.order.ensures refl c.max-self.ensures)
     c.look.ensures c.in_ok-body.ensures refl refl refl c.put_quantified.ensures
 
 pub tighter-returns-in-And : goal.tighter-returns-in-And

@@ -1,8 +1,8 @@
--- `with` meets its contract. Assumes nothing.
+-- `push` meets its contract. Assumes nothing.
 use mathlib.Core.Path.{refl}
 use native.Mathlib.Omega.{arith}
 use Rattle.tokens.proofs.Scopes.{bound-more}
-use Rattle.tokens.proofs.names.Names.with.Goals as goal
+use Rattle.tokens.proofs.names.Names.push.Goals as goal
 
 pub returns : goal.returns
 returns c =
