@@ -68,7 +68,12 @@ pub fn conclude(n: usize, states: u64, f: Found, out: &mut [u8]) -> Verdict
         Found::Shown(earliest) => {
             let positions = earliest.positions;
             let len = rules::room::strip_bytes(n, positions as usize);
-            tree_strip::write::write_strip(&mut out[..len], n, &earliest.ranks);
+            tree_strip::write::write_strip(
+                &mut out[..len],
+                n,
+                &earliest.ranks,
+                earliest.ranks.count - 1,
+            );
             Verdict::Shown {
                 positions,
                 states,

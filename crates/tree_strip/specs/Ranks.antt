@@ -58,11 +58,11 @@ pub record Writable (d : List ℕ) (at n : ℕ) (nodes : List Rank) (count r : �
   pub room : at + length (tree_bits n (tree_of_rank nodes count r)) ≤ 8 * length d
   pub clear : Clear (bits d) at
 
--- out is as long as the strip of the tree of the last rank
-pub record AsLong (out : List ℕ) (n : ℕ) (ranks : Ranks) : Type 0 where
+-- out is as long as the strip of the tree of rank r
+pub record AsLong (out : List ℕ) (n : ℕ) (ranks : Ranks) (r : ℕ) : Type 0 where
   pub few-variables : n ≤ 8
   pub few : ranks.count ≤ 64
-  pub settled : 0 < ranks.count
+  pub settled : r < ranks.count
   pub back : Backs ranks.count ranks.nodes
-  pub few-positions : positions (last_tree ranks) ≤ 255
-  pub size : length out ≡ tree_bytes n (positions (last_tree ranks))
+  pub few-positions : positions (tree_of_rank ranks.nodes ranks.count r) ≤ 255
+  pub size : length out ≡ tree_bytes n (positions (tree_of_rank ranks.nodes ranks.count r))

@@ -3,7 +3,7 @@ ghost use Rattle.std.specs.Prelude.{◌≡◌, ◌∷◌, ◌+◌, length};
 ghost use Rattle.std.proofs.lemmas.List.Edits.{sets};
 ghost use Rattle.bits.specs.Bits.{bits, digits};
 ghost use Rattle.tree_strip.specs.TreeStrip.{tree_bits, strip_of_tree};
-ghost use Rattle.tree_strip.specs.Ranks.{tree_of_rank, last_tree, NodeRoom, Writable, AsLong};
+ghost use Rattle.tree_strip.specs.Ranks.{tree_of_rank, NodeRoom, Writable, AsLong};
 
 // A tree by the label of its root and the ranks of its branches, which are smaller than its own; that of rank 0 is empty.
 #[derive(Clone, Copy)]
@@ -45,13 +45,13 @@ fn write_tree(d: &mut [u8], at: usize, n: usize, ranks: &Ranks, r: usize) -> usi
     write_tree(d, next, n, ranks, node.second)
 }
 
-// The strip of the tree of the last rank, over the whole of out, which is as long as the strip.
-pub fn write_strip(out: &mut [u8], n: usize, ranks: &Ranks)
-    requires { AsLong out.old n ranks.now }
-    ensures { out.new ≡ strip_of_tree n (last_tree ranks.now) }
+// The strip of the tree of rank r, over the whole of out, which is as long as the strip.
+pub fn write_strip(out: &mut [u8], n: usize, ranks: &Ranks, r: usize)
+    requires { AsLong out.old n ranks.now r }
+    ensures { out.new ≡ strip_of_tree n (tree_of_rank ranks.now.nodes ranks.now.count r) }
 {
     out.fill(0);
     bits::put_field(out, 0, 4, 1);
     bits::put_field(out, 4, 4, n as u64);
-    write_tree(out, 8, n, ranks, ranks.count - 1);
+    write_tree(out, 8, n, ranks, r);
 }

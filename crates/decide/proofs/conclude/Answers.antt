@@ -1,5 +1,5 @@
 -- `decide::conclude` meets its contract.
-use Rattle.words.proofs.Vocabulary.{refl, sym, length-take-le}
+use Rattle.words.proofs.Vocabulary.{refl, sym, arith, length-take-le}
 use Rattle.decide.proofs.Deciding.{shown-room, shown-long, shown-front, tells-shown}
 use Rattle.decide.proofs.conclude.Goals as goal
 
@@ -29,7 +29,7 @@ write_strip-requires c =
     record {
       few-variables = p.0;
       few = s.high;
-      settled = s.low;
+      settled = let w = s.low in omega arith;
       back = s.back;
       few-positions = (shown-room a.n a.states _ a.out.now s p.2).1;
       size = shown-front a.n a.states _ a.out.now s p.2 c.strip_bytes-len.ensures;

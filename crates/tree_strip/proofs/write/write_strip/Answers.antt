@@ -1,7 +1,7 @@
 -- `write::write_strip` meets its contract.
 use Prim.Native.Nat.{◌+◌}
 use native.Mathlib.Omega.{arith}
-use Rattle.tree_strip.specs.Ranks.{last_tree}
+use Rattle.tree_strip.specs.Ranks.{tree_of_rank}
 use Rattle.tree_strip.proofs.TreeWriting.{blank, after-version, after_head, strip-size, strip-written}
 use Rattle.tree_strip.proofs.write.write_strip.Goals as goal
 
@@ -22,11 +22,11 @@ write_tree-requires c =
     let k = w.auto.self in
     let k₂ = v.auto.d in
     let k₃ = u.auto.d in
-    let r = strip-size a.n (last_tree a.ranks.now) h.few-variables h.few-positions in
+    let r = strip-size a.n (tree_of_rank a.ranks.now.nodes a.ranks.now.count a.r) h.few-variables h.few-positions in
     record {
       few-variables = h.few-variables;
       few = h.few;
-      settled = omega arith;
+      settled = h.settled;
       back = h.back;
       short = omega arith;
       room = omega arith;
@@ -39,5 +39,5 @@ returns c =
     let v = c.put_field in
     let u = c.put_field-2 in
     let x = c.write_tree in
-    strip-written _ _ (c.fill.ensures.after (λ y e. e)) v.new.d v.ensures a.n u.new.d u.ensures (last_tree a.ranks.now) c.requires.size
+    strip-written _ _ (c.fill.ensures.after (λ y e. e)) v.new.d v.ensures a.n u.new.d u.ensures (tree_of_rank a.ranks.now.nodes a.ranks.now.count a.r) c.requires.size
     x.new.d x.ensures.d_after (λ i. omega (arith, c.type_inv.out i))
