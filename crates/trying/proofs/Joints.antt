@@ -123,7 +123,7 @@ module _ {rule : List ℕ} {c room : ℕ} (t : Triable rule c room) where
     pub joins_pair : {m : Made} {x : Conjunct 2} → JointMade rule c ws r m x → SomePair rule c ws m part
     joins_pair m = (m.formula, formula_at (records_of rule) q, m.machine, b q u)
 
-    pub joins-first : {j : Option Made} → j ≡ None → JoinsPart rule c ws r j q ws (Ok part)
+    pub joins-first : {j : Result (Option Made) OverCeiling} → j ≡ Ok None → JoinsPart rule c ws r j q ws (Ok part)
     unfolding join_one
     joins-first e x z = record {
       formula = formula_at (records_of rule) q;
@@ -134,12 +134,12 @@ module _ {rule : List ℕ} {c room : ℕ} (t : Triable rule c room) where
       machine = b q u;
     }
 
-    pub joins-made : (ws' : List ℕ) {m : Made} (k : Result Made OverCeiling) → Conjoins rule c ws m part ws' r k → {j : Option Made} → j ≡ Some m
-        → JoinsPart rule c ws r j q ws' k
+    pub joins-made : (ws' : List ℕ) {m : Made} (k : Result Made OverCeiling) → Conjoins rule c ws m part ws' r k → {j : Result (Option Made) OverCeiling}
+        → j ≡ Ok (Some m) → JoinsPart rule c ws r j q ws' k
     unfolding join_one joined_table constructed table_by Valid
-    joins-made ws' {m} k z e = subst (λ (j : Option Made). JoinsPart rule c ws r j q ws' k) (sym e) (made k z)
+    joins-made ws' {m} k z e = subst (λ (j : Result (Option Made) OverCeiling). JoinsPart rule c ws r j q ws' k) (sym e) (made k z)
       where
-        made : (k : Result Made OverCeiling) → Conjoins rule c ws m part ws' r k → JoinsPart rule c ws r (Some m) q ws' k
+        made : (k : Result Made OverCeiling) → Conjoins rule c ws m part ws' r k → JoinsPart rule c ws r (Ok (Some m)) q ws' k
         made (Ok k) z x e =
             let G = formula_at (records_of rule) q in
             let w = z e.formula G e.valid (valid_record q u) e.machine (b q u) in
@@ -185,6 +185,15 @@ unfolding join_from join_one
 over-stays rule c [] q = refl
 over-stays rule c (p ∷ L) q = over-stays rule c L q
 
+-- and so it is told on
+module _ (rule : List ℕ) (c : ℕ) (ws : List ℕ) (o : OverCeiling) where
+  pub joins-over : (r q : ℕ) {j : Result (Option Made) OverCeiling} → j ≡ Err o → JoinsPart rule c ws r j q ws (Err o)
+  unfolding join_one
+  joins-over r q h x e = rw (rw h at e) refl
+
+  pub rest-over : (i : ℕ) {j : Result (Option Made) OverCeiling} → j ≡ Err o → JoinsRest rule c ws i j ws (Err o)
+  rest-over i h x e = rw (rw h at e) (over-stays rule c (drop i (parts_of (records_of rule))) o.at)
+
 -- in the loop that joins the parts from number i on: those up to number p are joined
 pub record Joining (rule : List ℕ) (c : ℕ) (ws₀ : List ℕ) (i : ℕ) (j : Option Made) (ws : List ℕ) (p : ℕ) (k : Option Made) : Type 0 where
   pub begun : i ≤ p
@@ -200,8 +209,8 @@ joining_first = record { begun = omega arith; long = refl; confined = confined-n
 module _ {rule : List ℕ} {c room : ℕ} (t : Triable rule c room) {count : ℕ} {xs : List ℕ} (l : Listed (parts_of (records_of rule)) count xs)
     {ws₀ : List ℕ} {i : ℕ} {j : Option Made} {ws : List ℕ} {p : ℕ} {k : Option Made} (s : Joining rule c ws₀ i j ws p k) where
   -- what a turn asks
-  pub joining_asks : length ws₀ ≡ room → {es : ℕ → Summary} → ReachedBuilt rule c es ws₀ → SomeJoint rule c ws₀ (count_of rule + i - 1) j
-      → Triable rule c (length ws) × (ReachedBuilt rule c es ws × SomeJoint rule c ws (count_of rule + p - 1) k)
+  pub joining_asks : length ws₀ ≡ room → {es : ℕ → Summary} → ReachedBuilt rule c es ws₀ → SomeJoint rule c ws₀ (count_of rule + i - 1) (Ok j)
+      → Triable rule c (length ws) × (ReachedBuilt rule c es ws × SomeJoint rule c ws (count_of rule + p - 1) (Ok k))
   joining_asks e b h =
       let y = s.joined h.0 h.1 in (
         subst (Triable rule c) (sym (s.long ∙ e)) t,
@@ -212,7 +221,7 @@ module _ {rule : List ℕ} {c room : ℕ} (t : Triable rule c room) {count : ℕ
     pub joining_confined : Confined rule c (count_of rule + i - 1) ws₀ ws'
     joining_confined = confined-more (omega (arith, s.begun)) s.confined f
 
-    pub joining_next : length ws' ≡ length ws → (k' : Made) → JoinsPart rule c ws (count_of rule + p - 1) k (get_or xs p 0) ws' (Ok k')
+    pub joining_next : length ws' ≡ length ws → (k' : Made) → JoinsPart rule c ws (count_of rule + p - 1) (Ok k) (get_or xs p 0) ws' (Ok k')
         → Joining rule c ws₀ i j ws' (p + 1) (Some k')
     unfolding join_from
     joining_next same k' z = record {
@@ -228,7 +237,7 @@ module _ {rule : List ℕ} {c room : ℕ} (t : Triable rule c room) {count : ℕ
           );
     }
 
-    pub joining_over : (o : OverCeiling) → JoinsPart rule c ws (count_of rule + p - 1) k (get_or xs p 0) ws' (Err o) → JoinsRest rule c ws₀ i j ws' (Err o)
+    pub joining_over : (o : OverCeiling) → JoinsPart rule c ws (count_of rule + p - 1) (Ok k) (get_or xs p 0) ws' (Err o) → JoinsRest rule c ws₀ i (Ok j) ws' (Err o)
     unfolding join_from
     joining_over o z x u =
         let y = s.joined x u in
@@ -236,7 +245,7 @@ module _ {rule : List ℕ} {c room : ℕ} (t : Triable rule c room) {count : ℕ
         ∙ ap (λ (v : Conjunct 2). join_from (joiner_of rule) c v (drop (p + 1) (parts_of (records_of rule)))) (z y.0 y.1)
         ∙ over-stays rule c (drop (p + 1) (parts_of (records_of rule))) o.at
 
-  pub joining_last : count ≤ p → p ≤ count → JoinsRest rule c ws₀ i j ws (Ok k)
+  pub joining_last : count ≤ p → p ≤ count → JoinsRest rule c ws₀ i (Ok j) ws (Ok k)
   unfolding join_from
   joining_last from to x u =
       let ps = parts_of (records_of rule) in

@@ -50,34 +50,34 @@ joint-later rule c ws end later h = joint-stays {rule = rule} {c = c} {r = end} 
 -- ---- one trial
 module _ (rule : List ℕ) (c : ℕ) (ws : List ℕ) (i : ℕ) (j : Option Made) where
   -- those not yet tried are joined behind those kept
-  pub rest-joint : {later : ℕ} → count_of rule + i - 1 ≤ later → SomeJoint rule c ws (count_of rule + i - 1) j → SomeJoint rule c ws later j
+  pub rest-joint : {later : ℕ} → count_of rule + i - 1 ≤ later → SomeJoint rule c ws (count_of rule + i - 1) (Ok j) → SomeJoint rule c ws later (Ok j)
   rest-joint {later} h s = (s.0, joint-later rule c ws (count_of rule + i - 1) later h j s.0 s.1)
 
   abbrev end : ℕ
   end = count_of rule + length (parts_of (records_of rule)) - 1
 
-  module _ (ws' : List ℕ) (k : Result (Option Made) OverCeiling) (z : JoinsRest rule c ws (i + 1) j ws' k) where
+  module _ (ws' : List ℕ) (k : Result (Option Made) OverCeiling) (z : JoinsRest rule c ws (i + 1) (Ok j) ws' k) where
     -- k is what joining the rest comes to
     rest-is : (x : Conjunct 2) → JointOf rule c ws (count_of rule + i - 1) j x
         → JoiningOf rule c ws' end k (join_from (joiner_of rule) c x (drop (i + 1) (parts_of (records_of rule))))
     rest-is x u = z x (joint-later rule c ws (count_of rule + i - 1) (count_of rule + (i + 1) - 1) (omega arith) j x u)
 
   module _ (ws' : List ℕ) where
-    pub tells-over : (o : OverCeiling) → JoinsRest rule c ws (i + 1) j ws' (Err o) → TrialTells rule c ws i j (Err o)
+    pub tells-over : (o : OverCeiling) → JoinsRest rule c ws (i + 1) (Ok j) ws' (Err o) → TrialTells rule c ws i j (Err o)
     unfolding trial_says
     tells-over o z x u go = rw (rest-is ws' (Err o) z x u) refl
 
-    pub tells-alone : {k : Option Made} → k ≡ None → JoinsRest rule c ws (i + 1) j ws' (Ok k) → TrialTells rule c ws i j (Ok false)
+    pub tells-alone : {k : Option Made} → k ≡ None → JoinsRest rule c ws (i + 1) (Ok j) ws' (Ok k) → TrialTells rule c ws i j (Ok false)
     unfolding trial_says
     tells-alone {k} e z x u go = rw (rest-is ws' (Ok None) (rw e at z) x u) refl
 
-    module _ {k : Option Made} (m : Made) (e : k ≡ Some m) (z : JoinsRest rule c ws (i + 1) j ws' (Ok k)) where
+    module _ {k : Option Made} (m : Made) (e : k ≡ Some m) (z : JoinsRest rule c ws (i + 1) (Ok j) ws' (Ok k)) where
       joint-is : (x : Conjunct 2) → JointOf rule c ws (count_of rule + i - 1) j x
           → JointMade rule c ws' end m (join_from (joiner_of rule) c x (drop (i + 1) (parts_of (records_of rule))))
       joint-is = rest-is ws' (Ok (Some m)) (rw e at z)
 
       -- the conjunction's machine can be asked
-      pub rest-few : {room : ℕ} → Triable rule c room → SomeJoint rule c ws (count_of rule + i - 1) j → m.machine.count ≤ 64
+      pub rest-few : {room : ℕ} → Triable rule c room → SomeJoint rule c ws (count_of rule + i - 1) (Ok j) → m.machine.count ≤ 64
       rest-few t s = let h = (joint-is s.0 s.1).machine.readable.stored in omega (arith, h.count, h.few, t.work.few-states)
 
       -- whether it accepts
@@ -91,13 +91,13 @@ module _ {rule : List ℕ} {c room : ℕ} (t : Triable rule c room) {count : ℕ
   pub kept-last : count ≤ i + 1 → JoinsKept rule c ws i j ws (Ok j)
   kept-last h x u less = absurd (omega (arith, l.counted))
 
-  pub kept-joined : (ws' : List ℕ) (k : Made) → i < count → JoinsPart rule c ws (count_of rule + i - 1) j (get_or xs i 0) ws' (Ok k)
+  pub kept-joined : (ws' : List ℕ) (k : Made) → i < count → JoinsPart rule c ws (count_of rule + i - 1) (Ok j) (get_or xs i 0) ws' (Ok k)
       → JoinsKept rule c ws i j ws' (Ok (Some k))
   kept-joined ws' k h z x u less =
       let one : count_of rule + i - 1 + 1 ≡ count_of rule + i = omega (arith, (rule-accepted rule t.work.sound).some_record) in
       rw (← part_at t l i h) (subst (λ (at : ℕ). JointOf rule c ws' at (Some k) (join_one (joiner_of rule) c x (get_or xs i 0))) one (z x u))
 
-  pub kept-over : (ws' : List ℕ) (o : OverCeiling) → i + 1 < count → JoinsPart rule c ws (count_of rule + i - 1) j (get_or xs i 0) ws' (Err o)
+  pub kept-over : (ws' : List ℕ) (o : OverCeiling) → i + 1 < count → JoinsPart rule c ws (count_of rule + i - 1) (Ok j) (get_or xs i 0) ws' (Err o)
       → JoinsKept rule c ws i j ws' (Err o)
   kept-over ws' o h z x u = (omega (arith, l.counted), rw (← part_at t l i (omega arith)) (z x u))
 
@@ -146,7 +146,7 @@ module _ {rule : List ℕ} {c room : ℕ} (t : Triable rule c room) {count : ℕ
 
     -- what a trial asks
     pub tries_asks : length ws₀ ≡ room → {es : ℕ → Summary} → ReachedBuilt rule c es ws₀
-        → Triable rule c (length ws) × (ReachedBuilt rule c es ws × SomeJoint rule c ws (count_of rule + i - 1) j)
+        → Triable rule c (length ws) × (ReachedBuilt rule c es ws × SomeJoint rule c ws (count_of rule + i - 1) (Ok j))
     tries_asks e b = (
       subst (Triable rule c) (sym (s.long ∙ e)) t,
       (reached_stay s.long s.confined (λ r u. (reached-below t r u).0) b, (s.x, joint-here)),
@@ -192,7 +192,7 @@ module _ {rule : List ℕ} {c room : ℕ} (t : Triable rule c room) {count : ℕ
           joint-still = joint-stays same f (count_of rule + i - 1) (count_of rule + i - 1) (omega arith) (omega arith) j s.x joint-here
 
           pub kept_asks : length ws₀ ≡ room → {es : ℕ → Summary} → ReachedBuilt rule c es ws₀
-              → Triable rule c (length ws') × (ReachedBuilt rule c es ws' × SomeJoint rule c ws' (count_of rule + i - 1) j)
+              → Triable rule c (length ws') × (ReachedBuilt rule c es ws' × SomeJoint rule c ws' (count_of rule + i - 1) (Ok j))
           kept_asks g b = (
             subst (Triable rule c) (sym (same ∙ s.long ∙ g)) t,
             (reached_stay (same ∙ s.long) confined-then (λ r u. (reached-below t r u).0) b, (s.x, joint-still)),

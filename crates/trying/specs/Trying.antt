@@ -56,19 +56,19 @@ abbrev pub JoiningOf : List ℕ → ℕ → List ℕ → ℕ → Result (Option 
 JoiningOf rule c ws end (Ok j) x = JointOf rule c ws end j x
 JoiningOf rule c ws end (Err o) x = x ≡ joint_over o.at
 
-abbrev pub SomeJoint : List ℕ → ℕ → List ℕ → ℕ → Option Made → Type 0
-SomeJoint rule c ws end j = (x : Conjunct 2) × JointOf rule c ws end j x
+abbrev pub SomeJoint : List ℕ → ℕ → List ℕ → ℕ → Result (Option Made) OverCeiling → Type 0
+SomeJoint rule c ws end j = (x : Conjunct 2) × JoiningOf rule c ws end j x
 
 -- whatever j is, k is that with record q joined in the share of number r
-abbrev pub JoinsPart : List ℕ → ℕ → List ℕ → ℕ → Option Made → ℕ → List ℕ → Result Made OverCeiling → Type 0
+abbrev pub JoinsPart : List ℕ → ℕ → List ℕ → ℕ → Result (Option Made) OverCeiling → ℕ → List ℕ → Result Made OverCeiling → Type 0
 JoinsPart rule c ws r j q ws' k =
-    (x : Conjunct 2) → JointOf rule c ws r j x → JoiningOf rule c ws' (r + 1) (result_map_both Some (λ o. o) k) (join_one (joiner_of rule) c x q)
+    (x : Conjunct 2) → JoiningOf rule c ws r j x → JoiningOf rule c ws' (r + 1) (result_map_both Some (λ o. o) k) (join_one (joiner_of rule) c x q)
 
 -- and with all parts from number i on: part p in the share of number m + p - 1
-abbrev pub JoinsRest : List ℕ → ℕ → List ℕ → ℕ → Option Made → List ℕ → Result (Option Made) OverCeiling → Type 0
+abbrev pub JoinsRest : List ℕ → ℕ → List ℕ → ℕ → Result (Option Made) OverCeiling → List ℕ → Result (Option Made) OverCeiling → Type 0
 JoinsRest rule c ws i j ws' k =
     let ps = parts_of (records_of rule) in
-    (x : Conjunct 2) → JointOf rule c ws (count_of rule + i - 1) j x
+    (x : Conjunct 2) → JoiningOf rule c ws (count_of rule + i - 1) j x
     → JoiningOf rule c ws' (count_of rule + length ps - 1) k (join_from (joiner_of rule) c x (drop i ps))
 
 -- nothing is changed but the shares from number r on that are behind the records' own, 15 of them

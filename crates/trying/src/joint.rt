@@ -60,13 +60,13 @@ pub fn join_pair(
 }
 
 // Record q joined to what is joined so far, if anything is, which stands before the share of number r, into that share. Of the first one
-// nothing is made.
+// nothing is made; and where a join went over before, that is the answer again.
 pub fn join_part(
     rule: &[u8],
     c: usize,
     ws: &mut [u8],
     machines: &Machines,
-    joined: Option<Made>,
+    joined: Result<Option<Made>, OverCeiling>,
     q: usize,
     r: usize,
 ) -> Result<Made, OverCeiling>
@@ -82,8 +82,9 @@ pub fn join_part(
         machine: machines.kept(q),
     };
     match joined {
-        None => Ok(part),
-        Some(made) => join_pair(rule, c, ws, made, part, r),
+        Err(over) => Err(over),
+        Ok(None) => Ok(part),
+        Ok(Some(made)) => join_pair(rule, c, ws, made, part, r),
     }
 }
 
@@ -95,7 +96,7 @@ pub fn join_rest(
     machines: &Machines,
     parts: &Parts,
     i: usize,
-    joined: Option<Made>,
+    joined: Result<Option<Made>, OverCeiling>,
 ) -> Result<Option<Made>, OverCeiling>
     requires triable { Triable rule.now c (length ws.old) }
     requires reached_built { ReachedBuilt rule.now c (entry_of machines.now) ws.old }
@@ -106,10 +107,10 @@ pub fn join_rest(
     ensures confined { Confined rule.now c (count_of rule.now + i - 1) ws.old ws.new }
 {
     let m = rule_strip::count_of(rule);
-    let mut all = joined;
+    let mut all = joined?;
     for p in i..parts.count {
         let q = usize::from(parts.numbers[p]);
-        all = Some(join_part(rule, c, ws, machines, all, q, m + p - 1)?);
+        all = Some(join_part(rule, c, ws, machines, Ok(all), q, m + p - 1)?);
     }
     Ok(all)
 }

@@ -1,7 +1,7 @@
 // The parts of a rule joined and tried, over the machines of its records.
 #![tactic(auto)]
 
-ghost use Rattle.std.specs.Prelude.{◌≡◌, ◌+◌, ◌-◌, ◌≤◌, ◌<◌, length};
+ghost use Rattle.std.specs.Prelude.{Ok, ◌≡◌, ◌+◌, ◌-◌, ◌≤◌, ◌<◌, length};
 ghost use Rattle.rule_strip.specs.RuleStrip.{count_of, records_of};
 ghost use Rattle.parts.specs.Parts.{parts_of};
 ghost use Rattle.parts.specs.Listed.{Listed};
@@ -31,11 +31,11 @@ fn try_part(
     requires reached_built { ReachedBuilt rule.now c (entry_of machines.now) ws.old }
     requires listed { Listed (parts_of (records_of rule.now)) parts.now.count parts.now.numbers × (i < parts.now.count)
         × (parts.now.count ≤ 16) }
-    requires some_joint { SomeJoint rule.now c ws.old (count_of rule.now + i - 1) joined }
+    requires some_joint { SomeJoint rule.now c ws.old (count_of rule.now + i - 1) (Ok joined) }
     ensures trial_tells { TrialTells rule.now c ws.old i joined result }
     ensures confined { Confined rule.now c (count_of rule.now + i) ws.old ws.new }
 {
-    let rest = join_rest(rule, c, ws, machines, parts, i + 1, joined)?;
+    let rest = join_rest(rule, c, ws, machines, parts, i + 1, Ok(joined))?;
     match rest {
         None => Ok(false),
         Some(made) => Ok(!reading::satisfiable(made.machine)),
@@ -56,7 +56,7 @@ fn join_kept(
     requires reached_built { ReachedBuilt rule.now c (entry_of machines.now) ws.old }
     requires listed { Listed (parts_of (records_of rule.now)) parts.now.count parts.now.numbers × (i < parts.now.count)
         × (parts.now.count ≤ 16) }
-    requires some_joint { SomeJoint rule.now c ws.old (count_of rule.now + i - 1) joined }
+    requires some_joint { SomeJoint rule.now c ws.old (count_of rule.now + i - 1) (Ok joined) }
     ensures joins_kept { JoinsKept rule.now c ws.old i joined ws.new result }
     ensures confined { Confined rule.now c (count_of rule.now + i - 1) ws.old ws.new }
 {
@@ -65,7 +65,7 @@ fn join_kept(
     }
     let m = rule_strip::count_of(rule);
     let q = usize::from(parts.numbers[i]);
-    Ok(Some(join_part(rule, c, ws, machines, joined, q, m + i - 1)?))
+    Ok(Some(join_part(rule, c, ws, machines, Ok(joined), q, m + i - 1)?))
 }
 
 // The parts that are kept, by their records' numbers, at the front, and how many they are; zeros behind them.

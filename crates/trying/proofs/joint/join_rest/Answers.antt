@@ -2,11 +2,17 @@
 use Rattle.words.proofs.Vocabulary.{refl, arith}
 use Rattle.std.proofs.lemmas.Result.{err_from_is_err_and}
 use Rattle.rules.proofs.Rules.{rule-sizes}
-use Rattle.trying.proofs.Joints.{part_is, joining_first, joining_asks, joining_confined, joining_next, joining_over, joining_last}
+use Rattle.trying.proofs.Joints.{part_is, joining_first, joining_asks, joining_confined, joining_next, joining_over, joining_last, rest-over}
 use Rattle.trying.proofs.joint.join_rest.Goals as goal
 
 pub count_of-m-requires : goal.count_of-m-requires
 count_of-m-requires c = (rule-sizes c.requires.triable.work).0
+
+pub returns-in_err-all-clause-joins_rest : goal.returns-in_err-all-clause-joins_rest
+returns-in_err-all-clause-joins_rest c =
+    let a = c.args in
+    let e = err_from_is_err_and c.from_residual.result c.from_residual.ensures.1 in
+    rw (e.1, e.2) (rest-over a.rule.now a.c a.ws.now c.in_err-all.field-0.0 a.i c.in_err-all.was)
 
 pub loop-p-init : goal.loop-p-init
 loop-p-init c = joining_first
@@ -19,7 +25,7 @@ overflow_sub-m c = omega (arith, rule-sizes c.requires.triable.work)
 
 pub join_part-requires-clause-reached_built : goal.join_part-requires-clause-reached_built
 join_part-requires-clause-reached_built c =
-    let p = c.requires in (joining_asks p.triable p.listed.0 c.loop-p.invariant refl p.reached_built p.some_joint).1.0
+    let p = c.requires in (joining_asks p.triable p.listed.0 c.loop-p.invariant refl p.reached_built (rw c.in_ok-all.was at p.some_joint)).1.0
 
 pub join_part-requires-clause-reached_record : goal.join_part-requires-clause-reached_record
 join_part-requires-clause-reached_record c =
@@ -30,14 +36,14 @@ join_part-requires-clause-reached_record c =
 pub join_part-requires-clause-some_joint : goal.join_part-requires-clause-some_joint
 join_part-requires-clause-some_joint c =
     let p = c.requires in
-    rw c.count_of-m.ensures (joining_asks p.triable p.listed.0 c.loop-p.invariant refl p.reached_built p.some_joint).1.1
+    rw c.count_of-m.ensures (joining_asks p.triable p.listed.0 c.loop-p.invariant refl p.reached_built (rw c.in_ok-all.was at p.some_joint)).1.1
 
 pub returns-in_err-join_part-clause-joins_rest : goal.returns-in_err-join_part-clause-joins_rest
 returns-in_err-join_part-clause-joins_rest c =
     let p = c.requires in
-    let e = err_from_is_err_and c.from_residual.result c.from_residual.ensures.1 in
+    let e = err_from_is_err_and c.from_residual-in_err-join_part.result c.from_residual-in_err-join_part.ensures.1 in
     let v = c.in_err-join_part.ensures in
-    rw (e.1, e.2) (joining_over p.triable p.listed.0 c.loop-p.invariant c.loop-p-test.true (rw c.count_of-m.ensures at v.confined)
+    rw (c.in_ok-all.was, e.1, e.2) (joining_over p.triable p.listed.0 c.loop-p.invariant c.loop-p-test.true (rw c.count_of-m.ensures at v.confined)
     c.in_err-join_part.field-0.0 (rw (c.count_of-m.ensures, c.from-q.ensures) at v.joins_part))
 
 pub returns-in_err-join_part-clause-confined : goal.returns-in_err-join_part-clause-confined
@@ -55,7 +61,7 @@ loop-p-preserved c =
 pub returns-clause-joins_rest : goal.returns-clause-joins_rest
 returns-clause-joins_rest c =
     let p = c.requires in
-    joining_last p.triable p.listed.0 c.loop-p.invariant c.loop-p-test.false (c.loop-p.auto.p-end p.listed.1)
+    rw c.in_ok-all.was (joining_last p.triable p.listed.0 c.loop-p.invariant c.loop-p-test.false (c.loop-p.auto.p-end p.listed.1))
 
 pub returns-clause-confined : goal.returns-clause-confined
 returns-clause-confined c = c.loop-p.invariant.confined
