@@ -2,6 +2,7 @@
 -- Assumes nothing.
 use Rattle.words.proofs.Vocabulary.{ℕ, ◌+◌, ◌-◌, ◌*◌, ◌≤◌, ◌<◌, ◌≡◌, refl, sym, ap, ◌∙◌, subst, Bool, T, List, arith, length, get_or}
 use Rattle.logic.specs.Rule.{Record, no_record, last_of, formula_at, Accepted}
+use Rattle.logic.specs.Claims.{FirstOver, Roomy}
 use Rattle.logic.specs.ReachedRecords.{itself}
 use Rattle.logic.proofs.Rules.{reached-within}
 use Rattle.layout.specs.Shape.{Shaped}
@@ -21,7 +22,7 @@ use Rattle.refinement.proofs.Upto.{used_iff, first-over, all-good, roomy}
 use Rattle.refusals.specs.Fault.{sound}
 use Rattle.rule_strip.specs.RuleStrip.{rule_fault, variables_of, count_of, record_at, records_of}
 use Rattle.rule_strip.proofs.RuleLaws.{rule-accepted, records_at, widths_at}
-use Rattle.rules.specs.Building.{rule_shape, MachineFor, BuiltRecords, Decider}
+use Rattle.rules.specs.Building.{rule_shape, MachineFor, ReachedBuilt, BuiltRecords, Decider}
 use Rattle.rules.specs.Decoding.{DecodesTo}
 use Rattle.rules.specs.Room.{Workable}
 use Rattle.rules.proofs.Rooms.{room_shares, shaped}
@@ -87,32 +88,42 @@ module _ {rule : List ℕ} {c room : ℕ} (w : Workable rule c room) where
     outcome_is : upto xs (used_in xs (length rs)) (rule_shape rule c) (length rs) ≡ upto xs (used_in xs m) (rule_shape rule c) m
     outcome_is = ap (λ (j : ℕ). upto xs (used_in xs j) (rule_shape rule c) j) long
 
-    -- none has too many states: the machines of the records that are reached; or the first that has
+    module _ (ws : List ℕ) where
+      -- too many states
+      pub rule-over : (e : OverCeiling) → MadeBy (used_in xs m) xs (rule_shape rule c) m (Err e) ws → FirstOver 2 n rs c e.at
+      rule-over e made =
+          first-over n c rule-shaped rs good xs decoded e.at (outcome_is ∙ is_over (used_in xs m) _ (rule_shape rule c) m e ws made)
+
+      -- none has: the machines of the records that are reached
+      pub rule-ready : (t : Machines) → MadeBy (used_in xs m) xs (rule_shape rule c) m (Ok t) ws → length ws ≡ room
+          → Roomy 2 n rs c × ReachedBuilt rule c (entry_of t) ws
+      rule-ready t made same =
+          let l = long in
+          let z = rule-sizes in
+          let o = no_over (used_in xs m) _ (rule_shape rule c) m t ws made in
+          let ended = outcome_is ∙ o.1 in (
+            roomy n c rule-shaped rs good xs decoded o.0 ended,
+            λ r u.
+                let h = reached-within 2 n rs good r u in
+                let g = all-good n c rule-shaped rs good xs decoded o.0 ended r u in
+                record {
+                  readable = record {
+                    shape = rule-shaped;
+                    number = omega arith;
+                    share = omega (arith, share-next (rule_shape rule c) r m (omega arith), room_shares n m c rule-shaped, w.long);
+                    machine = get_or o.0 r no_mach;
+                    stored = o.2.1 r (omega arith) (subst (λ (j : ℕ). T (used_in xs j r)) l ((used_iff n c rule-shaped rs good xs decoded r).1 u));
+                  };
+                  decides = g.machine;
+                  full = g.full;
+                },
+          )
+
+    -- so building ends
     pub rule-built : (r : Result Machines OverCeiling) (ws : List ℕ) → MadeBy (used_in xs m) xs (rule_shape rule c) m r ws → length ws ≡ room
         → BuiltRecords rule c r ws
-    rule-built (Err e) ws made same =
-        first-over n c rule-shaped rs good xs decoded e.at (outcome_is ∙ is_over (used_in xs m) _ (rule_shape rule c) m e ws made)
-    rule-built (Ok t) ws made same =
-        let l = long in
-        let z = rule-sizes in
-        let o = no_over (used_in xs m) _ (rule_shape rule c) m t ws made in
-        let ended = outcome_is ∙ o.1 in (
-          roomy n c rule-shaped rs good xs decoded o.0 ended,
-          λ r u.
-              let h = reached-within 2 n rs good r u in
-              let g = all-good n c rule-shaped rs good xs decoded o.0 ended r u in
-              record {
-                readable = record {
-                  shape = rule-shaped;
-                  number = omega arith;
-                  share = omega (arith, share-next (rule_shape rule c) r m (omega arith), room_shares n m c rule-shaped, w.long);
-                  machine = get_or o.0 r no_mach;
-                  stored = o.2.1 r (omega arith) (subst (λ (j : ℕ). T (used_in xs j r)) l ((used_iff n c rule-shaped rs good xs decoded r).1 u));
-                };
-                decides = g.machine;
-                full = g.full;
-              },
-        )
+    rule-built (Err e) ws made same = rule-over ws e made
+    rule-built (Ok t) ws made same = rule-ready ws t made same
 
   -- the last one's machine decides the rule
   pub rule-decided : (t : Machines) (ws : List ℕ) → BuiltRecords rule c (Ok t) ws → Decider rule c (entry_of t (m - 1)) ws
