@@ -6,7 +6,6 @@ use native.Mathlib.Omega.{arith}
 use lib.ListN.{length, length-append}
 use Rattle.logic.specs.Rule.{Record, last_of}
 use Rattle.text.specs.Records.{put, put_alike}
-use Rattle.ops.specs.declared.Op.TheVariants.{Not, Or, And}
 use Rattle.drafting.specs.declared.Draft.{Draft}
 use Rattle.drafting.specs.Draft.{Puts, Joins}
 
@@ -19,8 +18,8 @@ last_is : (fs gs : List Record) (l x c : ℕ) → l ≡ min (length fs) 129 → 
 last_is fs gs l x c e m f g h = let z = g (omega arith) in omega arith
 
 -- the five records of `<=>`
-pub alike_is : {d d₁ : Draft} {x : ℕ} → (d.count ≤ 128 → x ≡ d.count - 1) → (l y : ℕ) {d₂ d₃ d₄ d₅ : Draft} → (l ≤ 128 → y ≡ l - 1) → Puts d Not y 0 d₁ → Puts d₁ Not x 0 d₂
-    → Puts d₂ Or d.count x d₃ → Puts d₃ Or d₁.count y d₄ → Puts d₄ And d₂.count d₃.count d₅ → Joins d l d₅ put_alike
+pub alike_is : {d d₁ : Draft} {x : ℕ} → (d.count ≤ 128 → x ≡ d.count - 1) → (l y : ℕ) {d₂ d₃ d₄ d₅ : Draft} → (l ≤ 128 → y ≡ l - 1) → Puts d 5 y 0 d₁ → Puts d₁ 5 x 0 d₂
+    → Puts d₂ 6 d.count x d₃ → Puts d₃ 6 d₁.count y d₄ → Puts d₄ 7 d₂.count d₃.count d₅ → Joins d l d₅ put_alike
 alike_is {d} {d₁} {x} f l y g p₁ p₂ p₃ p₄ p₅ fs gs e m D =
     let i = length gs in
     let a = last_of fs in

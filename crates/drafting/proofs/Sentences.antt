@@ -152,7 +152,7 @@ pub place_is : {k : AtomCode} {x : ℕ} {p q : SpotCode} → k ≡ Equal x p →
 place_is {x = x} g h = g ∙ ap (Equal x) h
 
 -- an atom that is put as the code holds it
-pub atom_is : {d e : Draft} {k : AtomCode} {o : Op} (m : AtomCode) → k ≡ m → o ≡ atom_op m → Puts d o (atom_first m) (atom_second m) e
+pub atom_is : {d e : Draft} {k : AtomCode} {o : Op} (m : AtomCode) → k ≡ m → o ≡ atom_op m → Puts d (op_number o) (atom_first m) (atom_second m) e
     → (sc : Scope) (a : Atom) → k ≡ coded_atom sc a → Drafts d e (write_atom sc a)
 atom_is {e = e} m g f p sc a h rs D =
     rw write_coded

@@ -1,9 +1,7 @@
 -- The records of a text in an array of words, while the text is read. Assumes nothing.
 use Rattle.std.specs.Prelude.{ℕ, ◌<◌, ◌≤◌, min, ◌≡◌, List, length, get_or}
 use Rattle.logic.specs.Rule.{Record, no_record}
-use Rattle.ops.specs.Ops.{op_number}
 use Rattle.rule_strip.specs.RuleWriting.{record_word}
-use Rattle.ops.specs.declared.Op.{Op}
 use Rattle.text.specs.Records.{put}
 use Rattle.drafting.specs.declared.Draft.{Draft}
 
@@ -18,10 +16,10 @@ pub record Drafted (d : Draft) (rs : List Record) : Type 0 where
 abbrev pub Drafts : Draft → Draft → (List Record → List Record) → Type 0
 Drafts d e f = (rs : List Record) → Drafted d rs → Drafted e (f rs)
 
--- whatever records stood in the draft, now one more does: that of op and two fields, which have to be right only where it is kept
-abbrev pub Puts : Draft → Op → ℕ → ℕ → Draft → Type 0
+-- whatever records stood in the draft, now one more does: that of an op's number and two fields, which have to be right only where it is kept
+abbrev pub Puts : Draft → ℕ → ℕ → ℕ → Draft → Type 0
 Puts d op x y e =
-    (rs : List Record) (a b : ℕ) → Drafted d rs → (d.count < 128 → x ≡ a) → (d.count < 128 → y ≡ b) → Drafted e (put (op_number op) a b rs)
+    (rs : List Record) (a b : ℕ) → Drafted d rs → (d.count < 128 → x ≡ a) → (d.count < 128 → y ≡ b) → Drafted e (put op a b rs)
 
 -- whatever records gs stood in the draft, of which fs, counted by l, are the first, now f of them do
 abbrev pub Joins : Draft → ℕ → Draft → (List Record → List Record → List Record) → Type 0

@@ -5,6 +5,7 @@ ghost use Rattle.std.specs.Prelude.{◌≡◌, [], ◌+◌, ◌-◌, ◌<◌, �
 ghost use Rattle.text.specs.Syntax.{Scope};
 ghost use Rattle.text.specs.Syntax as syntax;
 ghost use Rattle.text.specs.Records.{put_not, put_single, put_exists, put_alike, write_atom};
+ghost use Rattle.ops.specs.Ops.{op_number};
 ghost use Rattle.drafting.specs.Draft.{Drafted, Drafts, Puts, Joins};
 ghost use Rattle.drafting.specs.Coded.{branch_op, coded_atom, AtomBelow};
 ghost use Rattle.drafting.specs.Joined.{put_some_place, put_quantified, put_joined};
@@ -93,9 +94,10 @@ impl Draft {
         }
     }
 
-    // One record more.
-    pub fn put(&mut self, op: Op, first: usize, second: usize)
-        requires { self.old.count < 128 → (first < 128) × (second < 128) }
+    // One record more, of the op of this number, which may be one that no op has.
+    pub fn put_numbered(&mut self, op: usize, first: usize, second: usize)
+        requires op_bound { op < 16 }
+        requires first_bound { self.old.count < 128 → (first < 128) × (second < 128) }
         ensures value { self.new.count ≡ min (self.old.count + 1) 129 }
         ensures puts { Puts self.old op first second self.new }
     {
@@ -103,8 +105,17 @@ impl Draft {
             self.count = 129;
             return;
         }
-        self.words[self.count] = rule_strip::write::record_word(op.number(), first, second);
+        self.words[self.count] = rule_strip::write::record_word(op, first, second);
         self.count += 1;
+    }
+
+    // One record more.
+    pub fn put(&mut self, op: Op, first: usize, second: usize)
+        requires { self.old.count < 128 → (first < 128) × (second < 128) }
+        ensures value { self.new.count ≡ min (self.old.count + 1) 129 }
+        ensures puts { Puts self.old (op_number op) first second self.new }
+    {
+        self.put_numbered(op.number(), first, second);
     }
 
     // The denial of what was put last.
