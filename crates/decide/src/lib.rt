@@ -48,6 +48,7 @@ fn room_refusal(
 }
 
 // The refusals that are tested before anything is built.
+#[tactic(auto, unfolding(crate::specs::Decide::decide_refusal), using(rules::proofs::Checks::rule_refused))]
 fn decide_refusal(rule: &[u8], c: u64, p: u64, room: usize, outroom: usize) -> Result<(), Refusal>
     ensures { result ≡ decide_refusal rule.now c p room outroom }
 {

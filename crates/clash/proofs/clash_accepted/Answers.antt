@@ -2,6 +2,7 @@
 use Rattle.words.proofs.Vocabulary.{ℕ, ◌-◌, ◌≡◌, ◌∙◌, sym, subst, List, arith}
 use Rattle.std.specs.Prelude.{Ok}
 use Rattle.std.proofs.lemmas.Result.{err_from_is_err_and}
+use Rattle.std.proofs.lemmas.Grind.{common_steps}
 use Rattle.building.specs.Build.{entry_of}
 use Rattle.building.specs.declared.Machines.{Machines}
 use Rattle.records.specs.declared.Summary.{Summary}
@@ -25,7 +26,7 @@ returns-in_err-machines c =
     let p = err_from_is_err_and c.from_residual.result c.from_residual.ensures.1 in
     rw (p.1, p.2)
     (record {
-      value = own-over c.requires.triable _ (rw c.in_err-machines.was at v.built_records);
+      value = own-over c.requires.triable _ (grind (arith, common_steps));
       ws_unchanged = built-beyond a.rule.now a.c a.ws.now _ v.ws_unchanged;
     })
 
@@ -40,8 +41,9 @@ kept-requires c =
 pub satisfiable-requires : goal.satisfiable-requires
 satisfiable-requires c =
     let w = c.requires.triable.work in
-    let b = rw c.in_ok-machines.was at c.build_records.ensures.built_records in
-    let h = (decider w c.in_ok-machines.machines _ b c.count_of.ensures c.kept.ensures).last.readable.stored in
+    let t = c.in_ok-machines.machines in
+    let e : c.build_records.result ≡ Ok t = grind (arith, common_steps) in
+    let h = (decider w t _ (rw e at c.build_records.ensures.built_records) c.count_of.ensures c.kept.ensures).last.readable.stored in
     omega (arith, h.count, h.few, w.few-states)
 
 pub returns-then-satisfiable : goal.returns-then-satisfiable
@@ -49,7 +51,8 @@ returns-then-satisfiable c =
     let a = c.args in
     let t = c.requires.triable in
     let v = c.build_records.ensures in
-    let d = decider t.work c.in_ok-machines.machines _ (rw c.in_ok-machines.was at v.built_records) c.count_of.ensures c.kept.ensures in record {
+    let e : c.build_records.result ≡ Ok c.in_ok-machines.machines = grind (arith, common_steps) in
+    let d = decider t.work c.in_ok-machines.machines _ (rw e at v.built_records) c.count_of.ensures c.kept.ensures in record {
       value = own-satisfiable t d c.satisfiable.ensures c.if-satisfiable.true;
       ws_unchanged = built-beyond a.rule.now a.c a.ws.now _ v.ws_unchanged;
     }
@@ -57,9 +60,10 @@ returns-then-satisfiable c =
 pub try_parts-requires : goal.try_parts-requires
 try_parts-requires c =
     let p = c.requires in
-    let v = c.build_records in record {
+    let v = c.build_records in
+    let e : v.result ≡ Ok c.in_ok-machines.machines = grind (arith, common_steps) in record {
       triable = subst (Triable c.args.rule.now c.args.c) (sym v.auto.ws) p.triable;
-      reached_built = (rw c.in_ok-machines.was at v.ensures.built_records).1;
+      reached_built = (rw e at v.ensures.built_records).1;
       listed = p.listed;
     }
 
@@ -69,7 +73,8 @@ returns-in_err-kept c =
     let t = c.requires.triable in
     let v = c.build_records.ensures in
     let l = c.try_parts.ensures in
-    let d = decider t.work c.in_ok-machines.machines _ (rw c.in_ok-machines.was at v.built_records) c.count_of.ensures c.kept.ensures in
+    let e : c.build_records.result ≡ Ok c.in_ok-machines.machines = grind (arith, common_steps) in
+    let d = decider t.work c.in_ok-machines.machines _ (rw e at v.built_records) c.count_of.ensures c.kept.ensures in
     let p = err_from_is_err_and c.from_residual-in_err-kept.result c.from_residual-in_err-kept.ensures.1 in
     rw (p.1, p.2)
     (record {
@@ -83,7 +88,8 @@ returns c =
     let t = c.requires.triable in
     let v = c.build_records.ensures in
     let l = c.try_parts.ensures in
-    let d = decider t.work c.in_ok-machines.machines _ (rw c.in_ok-machines.was at v.built_records) c.count_of.ensures c.kept.ensures in record {
+    let e : c.build_records.result ≡ Ok c.in_ok-machines.machines = grind (arith, common_steps) in
+    let d = decider t.work c.in_ok-machines.machines _ (rw e at v.built_records) c.count_of.ensures c.kept.ensures in record {
       value = kept-listed a.rule.now a.c _ (rw c.in_ok-kept.was at l.tried_all) ∙ own-tried t d c.satisfiable.ensures c.if-satisfiable.false;
       ws_unchanged = trials-beyond t l.confined ∙ built-beyond a.rule.now a.c a.ws.now _ v.ws_unchanged;
     }
