@@ -1,5 +1,7 @@
 -- `build_marked` meets its contract, by the turns of `Nexts`.
-use Rattle.words.proofs.Vocabulary.{◌+◌, ◌-◌, refl, arith}
+use Rattle.words.proofs.Vocabulary.{◌+◌, ◌-◌, ◌≡◌, refl, arith}
+use Rattle.std.specs.Prelude.{Ok}
+use Rattle.std.proofs.lemmas.Grind.{common_steps}
 use Rattle.std.proofs.lemmas.Result.{err_from_is_err_and}
 use Rattle.building.specs.Named.{marked}
 use Rattle.building.proofs.Marks.{next-after}
@@ -13,7 +15,8 @@ build_record-requires-clause-some_parts c =
 pub returns-in_err-build_record-clause-made_by : goal.returns-in_err-build_record-clause-made_by
 returns-in_err-build_record-clause-made_by c =
     let p = err_from_is_err_and c.from_residual.result c.from_residual.ensures.1 in
-    rw (p.1, p.2) (turn-over c.requires.by_index c.requires.m_value.1 c.loop-r.invariant c.loop-r-test.true c.build_record.ensures _ c.in_err-build_record.was)
+    rw (p.1, p.2)
+    (turn-over c.requires.by_index c.requires.m_value.1 c.loop-r.invariant c.loop-r-test.true c.build_record.ensures _ (grind (arith, common_steps)))
 
 pub returns-in_err-build_record-clause-ws_unchanged : goal.returns-in_err-build_record-clause-ws_unchanged
 returns-in_err-build_record-clause-ws_unchanged c =
@@ -33,5 +36,6 @@ loop-r-init c = turn-first c.next_marked-r.ensures
 
 pub loop-r-preserved : goal.loop-r-preserved
 loop-r-preserved c =
-    turn-next c.requires.by_index c.requires.m_value.1 c.loop-r.invariant c.loop-r-test.true c.build_record.ensures (rw c.in_ok-build_record.was refl)
+    let e : c.build_record.result ≡ Ok tt = grind (arith, common_steps) in
+    turn-next c.requires.by_index c.requires.m_value.1 c.loop-r.invariant c.loop-r-test.true c.build_record.ensures (rw e refl)
     c.build_record.auto.ws c.next_marked-r-in-loop-r.ensures
