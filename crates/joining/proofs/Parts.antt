@@ -21,6 +21,12 @@ beq_means true false e = sym e
 beq_means false true e = e
 beq_means false false e = refl
 
+pub beq_true : (a b : Bool) → a ≡ b → beq a b ≡ true
+beq_true true true e = refl
+beq_true true false e = sym e
+beq_true false true e = e
+beq_true false false e = refl
+
 -- ---- the first number that passes
 -- there is one such
 pub first_one : (d e : ℕ → Bool) {p q r s : ℕ} → ((x : ℕ) → d x ≡ e x) → FirstSuch d p r → FirstSuch e q s → r ≡ s

@@ -6,7 +6,7 @@ use mathlib.Core.List.{List, [], ◌∷◌, ◌++◌, append_assoc}
 use native.Mathlib.Nat.{not-suc-le-zero, mod-lt, zero-lt-suc}
 use native.Mathlib.Numerals.{add-one}
 use native.Mathlib.Omega.{arith}
-use borrow.Author.Tests.{ltb-true, ltb-false}
+use borrow.Author.Tests.{ltb-true, ltb-false, lt-ltb, le-ltb}
 use lib.Dec.{ltb, lit<}
 use lib.ListN.{length, get_or, set, replicate, length-append, get_or-append, get_or-eq_default}
 use lib.Seq.{sets, get_or-append-add, get_or_at}
@@ -102,6 +102,21 @@ word-is ws i = go (ltb i (length ws)) refl
     go : (v : Bool) → ltb i (length ws) ≡ v → get_or ws i 0 % 262144 ≡ cond v (get_or ws i 0 % 262144) 0
     go true e = refl
     go false e = rw (get_or-eq_default ws 0 (ltb-false i (length ws) e)) refl
+
+-- of the first m of any words
+module _ (m : ℕ) (ws : List ℕ) where
+  pub word-there : (i : ℕ) → i < m → get_or ws i 0 % 262144 ≡ word_at m ws i
+  unfolding word_at
+  word-there i h = rw (lt-ltb i m h) refl
+
+  pub word_past : (i : ℕ) → m ≤ i → 0 ≡ word_at m ws i
+  unfolding word_at
+  word_past i h = rw (le-ltb i m h) refl
+
+  pub byte-among : (k y : ℕ) → 8 * k < 18 * m → y ≡ word_at m ws (8 * k / 18 + 1)
+      → (get_or ws (8 * k / 18) 0 % 262144 * 262144 + y) / 2 ^ (28 - 8 * k % 18) % 256 ≡ record_byte m ws k
+  unfolding record_byte
+  byte-among k y h e = rw (word-there (8 * k / 18) (omega arith), e) refl
 
 pub byte-is : (ws : List ℕ) (k x : ℕ) → x ≡ get_or ws (8 * k / 18 + 1) 0
     → (get_or ws (8 * k / 18) 0 % 262144 * 262144 + x % 262144) / 2 ^ (28 - 8 * k % 18) % 256 ≡ record_byte (length ws) ws k

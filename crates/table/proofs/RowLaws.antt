@@ -1,7 +1,7 @@
 -- The rows of "exists": their filling, and the successors that their unions are. Assumes nothing.
 use Rattle.words.proofs.Vocabulary.{ℕ, ◌≤◌, ◌<◌, ◌+◌, Bool, true, false, ◌||◌, ◌&&◌, ◌≡◌, ◌∙◌, sym, ap, List, [], ◌∷◌, below_more, ne_eqb, bit_and, length}
 use Rattle.words.proofs.Vocabulary.{get_or, set, length-set, get_or-set_other, get_or-set_same, ℕ_discrete, arith}
-use Rattle.words.specs.Word.{Below, mem, any, Smallest, Without}
+use Rattle.words.specs.Word.{Below, mem, any, Without}
 use Rattle.table.specs.Rows.{hit_column, union_of, Follows, Serves, UnionsUpTo}
 use Rattle.table.specs.Entry.{Step, through, off, on, seen}
 use Rattle.table.specs.Succ.{hit, hit_row, hit_set, choice, exists_code}
@@ -26,23 +26,20 @@ pub filling_first : {f : Step} {l m s seen rest : ℕ} {left right : List ℕ} �
 filling_first e h =
     record { full = h; done = λ t a b. let same = rw e at b in let z : ◌≡◌ {A = ℕ} 0 1 = cc in absurd (omega arith) }
 
-pub filling_next : {f : Step} {l m s seen rest : ℕ} {left right : List ℕ} {t rest' : ℕ} (x y : ℕ)
-    → Filling f l m s seen rest left right → Smallest rest t × Without rest t rest'
+pub filling_next : {f : Step} {l m s seen rest : ℕ} {left right : List ℕ} {t rest' : ℕ} (x y : ℕ) → t < 64
+    → Filling f l m s seen rest left right → Without rest t rest'
     → ((q : ℕ) → mem q x ≡ any (hit_column f l m s q t) 64) → ((q : ℕ) → mem q y ≡ any (hit_row f l m s q t) 64)
     → Filling f l m s seen rest' (set left t x) (set right t y)
-filling_next {f} {l} {m} {s} {seen} {rest} {left} {right} {t} {rest'} x y w o ex ey =
+filling_next {f} {l} {m} {s} {seen} {rest} {left} {right} {t} {rest'} x y top w o ex ey =
     record { full = full-set t x y w.full; done = λ u a b. go u a b (ℕ_discrete u t) }
   where
-    top : t < 64
-    top = o.0.top
-
     go : (u : ℕ) → mem u seen ≡ true → mem u rest' ≡ false → Dec (u ≡ t) → Follows f l m s u (set left t x) (set right t y)
     go u a b (yes e) = record {
       after = λ q. rw (e, get_or-set_same left t x 0 (omega (arith, top))) (ex q);
       before = λ q. rw (e, get_or-set_same right t y 0 (omega (arith, top))) (ey q);
     }
     go u a b (no n) =
-        let old = w.done u a (o.1.same u ∙ ap (λ (v : Bool). v || mem u rest') (ne_eqb t u (λ e. n (sym e))) ∙ b) in
+        let old = w.done u a (o.same u ∙ ap (λ (v : Bool). v || mem u rest') (ne_eqb t u (λ e. n (sym e))) ∙ b) in
         record {
           after = λ q. rw (get_or-set_other left t u x 0 n) (old.after q);
           before = λ q. rw (get_or-set_other right t u y 0 n) (old.before q);

@@ -1,7 +1,7 @@
 -- A word's members: the smallest, the word without one, and the walk through them all. Assumes nothing.
 use Rattle.words.proofs.Vocabulary.{ℕ, ◌≤◌, ◌<◌, ◌+◌, ◌-◌, ◌*◌, suc, ◌%◌, zero, ◌^◌, ◌/◌, Bool, ◌||◌, true, false, ◌&&◌, not, or-true, or_assoc}
 use Rattle.words.proofs.Vocabulary.{or-false, and-false, ◌≡◌, ◌∙◌, sym, ap, eq-eqb, eqb-true, le-ltb, lt-ltb, ne_eqb, bit_or, and_le_l, bit_and, ones}
-use Rattle.words.proofs.Vocabulary.{count_trailing_zeros, ones_step, eqb, ltb, eqb·suc-suc, eqb·suc-zero, eqb·zero-suc, pow-lt, dec_lt, ℕ_discrete}
+use Rattle.words.proofs.Vocabulary.{count_trailing_zeros, ones_step, ones_in, eqb, ltb, eqb·suc-suc, eqb·suc-zero, eqb·zero-suc, pow-lt, dec_lt, ℕ_discrete}
 use Rattle.words.proofs.Vocabulary.{pow-suc, arith}
 use Rattle.words.specs.Word.{Below, mem, any, Smallest, Without}
 use Rattle.words.proofs.Any.{any_in, any_none, any-first}
@@ -47,6 +47,17 @@ less-size (suc q) x h =
 pub without-law : (x q : ℕ) → q < 64 → mem q x ≡ true → Without x q (x - 1 * 2 ^ q % 18446744073709551616)
 without-law x q h m = rw (shl_one q h) (record { same = less-mem q x m; less = less-size q x m })
 
+-- a set of size 0 has no member
+pub none_in : (q x : ℕ) → ones x ≡ 0 → mem q x ≡ false
+unfolding mem
+none_in zero x e = let d : x % 2 ≡ 0 = omega (arith, ones_step x) in rw d
+none_in (suc q) x e = none_in q (x / 2) (omega (arith, ones_step x))
+
+pub some_in : (x : ℕ) → 0 < ones x → 0 < x
+unfolding ones ones_in
+some_in zero h = absurd (omega arith)
+some_in (suc x) h = omega arith
+
 -- a walk through the members of a set: `rest` is left of it, and r has what passes the test g with a member that is gone
 pub record Walk (set rest r : ℕ) (g : ℕ → ℕ → Bool) : Type 0 where
   pub whole : (q : ℕ) → any (λ (t : ℕ). mem t set && g q t) 64 ≡ (mem q r || any (λ (t : ℕ). mem t rest && g q t) 64)
@@ -54,10 +65,10 @@ pub record Walk (set rest r : ℕ) (g : ℕ → ℕ → Bool) : Type 0 where
 pub walk_first : {set rest : ℕ} {g : ℕ → ℕ → Bool} → rest ≡ set → Walk set rest 0 g
 walk_first e = record { whole = λ q. rw (mem-zero q, e) }
 
-pub walk-next : {set rest r i rest' r' : ℕ} {g : ℕ → ℕ → Bool} → Walk set rest r g → Smallest rest i × Without rest i rest'
+pub walk-next : {set rest r i rest' r' : ℕ} {g : ℕ → ℕ → Bool} → Walk set rest r g → i < 64 → Without rest i rest'
     → ((q : ℕ) → mem q r' ≡ (mem q r || g q i)) → Walk set rest' r' g
-walk-next {rest = rest} {i = i} {rest' = rest'} {g = g} w o e = record {
-  whole = λ q. rw (w.whole q, any-first i 64 (λ (t : ℕ). mem t rest) (λ (t : ℕ). mem t rest') (g q) o.0.top o.1.same, e q, or_assoc);
+walk-next {rest = rest} {i = i} {rest' = rest'} {g = g} w l o e = record {
+  whole = λ q. rw (w.whole q, any-first i 64 (λ (t : ℕ). mem t rest) (λ (t : ℕ). mem t rest') (g q) l o.same, e q, or_assoc);
 }
 
 pub walk-last : {set rest r : ℕ} {g : ℕ → ℕ → Bool} → rest ≡ 0 → Walk set rest r g → (q : ℕ) → mem q r ≡ any (λ (t : ℕ). mem t set && g q t) 64
@@ -102,5 +113,5 @@ accept-same i q A R t e = elim (ℕ_discrete i q) [
 ]
 
 -- a set without one of its members has no new one
-pub below-without : {n x q r : ℕ} → Below n x → Smallest x q × Without x q r → Below n r
-below-without {n} {x} {q} {r} b o t h m = b t h (o.1.same t ∙ ap (λ (u : Bool). eqb q t || u) m ∙ or-true (eqb q t))
+pub below-without : {n x q r : ℕ} → Below n x → Without x q r → Below n r
+below-without {n} {x} {q} {r} b o t h m = b t h (o.same t ∙ ap (λ (u : Bool). eqb q t || u) m ∙ or-true (eqb q t))

@@ -12,7 +12,7 @@ loop-t-init c =
 
 pub loop-t-preserved : goal.loop-t-preserved
 loop-t-preserved c =
-    (omega arith, walk-next c.loop-t.invariant.1 c.in-Some.ensures.steps c.union-r.ensures)
+    (omega arith, let o = c.in-Some.ensures.steps in walk-next c.loop-t.invariant.1 o.0.top o.1 c.union-r.ensures)
 
 pub returns : goal.returns
 unfolding union_of

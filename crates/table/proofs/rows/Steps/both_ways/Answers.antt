@@ -19,7 +19,7 @@ pub loop-i-preserved : goal.loop-i-preserved
 loop-i-preserved c =
     let h = c.loop-i.invariant in
     let o = c.in-Some.ensures.steps in
-    (below-without h.0 o, walk-next h.1 o c.with_steps-left.ensures, walk-next h.2 o c.with_steps-right.ensures)
+    (below-without h.0 o.1, walk-next h.1 o.0.top o.1 c.with_steps-left.ensures, walk-next h.2 o.0.top o.1 c.with_steps-right.ensures)
 
 pub returns-clause-left : goal.returns-clause-left
 returns-clause-left c =

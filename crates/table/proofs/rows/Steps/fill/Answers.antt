@@ -18,7 +18,7 @@ loop-t-preserved c =
     let h = c.loop-t.invariant in
     let b = c.both_ways-b in
     let o = c.in-Some.ensures.steps in
-    (below-without h.0 o, filling_next b.result.left b.result.right h.1 o b.ensures.left b.ensures.right)
+    (below-without h.0 o.1, filling_next b.result.left b.result.right o.0.top h.1 o.1 b.ensures.left b.ensures.right)
 
 pub returns : goal.returns
 returns c =

@@ -16,7 +16,7 @@ pub loop-t-preserved : goal.loop-t-preserved
 loop-t-preserved c =
     let h = c.loop-t.invariant in
     let o = c.in-Some.ensures.steps in
-    (below-without h.0 o, walk-next h.1 o (λ q. c.union-r.ensures q ∙ ap (λ (v : Bool). mem q c.loop-t.r || v) (c.both_ways.ensures.right q)))
+    (below-without h.0 o.1, walk-next h.1 o.0.top o.1 (λ q. c.union-r.ensures q ∙ ap (λ (v : Bool). mem q c.loop-t.r || v) (c.both_ways.ensures.right q)))
 
 pub returns : goal.returns
 returns c =
