@@ -71,10 +71,13 @@ pub record Looks (at : ℕ) (h h' : Held) : Type 0 where
 abbrev pub refused_here : Held → Result Unit TokenFault
 refused_here h = Err (refused_at h.next reason.TextGrammar)
 
--- reading is refused with x, which is kept; the names in use stay
+-- reading is refused with x, which is kept; all else stays
 pub record Refuses (x : TokenFault) (h h' : Held) : Type 0 where
   pub fault_is : h'.fault ≡ x
   pub names_are : h'.names ≡ h.names
+  pub next_is : h'.next ≡ h.next
+  pub draft_is : h'.draft ≡ h.draft
+  pub tracks_is : h'.tracks ≡ h.tracks
 
 -- what reading a formula answers: it leaves the tokens from a place on, having put the formula's records behind rs and counted its tracks; or a
 -- refusal at a token, which is kept. h and h': where reading had come to before and after
