@@ -1,6 +1,7 @@
 -- `clash::clash_refusal` meets its contract: each test that does not apply leads to the next.
 use Rattle.words.proofs.Vocabulary.{ℕ, ◌+◌, ◌≡◌, refl, sym, ◌∙◌, List, length, arith}
-use Rattle.std.specs.Prelude.{Ok}
+use Rattle.std.specs.Prelude.{Ok, Err}
+use Rattle.std.proofs.lemmas.Grind.{common_steps}
 use Rattle.std.proofs.lemmas.Result.{err_from_is_err_and}
 use Rattle.refusals.specs.Refusal.{tested, answer_unless}
 use Rattle.refusals.proofs.Refusals.{free}
@@ -55,6 +56,7 @@ find_parts-parts-requires c =
 pub returns-in_err-parts_refusal : goal.returns-in_err-parts_refusal
 returns-in_err-parts_refusal c =
     let p = err_from_is_err_and c.from_residual-in_err-parts_refusal.result c.from_residual-in_err-parts_refusal.ensures.1 in
+    let e : parts_refusal c.find_parts-parts.result.count ≡ Err c.in_err-parts_refusal.field-0.0 = grind (arith, common_steps) in
     rw (p.1, p.2)
     (record {
       refusal_value =
@@ -63,14 +65,14 @@ returns-in_err-parts_refusal c =
             ← c.work_refusal.ensures,
             c.in_ok-work_refusal.was,
             ← c.find_parts-parts.ensures.counted,
-            ← c.parts_refusal.ensures,
-            c.in_err-parts_refusal.was,
+            e,
           ) refl);
       listed = tt;
     })
 
 pub returns : goal.returns
 returns c =
+    let e : parts_refusal c.find_parts-parts.result.count ≡ Ok tt = grind (arith, common_steps) in
     record {
       refusal_value =
           sym (sized _ (sym c.check_rule.ensures ∙ c.in_ok-size.was) _ _
@@ -78,8 +80,7 @@ returns c =
             ← c.work_refusal.ensures,
             c.in_ok-work_refusal.was,
             ← c.find_parts-parts.ensures.counted,
-            ← c.parts_refusal.ensures,
-            c.in_ok-parts_refusal.was,
+            e,
           ) refl);
       listed = c.find_parts-parts.ensures;
     }
