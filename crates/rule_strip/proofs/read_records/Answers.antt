@@ -17,7 +17,7 @@ read_record-last-requires-in-loop-i-clause-at_value c =
 pub loop-i-preserved : goal.loop-i-preserved
 loop-i-preserved c =
     let e : c.loop-i.i + 1 - 1 ≡ c.loop-i.i = omega arith in
-    rw e (reach-more c.loop-i.invariant c.in-Ok.is (omega arith) c.loop-i-test.true c.read_record-last-in-loop-i.ensures)
+    rw e (reach-more c.loop-i.invariant c.in-Ok.is (omega arith) (omega arith) c.read_record-last-in-loop-i.ensures)
 
 pub returns : goal.returns
 returns c = reach-last c.loop-i.invariant (omega arith)
