@@ -29,7 +29,7 @@ pub struct Reader<'t> {
     pub ghost stands: { StandsNext names.text.now next.start next },
 }
 
-// Reading was refused: the reader has the fault. With it an answer would go through memory at each level on the way up.
+// Reading was refused: the reader has the fault. An answer that had it would go through memory at each level on the way up.
 #[derive(Clone, Copy, Debug, PartialEq, Eq)]
 pub struct Refused;
 

@@ -170,12 +170,12 @@ module _ (h₀ : Held) (none : Drafted h₀.draft []) {at : ℕ} {d : Declared}
       let t = B.tracks_is in
       subst (λ (sd : Scope). Told sd [] h h₂ (level_at 32 0 sd (left_at h)) r) s (X.tells [] (rw B.draft_is none) (omega arith))
 
-  pub formula-refused : {h₂ : Held} {x : Refused} → Reads (level_at 32 0) h h₂ (Err x)
-      → TextTold h₂ (body_of (tokens_at h₀.names.text.now at)) (Err h₂.fault)
+  pub formula-refused : {h₂ h₃ : Held} {x : Refused} → Reads (level_at 32 0) h h₂ (Err x)
+      → TextTold h₃ (body_of (tokens_at h₀.names.text.now at)) (Err h₂.fault)
   formula-refused X = go (told X)
     where
-      go : {h₂ : Held} {x : Refused} → Told (scope_of d.names) [] h h₂ (level_at 32 0 (scope_of d.names) (left_at h)) (Err x)
-          → TextTold h₂ (body_of (tokens_at h₀.names.text.now at)) (Err h₂.fault)
+      go : {h₂ h₃ : Held} {x : Refused} → Told (scope_of d.names) [] h h₂ (level_at 32 0 (scope_of d.names) (left_at h)) (Err x)
+          → TextTold h₃ (body_of (tokens_at h₀.names.text.now at)) (Err h₂.fault)
       go (told-got f e q m t) = absurd cc
       go {h₂} (told-refused x w q) = text-refused h₂.fault (refused_as body_is (refused-then _ w)) refl
 

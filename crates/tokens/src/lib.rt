@@ -12,7 +12,8 @@ use text::kinds::Kind;
 
 pub mod names;
 
-// A token: its kind, and the byte places where it starts and ends.
+// A token: its kind, and the byte places where it starts and ends. These stand apart, since side by side a processor is made to move them as a
+// pair, right after they were written one by one.
 #[derive(Clone, Copy)]
 pub struct Token {
     pub start: usize,

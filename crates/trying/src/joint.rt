@@ -88,7 +88,8 @@ pub fn join_part(
     }
 }
 
-// The parts from number i on joined to what is joined so far, left to right: part p goes into the share of number m + p - 1.
+// The parts from number i on joined to what is joined so far, left to right: part p goes into the share of number m + p - 1. Where a joining
+// before them went over, that is the answer again.
 pub fn join_rest(
     rule: &[u8],
     c: usize,
