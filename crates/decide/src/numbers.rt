@@ -1,9 +1,9 @@
 // What C is told of a verdict: include/ws2s.h, `ws2s_verdict`. Fields that do not apply are 0.
 ghost use Rattle.std.specs.Prelude.{◌≡◌};
-ghost use Rattle.decide.specs.Numbers.{verdict_numbers};
+ghost use Rattle.decide.specs.Numbers.{refused_verdict, verdict_numbers};
 
 use crate::Verdict;
-use refusals::Refusal;
+use refusals::{Refusal, RefusalNumbers, refusal_numbers};
 
 // kind: 0 shown, 1 none, 2 larger, 3 refused; place is the bit place that a strip's refusal names.
 #[repr(C)]
@@ -33,6 +33,21 @@ fn without_tree(kind: u64, states: u64) -> VerdictNumbers
     }
 }
 
+// Refused, by the refusal's numbers, whichever they are.
+pub fn refused_verdict(x: RefusalNumbers) -> VerdictNumbers
+    ensures { result ≡ refused_verdict x }
+{
+    VerdictNumbers {
+        kind: 3,
+        refusal: x.number,
+        recordnumber: x.recordnumber,
+        positions: 0,
+        states: 0,
+        length: 0,
+        place: x.place,
+    }
+}
+
 pub fn verdict_numbers(v: Result<Verdict, Refusal>) -> VerdictNumbers
     ensures { result ≡ verdict_numbers v }
 {
@@ -54,17 +69,6 @@ pub fn verdict_numbers(v: Result<Verdict, Refusal>) -> VerdictNumbers
         },
         Ok(Verdict::None(states)) => without_tree(1, states),
         Ok(Verdict::Larger(states)) => without_tree(2, states),
-        Err(r) => {
-            let x = refusals::refusal_numbers(r);
-            VerdictNumbers {
-                kind: 3,
-                refusal: x.number,
-                recordnumber: x.recordnumber,
-                positions: 0,
-                states: 0,
-                length: 0,
-                place: x.place,
-            }
-        }
+        Err(r) => refused_verdict(refusal_numbers(r)),
     }
 }

@@ -8,7 +8,7 @@ use Rattle.refusals.specs.declared.Reason.TheVariants as reason
 use Rattle.refusals.specs.declared.Refusal.{Refusal}
 use Rattle.refusals.specs.declared.Refusal.TheVariants.{Placed, Plain}
 use Rattle.report.specs.Text.{decimal, hex}
-use Rattle.report.specs.Line.{refused_line, line_of}
+use Rattle.report.specs.Line.{numbered_line, refused_line, line_of}
 use Rattle.program.specs.Program.{verdict_line}
 use Rattle.examples.proofs.Decided.{answer, shown, none, larger, over}
 
@@ -48,7 +48,7 @@ outputs =
 
 -- `answer` is named for all that it unfolds
 pub outputs-right : map verdict_line inputs ≡ outputs
-unfolding answer verdict_line inputs outputs line_of refused_line decimal hex
+unfolding answer verdict_line inputs outputs line_of refused_line numbered_line decimal hex
 outputs-right = refl
 
 -- one verdict of each kind, over a buffer with a byte after the strip
@@ -68,5 +68,5 @@ texts =
     ∷ []
 
 pub texts-right : map (λ v. line_of v (0x12 ∷ 0xB8 ∷ 0x00 ∷ 0xFF ∷ [])) kinds ≡ texts
-unfolding kinds texts line_of refused_line decimal hex
+unfolding kinds texts line_of refused_line numbered_line decimal hex
 texts-right = refl

@@ -14,10 +14,14 @@ abbrev pub written_numbers : Result Written Reason → WrittenNumbers
 written_numbers (Ok w) = written_rule w
 written_numbers (Err k) = unwritten_rule (number_of k) 0 0
 
+-- a refusal by its number, and its token
+abbrev pub refused_text : ℕ → ℕ → ℕ → FaultNumbers
+refused_text k start length = record { refusal = k; start = start; length = length }
+
 -- the refusal and its token, where there is one
 abbrev pub fault_numbers : Result Unit TextFault → FaultNumbers
 fault_numbers (Ok u) = record { refusal = 0; start = 0; length = 0 }
-fault_numbers (Err f) = record { refusal = number_of f.reason; start = f.start; length = f.length }
+fault_numbers (Err f) = refused_text (number_of f.reason) f.start f.length
 
 -- A2, "Rules typed as text": unless it is refused, what stands at the front of out is the rule that the text says
 abbrev pub ImportedInNumbers : List ℕ → WrittenNumbers → List ℕ → Type 0

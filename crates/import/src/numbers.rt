@@ -1,6 +1,6 @@
 // What C is told of an imported text: include/ws2s.h, `ws2s_written` and `ws2s_fault`. Fields that do not apply are 0.
 ghost use Rattle.std.specs.Prelude.{◌≡◌};
-ghost use Rattle.import.specs.Numbers.{written_numbers, fault_numbers};
+ghost use Rattle.import.specs.Numbers.{refused_text, written_numbers, fault_numbers};
 
 use crate::TextFault;
 use refusals::Reason;
@@ -25,6 +25,17 @@ pub struct FaultNumbers {
     pub length: u64,
 }
 
+// A refusal by its number, whichever it is, and its token.
+pub fn refused_text(refusal: u64, start: usize, length: usize) -> FaultNumbers
+    ensures { result ≡ refused_text refusal start length }
+{
+    FaultNumbers {
+        refusal,
+        start: start as u64,
+        length: length as u64,
+    }
+}
+
 pub fn fault_numbers(r: Result<(), TextFault>) -> FaultNumbers
     ensures { result ≡ fault_numbers r }
 {
@@ -34,10 +45,6 @@ pub fn fault_numbers(r: Result<(), TextFault>) -> FaultNumbers
             start: 0,
             length: 0,
         },
-        Err(fault) => FaultNumbers {
-            refusal: fault.reason.number(),
-            start: fault.start as u64,
-            length: fault.length as u64,
-        },
+        Err(fault) => refused_text(fault.reason.number(), fault.start, fault.length),
     }
 }

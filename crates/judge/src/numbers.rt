@@ -1,8 +1,8 @@
 // What C is told of a judgement: include/ws2s.h, `ws2s_judgement`. Fields that do not apply are 0.
 ghost use Rattle.std.specs.Prelude.{◌≡◌};
-ghost use Rattle.judge.specs.Numbers.{judgement_numbers};
+ghost use Rattle.judge.specs.Numbers.{refused_judgement, judgement_numbers};
 
-use refusals::Refusal;
+use refusals::{Refusal, RefusalNumbers, refusal_numbers};
 
 // kind: 0 no, 1 yes, 3 refused; place is the bit place that a strip's refusal names.
 #[repr(C)]
@@ -12,6 +12,18 @@ pub struct JudgementNumbers {
     pub refusal: u64,
     pub recordnumber: u64,
     pub place: u64,
+}
+
+// Refused, by the refusal's numbers, whichever they are.
+pub fn refused_judgement(x: RefusalNumbers) -> JudgementNumbers
+    ensures { result ≡ refused_judgement x }
+{
+    JudgementNumbers {
+        kind: 3,
+        refusal: x.number,
+        recordnumber: x.recordnumber,
+        place: x.place,
+    }
 }
 
 pub fn judgement_numbers(j: Result<bool, Refusal>) -> JudgementNumbers
@@ -24,14 +36,6 @@ pub fn judgement_numbers(j: Result<bool, Refusal>) -> JudgementNumbers
             recordnumber: 0,
             place: 0,
         },
-        Err(r) => {
-            let x = refusals::refusal_numbers(r);
-            JudgementNumbers {
-                kind: 3,
-                refusal: x.number,
-                recordnumber: x.recordnumber,
-                place: x.place,
-            }
-        }
+        Err(r) => refused_judgement(refusal_numbers(r)),
     }
 }

@@ -1,5 +1,5 @@
 -- The refusals of an operation, one after another: the first that applies, with its place where it has one. Assumes nothing.
-use Rattle.std.specs.Prelude.{Result, Ok, Err}
+use Rattle.std.specs.Prelude.{ℕ, Result, Ok, Err}
 use Rattle.refusals.specs.declared.Fault.{Fault}
 use Rattle.refusals.specs.declared.Reason.{Reason}
 use Rattle.refusals.specs.declared.Reason.TheVariants as reason
@@ -28,8 +28,12 @@ abbrev pub answer_unless : {A : Type 0} → Result Unit Refusal → Result A Ref
 answer_unless (Ok u) a = a
 answer_unless (Err r) a = Err r
 
+-- a refusal by its number, and the bit place that it names, or 0
+abbrev pub numbered_refusal : ℕ → ℕ → RefusalNumbers
+numbered_refusal k p = record { number = k; recordnumber = 0; place = p }
+
 -- "A refusal returns its number, and the record with 14", and a strip's its place
 abbrev pub refusal_numbers : Refusal → RefusalNumbers
-refusal_numbers (Placed f) = record { number = number_of f.reason; recordnumber = 0; place = f.place }
-refusal_numbers (Plain k) = record { number = number_of k; recordnumber = 0; place = 0 }
+refusal_numbers (Placed f) = numbered_refusal (number_of f.reason) f.place
+refusal_numbers (Plain k) = numbered_refusal (number_of k) 0
 refusal_numbers (TooManyStates r) = record { number = number_of reason.States; recordnumber = r; place = 0 }

@@ -5,7 +5,7 @@
 ghost use Rattle.std.specs.Prelude.{◌≡◌};
 ghost use Rattle.refusals.specs.declared.Refusal.TheVariants.{Placed, Plain, TooManyStates};
 ghost use Rattle.refusals.specs.Reason.{number_of};
-ghost use Rattle.refusals.specs.Refusal.{refusal_numbers};
+ghost use Rattle.refusals.specs.Refusal.{numbered_refusal, refusal_numbers};
 
 // Why a call is refused, in the order of the numbers, which start at 1: include/ws2s.h has each in words.
 #[derive(Clone, Copy, Debug, PartialEq, Eq)]
@@ -103,21 +103,24 @@ pub struct RefusalNumbers {
     pub place: u64,
 }
 
+// A refusal by its number, whichever it is, and the bit place that it names; 0 where it names none.
+pub fn numbered_refusal(number: u64, place: u64) -> RefusalNumbers
+    ensures { result ≡ numbered_refusal number place }
+{
+    RefusalNumbers {
+        number,
+        recordnumber: 0,
+        place,
+    }
+}
+
 // A function, and no `From`: the definitions of what C is told say `refusal_numbers`, and the code is plainer with the same word.
 pub fn refusal_numbers(r: Refusal) -> RefusalNumbers
     ensures { result ≡ refusal_numbers r }
 {
     match r {
-        Refusal::Placed(fault) => RefusalNumbers {
-            number: fault.reason.number(),
-            recordnumber: 0,
-            place: fault.place,
-        },
-        Refusal::Plain(reason) => RefusalNumbers {
-            number: reason.number(),
-            recordnumber: 0,
-            place: 0,
-        },
+        Refusal::Placed(fault) => numbered_refusal(fault.reason.number(), fault.place),
+        Refusal::Plain(reason) => numbered_refusal(reason.number(), 0),
         Refusal::TooManyStates(recordnumber) => RefusalNumbers {
             number: Reason::States.number(),
             recordnumber,

@@ -1,5 +1,6 @@
 -- The line of a verdict: document 01, "The verdict program". Assumes nothing.
-use Rattle.std.specs.Prelude.{ℕ, List, [], ◌∷◌, ◌++◌, take, Result, Ok, Err}
+use Rattle.std.specs.Prelude.{ℕ, List, [], ◌∷◌, ◌++◌, take, Option, Result, Ok, Err}
+use Rattle.std.specs.declared.option.Option.TheVariants as option
 use Rattle.report.specs.Text.{decimal, hex}
 use Rattle.decide.specs.declared.Verdict.{Verdict}
 use Rattle.decide.specs.declared.Verdict.TheVariants.{Shown, None, Larger}
@@ -41,10 +42,15 @@ counted word n = word ++ decimal 20 n
 abbrev pub shown_line : ℕ → ℕ → List ℕ → List ℕ
 shown_line positions states strip = counted shown_word positions ++ (counted space states ++ (space ++ (hex strip ++ line_end)))
 
+-- "`refused number`", and the bit place behind it, if there is one
+unfoldable pub numbered_line : ℕ → Option ℕ → List ℕ
+numbered_line k option.None = counted refused_word k ++ line_end
+numbered_line k (option.Some p) = counted refused_word k ++ (counted space p ++ line_end)
+
 -- "`refused number`, or `refused 14 record`", and of a strip's refusal also the place: "the verdict program prints it last on its line"
 unfoldable pub refused_line : Refusal → List ℕ
-refused_line (Placed f) = counted refused_word (number_of f.reason) ++ (counted space f.place ++ line_end)
-refused_line (Plain k) = counted refused_word (number_of k) ++ line_end
+refused_line (Placed f) = numbered_line (number_of f.reason) (option.Some f.place)
+refused_line (Plain k) = numbered_line (number_of k) option.None
 refused_line (TooManyStates r) = counted refused14_word r ++ line_end
 
 -- "`shown positions states HEX`, `none states`, `larger states`" or the line of a refusal, and the line's end. out: the buffer whose front

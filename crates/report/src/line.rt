@@ -1,7 +1,7 @@
 // The line of a verdict: document 01, "The verdict program".
 ghost use Rattle.std.specs.Prelude.{◌≡◌, ◌++◌, ◌+◌, ◌*◌, ◌≤◌, length, take};
 ghost use Rattle.report.specs.Text.{Put, Wrote};
-ghost use Rattle.report.specs.Line.{counted, space, shown_line, refused_line, line_of, line_end};
+ghost use Rattle.report.specs.Line.{counted, space, shown_line, numbered_line, refused_line, line_of, line_end};
 
 use crate::text::Line;
 use decide::Verdict;
@@ -48,6 +48,18 @@ impl Line<'_> {
         self.put_bytes(b"\n");
     }
 
+    // The line of a refusal by its number, with the bit place that it names, if it names one.
+    #[tactic(auto, unfolding(crate::specs::Line::numbered_line))]
+    fn put_numbered(&mut self, number: u64, place: Option<u64>)
+        requires { self.old.at + 50 ≤ length self.old.bytes.now }
+        ensures { Wrote self.old (numbered_line number place) self.new }
+    {
+        match place {
+            Some(place) => self.put_counts(b"refused ", number, place),
+            None => self.put_count(b"refused ", number),
+        }
+    }
+
     // The line of a refusal.
     #[tactic(auto, unfolding(crate::specs::Line::refused_line))]
     fn put_refusal(&mut self, r: Refusal)
@@ -55,11 +67,8 @@ impl Line<'_> {
         ensures { Wrote self.old (refused_line r) self.new }
     {
         match r {
-            Refusal::Placed(fault) => {
-                let number = fault.reason.number();
-                self.put_counts(b"refused ", number, fault.place)
-            }
-            Refusal::Plain(reason) => self.put_count(b"refused ", reason.number()),
+            Refusal::Placed(fault) => self.put_numbered(fault.reason.number(), Some(fault.place)),
+            Refusal::Plain(reason) => self.put_numbered(reason.number(), None),
             Refusal::TooManyStates(record) => self.put_count(b"refused 14 ", record),
         }
     }
@@ -90,6 +99,17 @@ fn front(out: &[u8], size: u64) -> &[u8]
     ensures { result.now ≡ take size out.now }
 {
     out.get(..size as usize).unwrap_or(out)
+}
+
+// The line of a refusal by its number, whichever it is, with the bit place that it names, if it names one, stands at the front of `line`.
+// Its length is answered.
+pub fn write_refusal(number: u64, place: Option<u64>, line: &mut [u8]) -> usize
+    requires { 50 ≤ length line.old }
+    ensures { Put line.old 0 (numbered_line number place) result line.new }
+{
+    let mut line = Line { bytes: line, at: 0 };
+    line.put_numbered(number, place);
+    line.at
 }
 
 // The line of a verdict stands at the front of `line`; out is the buffer that decide wrote to. Its length is answered.

@@ -8,10 +8,14 @@ use Rattle.rule_strip.specs.declared.write.Written.{Written}
 use Rattle.rule_strip.specs.declared.numbers.RuleNumbers.{RuleNumbers}
 use Rattle.rule_strip.specs.declared.numbers.WrittenNumbers.{WrittenNumbers}
 
--- "Otherwise it returns n and m"; else the number and, since A1, the place
+-- refused, by the number and, since A1, the place
+abbrev pub refused_rule : ℕ → ℕ → RuleNumbers
+refused_rule k p = record { refusal = k; variables = 0; records = 0; place = p }
+
+-- "Otherwise it returns n and m"
 abbrev pub rule_numbers : Result RuleSize Fault → RuleNumbers
 rule_numbers (Ok size) = record { refusal = 0; variables = size.variables; records = size.records; place = 0 }
-rule_numbers (Err f) = record { refusal = number_of f.reason; variables = 0; records = 0; place = f.place }
+rule_numbers (Err f) = refused_rule (number_of f.reason) f.place
 
 -- A1, "Say at which bit": a refusal of the check is one by which the strip offends, at that place
 abbrev pub RuleRefusedAt : List ℕ → RuleNumbers → Type 0

@@ -1,6 +1,6 @@
 // What C is told of rule strips, checked or written: include/ws2s.h, `ws2s_rule` and `ws2s_written`. Fields that do not apply are 0.
 ghost use Rattle.std.specs.Prelude.{◌≡◌};
-ghost use Rattle.rule_strip.specs.Numbers.{rule_numbers, written_rule, unwritten_rule};
+ghost use Rattle.rule_strip.specs.Numbers.{refused_rule, rule_numbers, written_rule, unwritten_rule};
 
 use crate::RuleSize;
 use crate::write::Written;
@@ -55,6 +55,18 @@ pub fn unwritten_rule(refusal: u64, place: u64, strip: u64) -> WrittenNumbers
     }
 }
 
+// A refusal by its number, whichever it is, and the bit place that it names.
+pub fn refused_rule(number: u64, at: u64) -> RuleNumbers
+    ensures { result ≡ refused_rule number at }
+{
+    RuleNumbers {
+        refusal: number,
+        variables: 0,
+        records: 0,
+        place: at,
+    }
+}
+
 pub fn rule_numbers(r: Result<RuleSize, Fault>) -> RuleNumbers
     ensures { result ≡ rule_numbers r }
 {
@@ -65,11 +77,6 @@ pub fn rule_numbers(r: Result<RuleSize, Fault>) -> RuleNumbers
             records: size.records as u64,
             place: 0,
         },
-        Err(fault) => RuleNumbers {
-            refusal: fault.reason.number(),
-            variables: 0,
-            records: 0,
-            place: fault.place,
-        },
+        Err(fault) => refused_rule(fault.reason.number(), fault.place),
     }
 }

@@ -6,10 +6,14 @@ use Rattle.tree_strip.specs.TreePlaces.{OffendsAt}
 use Rattle.tree_strip.specs.declared.check.TreeSize.{TreeSize}
 use Rattle.tree_strip.specs.declared.numbers.TreeNumbers.{TreeNumbers}
 
--- "Otherwise it returns n and N"; else the number and, since A1, the place
+-- refused, by the number and, since A1, the place
+abbrev pub refused_tree : ℕ → ℕ → TreeNumbers
+refused_tree k p = record { refusal = k; variables = 0; positions = 0; place = p }
+
+-- "Otherwise it returns n and N"
 abbrev pub tree_numbers : Result TreeSize Fault → TreeNumbers
 tree_numbers (Ok t) = record { refusal = 0; variables = t.variables; positions = t.positions; place = 0 }
-tree_numbers (Err f) = record { refusal = number_of f.reason; variables = 0; positions = 0; place = f.place }
+tree_numbers (Err f) = refused_tree (number_of f.reason) f.place
 
 -- A1, "Say at which bit": a refusal of the check is one by which the strip offends, at that place
 abbrev pub TreeRefusedAt : List ℕ → TreeNumbers → Type 0

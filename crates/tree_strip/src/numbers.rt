@@ -1,9 +1,21 @@
 // What C is told of a tree strip: include/ws2s.h, `ws2s_tree`. Fields that do not apply are 0.
 ghost use Rattle.std.specs.Prelude.{◌≡◌};
-ghost use Rattle.tree_strip.specs.Numbers.{tree_numbers};
+ghost use Rattle.tree_strip.specs.Numbers.{refused_tree, tree_numbers};
 
 use crate::check::TreeSize;
 use refusals::Fault;
+
+// A refusal by its number, whichever it is, and the bit place that it names.
+pub fn refused_tree(number: u64, at: u64) -> TreeNumbers
+    ensures { result ≡ refused_tree number at }
+{
+    TreeNumbers {
+        refusal: number,
+        variables: 0,
+        positions: 0,
+        place: at,
+    }
+}
 
 pub fn tree_numbers(r: Result<TreeSize, Fault>) -> TreeNumbers
     ensures { result ≡ tree_numbers r }
@@ -15,12 +27,7 @@ pub fn tree_numbers(r: Result<TreeSize, Fault>) -> TreeNumbers
             positions: size.positions as u64,
             place: 0,
         },
-        Err(fault) => TreeNumbers {
-            refusal: fault.reason.number(),
-            variables: 0,
-            positions: 0,
-            place: fault.place,
-        },
+        Err(fault) => refused_tree(fault.reason.number(), fault.place),
     }
 }
 
