@@ -50,7 +50,7 @@ impl Line<'_> {
 
     // The line of a refusal by its number, with the bit place that it names, if it names one.
     #[tactic(auto, unfolding(crate::specs::Line::numbered_line))]
-    fn put_numbered(&mut self, number: u64, place: Option<u64>)
+    fn put_refused(&mut self, number: u64, place: Option<u64>)
         requires { self.old.at + 50 ≤ length self.old.bytes.now }
         ensures { Wrote self.old (numbered_line number place) self.new }
     {
@@ -67,8 +67,8 @@ impl Line<'_> {
         ensures { Wrote self.old (refused_line r) self.new }
     {
         match r {
-            Refusal::Placed(fault) => self.put_numbered(fault.reason.number(), Some(fault.place)),
-            Refusal::Plain(reason) => self.put_numbered(reason.number(), None),
+            Refusal::Placed(fault) => self.put_refused(fault.reason.number(), Some(fault.place)),
+            Refusal::Plain(reason) => self.put_refused(reason.number(), None),
             Refusal::TooManyStates(record) => self.put_count(b"refused 14 ", record),
         }
     }
@@ -108,7 +108,7 @@ pub fn write_refusal(number: u64, place: Option<u64>, line: &mut [u8]) -> usize
     ensures { Put line.old 0 (numbered_line number place) result line.new }
 {
     let mut line = Line { bytes: line, at: 0 };
-    line.put_numbered(number, place);
+    line.put_refused(number, place);
     line.at
 }
 
